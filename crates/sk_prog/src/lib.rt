@@ -1,13 +1,16 @@
-// A library with one function.
+//! Typed programs: every name is a number of what it means, every coercion is written out.
 #![tactic(auto)]
 
-ghost use Rattle.std.specs.Prelude.{◌≡◌};
-ghost use Rattle.sk_prog.specs.Echo.{echo_of};
+mod expr;
+mod ids;
+mod prog;
+mod stmt;
+mod ty;
+mod value;
 
-// The `ensures` clause is the contract: what `echo` returns is `echo_of` of its argument, a definition
-// in `specs/Echo.antt`, which a caller's clause can cite too.
-pub fn echo(x: usize) -> usize
-    ensures { result ≡ echo_of x }
-{
-    x
-}
+pub use expr::{BinOp, PEForm, PExpr, PField, UnOp};
+pub use ids::{ConstId, FunId, StructId};
+pub use prog::{ConstDef, FieldDef, Fun, FunKind, ParamDef, Prog, StructDef};
+pub use stmt::{PForm, PStmt};
+pub use ty::{Elem, Ty};
+pub use value::Value;

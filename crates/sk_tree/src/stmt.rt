@@ -17,20 +17,45 @@ pub enum Form {
     Block(List<Stmt>),
     /// `;` alone.
     Empty,
-    Declare { ty: TyTree, names: List<Declared> },
-    Assign { target: Expr, value: Expr },
+    Declare {
+        ty: TyTree,
+        names: List<Declared>,
+    },
+    Assign {
+        target: Expr,
+        value: Expr,
+    },
     Call(Expr),
     /// `by` is there exactly for `+=` and `-=`.
-    Step { kind: StepKind, target: Expr, by: Option<Expr> },
-    If { cond: Expr, then: Boxed<Stmt>, other: Option<Boxed<Stmt>> },
-    While { cond: Expr, body: Boxed<Stmt> },
+    Step {
+        kind: StepKind,
+        target: Expr,
+        by: Option<Expr>,
+    },
+    If {
+        cond: Expr,
+        then: Boxed<Stmt>,
+        other: Option<Boxed<Stmt>>,
+    },
+    While {
+        cond: Expr,
+        body: Boxed<Stmt>,
+    },
     /// `first` and `next` are spelt without a `;`.
-    For { first: Boxed<Stmt>, cond: Expr, next: Boxed<Stmt>, body: Boxed<Stmt> },
+    For {
+        first: Boxed<Stmt>,
+        cond: Expr,
+        next: Boxed<Stmt>,
+        body: Boxed<Stmt>,
+    },
     Return(Option<Expr>),
     Assert(Expr),
     Assume(Expr),
     Minimize(Expr),
-    Repeat { count: Expr, body: Boxed<Stmt> },
+    Repeat {
+        count: Expr,
+        body: Boxed<Stmt>,
+    },
     MinRepeat(Boxed<Stmt>),
     Reorder(List<Stmt>),
 }
