@@ -1,0 +1,5 @@
+pub mod Phrase
+pub mod Spelt
+pub mod Placed
+pub mod Depth
+pub mod Reads

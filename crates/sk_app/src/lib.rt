@@ -1,0 +1,2 @@
+//! The call that does all that the program does.
+#![tactic(auto)]

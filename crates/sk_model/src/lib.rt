@@ -1,0 +1,9 @@
+//! What a typed program means: its expansion, its sites, its fillings, its runs, and when it meets
+//! its harnesses.
+#![tactic(auto)]
+
+mod expanded;
+mod outcome;
+
+pub use expanded::{Choice, Expanded, Input, Obligation, Pair, Site};
+pub use outcome::Outcome;

@@ -1,0 +1,2 @@
+//! The layout of a typed program, and when a text shows a program.
+#![tactic(auto)]

@@ -1,0 +1,89 @@
+-- Where operands stand: each binds at least as tightly as its place needs.
+use Rattle.std.specs.Prelude.{ℕ, suc, ◌-◌, nat_le, Bool, true, false, ◌&&◌, List, [], ◌∷◌, map, Option, Some, None}
+use Rattle.std.specs.List.{list_all}
+use Rattle.sk_tree.specs.declared.token.Mark.{Mark}
+use Rattle.sk_tree.specs.declared.token.Mark.TheVariants as mark
+use Rattle.sk_tree.specs.declared.expr.Expr.{Expr}
+use Rattle.sk_tree.specs.declared.expr.EForm.TheOpen as E
+use Rattle.sk_tree.specs.declared.expr.EForm.TheFolds.{fold-Expr}
+use Rattle.sk_tree.specs.declared.stmt.Stmt.{Stmt}
+use Rattle.sk_tree.specs.declared.stmt.Form.TheOpen as F
+use Rattle.sk_tree.specs.declared.stmt.Form.TheFolds.{fold-Stmt}
+use Rattle.sk_tree.specs.declared.stmt.Declared.{Declared}
+use Rattle.sk_tree.specs.declared.item.FunItem.{FunItem}
+use Rattle.sk_tree.specs.declared.item.Item.{Item}
+use Rattle.sk_tree.specs.declared.item.Item.TheVariants as item
+use Rattle.sk_tree.specs.declared.item.Tree.{Tree}
+
+-- The level of a binary operator, tightest first; 0 for a mark that is none.
+abbrev pub level_of : Mark → ℕ
+level_of mark.Star = 3
+level_of mark.Slash = 3
+level_of mark.Percent = 3
+level_of mark.Plus = 4
+level_of mark.Minus = 4
+level_of mark.ShiftLeft = 5
+level_of mark.ShiftRight = 5
+level_of mark.Less = 6
+level_of mark.AtMost = 6
+level_of mark.Greater = 6
+level_of mark.AtLeast = 6
+level_of mark.Equal = 7
+level_of mark.NotEqual = 7
+level_of mark.Ampersand = 8
+level_of mark.Caret = 9
+level_of mark.Bar = 10
+level_of mark.AndThen = 11
+level_of mark.OrElse = 12
+level_of _ = 0
+
+-- the level of an expression, and whether all operands in it stand where they may
+pub record Place : Type 0 where
+  pub level : ℕ
+  pub placed : Bool
+
+-- an operand that may be of at most this level
+abbrev pub binds : ℕ → Place → Bool
+binds k p = p.placed && nat_le p.level k
+
+-- Binary operators group to the left: the right operand binds more tightly than the operator.
+abbrev pub between : ℕ → Place → Place → Place
+between k a b = record { level = k; placed = nat_le 3 k && binds k a && binds (k - 1) b }
+
+abbrev pub eform_place : E.EForm-F Place Place Bool → Place
+eform_place (E.Binary op a b) = between (level_of op) a b
+eform_place _ = record { level = 1; placed = true }
+
+abbrev pub expr_place : E.Expr-F Place Place Bool → Place
+expr_place x = x.form
+
+abbrev pub field_placed : E.NewField-F Place Place Bool → Bool
+field_placed x = x.value.placed
+
+abbrev pub place_of : Expr → Place
+place_of = fold-Expr Place Place Bool eform_place expr_place field_placed
+
+-- whether all operands in an expression stand where they may
+abbrev pub expr_placed : Expr → Bool
+expr_placed e = (place_of e).placed
+
+abbrev pub any_placed : Option Expr → Bool
+any_placed None = true
+any_placed (Some e) = expr_placed e
+
+abbrev pub form_placed : F.Form-F Bool Bool → Bool
+form_placed (F.Declare ty names) = list_all (λ d. any_placed d.value) names
+form_placed (F.Assign target value) = expr_placed target && expr_placed value
+form_placed (F.Assert e) = expr_placed e
+form_placed _ = true
+
+abbrev pub stmt_placed : Stmt → Bool
+stmt_placed = fold-Stmt Bool Bool form_placed (λ s. s.form)
+
+abbrev pub item_placed : Item → Bool
+item_placed (item.Fun f) = list_all stmt_placed f.body
+item_placed _ = true
+
+-- whether all operands of a tree stand where they may
+abbrev pub tree_placed : Tree → Bool
+tree_placed tree = list_all item_placed tree.items
