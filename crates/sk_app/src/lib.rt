@@ -1,2 +1,5 @@
 //! The call that does all that the program does.
 #![tactic(auto)]
+
+mod output;
+mod text;
