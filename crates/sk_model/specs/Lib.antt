@@ -1,0 +1,4 @@
+pub mod Sites
+pub mod Expand
+pub mod Fill
+pub mod Nodes
