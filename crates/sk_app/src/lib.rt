@@ -3,3 +3,4 @@
 
 mod output;
 mod text;
+mod printing;
