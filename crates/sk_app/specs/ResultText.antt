@@ -1,0 +1,48 @@
+-- What is written, and when: a completion of the sketch, or that there is none.
+use Rattle.std.specs.Prelude.{ℕ, ◌+◌, ◌≤◌, ◌≡◌, List, [], ◌∷◌, ◌++◌, codes}
+use Rattle.std.specs.Fmt.{decimal}
+use Rattle.sk_model.specs.declared.expanded.Choice.{Choice}
+use Rattle.sk_model.specs.declared.expanded.Expanded.{Expanded}
+use Rattle.sk_model.specs.Fill.{InRange, fill}
+use Rattle.sk_model.specs.Meets.{Meets, IsGreatestCost}
+use Rattle.sk_print.specs.Layout.{layout}
+use Rattle.sk_print.specs.Shows.{Shows}
+use Rattle.sk_app.specs.Built.{IsBuilt, default_bounds}
+
+-- each number with a space before it
+abbrev pub spaced : List ℕ → List ℕ
+spaced [] = []
+spaced (n ∷ ns) = 32 ∷ decimal n ++ spaced ns
+
+-- the lines of a completion behind the program: its value, and the values of its holes
+abbrev pub completion_lines : Choice → ℕ → List ℕ
+completion_lines a value = codes "//@ completion\n//@ value " ++ decimal value ++ codes "\n//@ holes" ++ spaced a.values ++ codes "\n"
+
+-- the filled program, and the lines of the completion
+abbrev pub completed_text : Expanded → Choice → ℕ → List ℕ
+completed_text e a value = layout (fill e a) ++ completion_lines a value
+
+-- the line where there is no completion
+abbrev pub none_text : List ℕ
+none_text = codes "//@ none\n"
+
+-- The result text is that of a completion: a filling in range, whose text shows it, that meets its
+-- harness on every input in range, with its greatest cost, and no filling that does so costs less.
+pub record IsCompletion (text out : List ℕ) : Type 0 where
+  pub e : Expanded
+  pub a : Choice
+  pub value : ℕ
+  pub built : IsBuilt text e
+  pub in_range : InRange e a
+  pub shows : Shows (layout (fill e a)) default_bounds (fill e a)
+  pub meets : Meets (fill e a) default_bounds
+  pub costs : IsGreatestCost (fill e a) default_bounds value
+  pub least : (b : Choice) → InRange e b → Meets (fill e b) default_bounds → (v : ℕ) → IsGreatestCost (fill e b) default_bounds v → value ≤ v
+  pub is : out ≡ completed_text e a value
+
+-- The result text says that there is no completion, and no filling in range meets its harness.
+pub record IsNone (text out : List ℕ) : Type 0 where
+  pub e : Expanded
+  pub built : IsBuilt text e
+  pub none : (b : Choice) → InRange e b → Meets (fill e b) default_bounds → ⊥
+  pub is : out ≡ none_text
