@@ -1,2 +1,2 @@
 mod StreamLemmas
-pub mod Printing
+pub mod PrintingSteps

@@ -27,12 +27,14 @@ abbrev pub none_text : List ℕ
 none_text = codes "//@ none\n"
 
 -- The result text is that of a completion: a filling in range, whose text shows it, that meets its
--- harness on every input in range, with its greatest cost, and no filling that does so costs less.
+-- harness on every input in range, with its greatest cost, and no filling that
+-- does so costs less. The text has no other expansion.
 pub record IsCompletion (text out : List ℕ) : Type 0 where
   pub e : Expanded
   pub a : Choice
   pub value : ℕ
   pub built : IsBuilt text e
+  pub only : (f : Expanded) → IsBuilt text f → f ≡ e
   pub in_range : InRange e a
   pub shows : Shows (layout (fill e a)) default_bounds (fill e a)
   pub meets : Meets (fill e a) default_bounds
@@ -44,5 +46,6 @@ pub record IsCompletion (text out : List ℕ) : Type 0 where
 pub record IsNone (text out : List ℕ) : Type 0 where
   pub e : Expanded
   pub built : IsBuilt text e
+  pub only : (f : Expanded) → IsBuilt text f → f ≡ e
   pub none : (b : Choice) → InRange e b → Meets (fill e b) default_bounds → ⊥
   pub is : out ≡ none_text

@@ -28,11 +28,12 @@ impl<R: Read> Source for StdSource<R> {
     ghost left = { λ source. None };
 
     fn read(&mut self, into: &mut [u8]) -> Got {
+        let faults = self.faults;
         match self.reader.read(into) {
             Ok(0) => Got::End,
             Ok(count) => Got::Bytes(count),
             Err(_) => {
-                self.faults = self.faults.saturating_add(1);
+                self.faults = faults.saturating_add(1);
                 Got::Failed
             }
         }
@@ -67,9 +68,10 @@ impl<W: Write> Sink for StdSink<W> {
     }
 
     fn write(&mut self, bytes: &[u8]) -> Put {
+        let faults = self.faults;
         match self.writer.write(bytes) {
             Ok(0) | Err(_) => {
-                self.faults = self.faults.saturating_add(1);
+                self.faults = faults.saturating_add(1);
                 Put::Failed
             }
             Ok(count) => Put::Wrote(count),

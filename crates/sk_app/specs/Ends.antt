@@ -1,0 +1,64 @@
+-- What the sink holds after an ending, and which endings there are for a text.
+use Rattle.std.specs.Prelude.{ℕ, ◌≡◌, ◌⊎◌, Bool, true, false, List, Option}
+use Rattle.sk_base.specs.Stream.{Rose}
+use Rattle.sk_app.specs.declared.ending.Ending.{Ending}
+use Rattle.sk_app.specs.declared.ending.Ending.TheVariants.{Completed, NoCompletion, NotALine, ReadFault, WriteFault, TooLong, Memory, NotBuilt}
+use Rattle.sk_app.specs.Streams.{Appends, AppendsPrefix}
+
+-- a text of this kind was appended to what the sink held
+pub record Writes (P : List ℕ → Type 0) (old new : Option (List ℕ)) : Type 0 where
+  pub out : List ℕ
+  pub is : P out
+  pub appends : Appends out old new
+
+-- a prefix of a text of this kind was appended to what the sink held
+pub record WritesPart (P : List ℕ → Type 0) (old new : Option (List ℕ)) : Type 0 where
+  pub out : List ℕ
+  pub is : P out
+  pub appends : AppendsPrefix out old new
+
+-- whether an ending writes nothing: those with a status from 10 on, but for a write fault
+abbrev pub writes_nothing : Ending → Bool
+writes_nothing Completed = false
+writes_nothing NoCompletion = false
+writes_nothing WriteFault = false
+writes_nothing _ = true
+
+-- a text was written whole
+pub record IsWritten (out : List ℕ) (faults_old faults_new : ℕ) (old new : Option (List ℕ)) : Type 0 where
+  pub appends : Appends out old new
+
+-- the sink failed, after a prefix of the text
+pub record IsCut (out : List ℕ) (faults_old faults_new : ℕ) (old new : Option (List ℕ)) : Type 0 where
+  pub rose : Rose faults_old faults_new
+  pub appends : AppendsPrefix out old new
+
+-- how the writing of a text ends: as wanted, cut off, or without room
+pub data IsDelivered (result done : Ending) (out : List ℕ) (faults_old faults_new : ℕ) (old new : Option (List ℕ)) : Type 0 where
+  delivered : result ≡ done → IsWritten out faults_old faults_new old new → IsDelivered result done out faults_old faults_new old new
+  cut : result ≡ WriteFault → IsCut out faults_old faults_new old new → IsDelivered result done out faults_old faults_new old new
+  no_room : result ≡ Memory → new ≡ old → IsDelivered result done out faults_old faults_new old new
+
+-- A text that is taken is completed, or has no completion; else a source or a sink failed, or memory was
+-- wanting.
+abbrev pub EndsBuilt : Ending → ℕ → ℕ → ℕ → ℕ → Type 0
+EndsBuilt Completed source_old source_new sink_old sink_new = Unit {0}
+EndsBuilt NoCompletion source_old source_new sink_old sink_new = Unit {0}
+EndsBuilt Memory source_old source_new sink_old sink_new = Unit {0}
+EndsBuilt ReadFault source_old source_new sink_old sink_new = Rose source_old source_new
+EndsBuilt WriteFault source_old source_new sink_old sink_new = Rose sink_old sink_new
+EndsBuilt _ source_old source_new sink_old sink_new = ⊥
+
+-- A text that is not taken is refused, unless the source failed or memory was wanting.
+abbrev pub EndsUnbuilt : Ending → ℕ → ℕ → Type 0
+EndsUnbuilt NotBuilt source_old source_new = Unit {0}
+EndsUnbuilt Memory source_old source_new = Unit {0}
+EndsUnbuilt ReadFault source_old source_new = Rose source_old source_new
+EndsUnbuilt _ source_old source_new = ⊥
+
+-- A text that is too long is refused as such, unless the source failed or memory was wanting.
+abbrev pub EndsLong : Ending → ℕ → ℕ → Type 0
+EndsLong TooLong source_old source_new = Unit {0}
+EndsLong Memory source_old source_new = Unit {0}
+EndsLong ReadFault source_old source_new = Rose source_old source_new
+EndsLong _ source_old source_new = ⊥

@@ -1,0 +1,44 @@
+//! What is to be written, or why nothing is.
+
+ghost use Rattle.std.specs.Prelude.{◌≡◌, ◌≤◌, length, IfOk};
+ghost use Rattle.sk_app.specs.Streams.{TakesFew, most_bytes};
+ghost use Rattle.sk_app.specs.Prepared.{IsFound, IsPrepared};
+
+use crate::complete::complete;
+use crate::text::{Reading, read_text};
+use sk_base::Source;
+use std::alloc::{AllocError, Global};
+
+/// What a text comes to.
+#[derive(Drop)]
+pub enum Found {
+    /// It is none that the program takes so far.
+    NotBuilt,
+    /// There is no completion: the result text that says so.
+    Nothing(Vec<u8>),
+    /// The result text of a completion.
+    Completion(Vec<u8>),
+}
+
+/// What a source comes to.
+#[derive(Drop)]
+pub enum Prepared {
+    ReadFault,
+    TooLong,
+    Found(Found),
+}
+
+/// Reads the text, and completes it.
+pub fn prepare<S: Source>(alloc: Global, source: &mut S) -> Result<Prepared, AllocError>
+    ensures cause { IfOk result (λ prepared. IsPrepared prepared (S.faults source.old) (S.faults source.new) (S.left source.old)) }
+    ensures few { TakesFew (S.left source.old) (S.left source.new) }
+{
+    match read_text(alloc, source)? {
+        Reading::Failed => Ok(Prepared::ReadFault),
+        Reading::Long => Ok(Prepared::TooLong),
+        Reading::Whole(text) => {
+            let found = complete(alloc, text.as_slice())?;
+            Ok(Prepared::Found(found))
+        }
+    }
+}
