@@ -1,6 +1,6 @@
 use Rattle.std.proofs.Common.{◌≡◌, ◌++◌, ◌+◌, suc, arith, ap, ◌∙◌, sym, append_assoc, codes}
 use Rattle.std.proofs.lemmas.Grind.{common_steps}
-use Rattle.sk_app.proofs.Printing.{repeat_more}
+use Rattle.sk_app.proofs.PrintingSteps.{repeat_more}
 use Rattle.sk_app.proofs.printing.push_indentation.Goals as goal
 
 pub loop-preserved : goal.loop-preserved
