@@ -3,3 +3,7 @@ pub mod Spelt
 pub mod Placed
 pub mod Depth
 pub mod Reads
+pub mod Spelling
+pub mod Shapes
+pub mod Longest
+pub mod Tokens

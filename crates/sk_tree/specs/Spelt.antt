@@ -1,9 +1,7 @@
 -- How a tree is spelt: the tokens of each form, and spans that are those of its tokens.
-use Rattle.std.specs.Prelude.{◌≡◌, List, [], ◌∷◌, Option, Some, None, Bool, true, false}
+use Rattle.std.specs.Prelude.{◌≡◌, List, [], Option, Some, None, Bool, true, false}
 use Rattle.sk_base.specs.declared.span.Span.{Span}
-use Rattle.sk_tree.specs.declared.token.Token.{Token}
 use Rattle.sk_tree.specs.declared.token.Kind.TheVariants as kind
-use Rattle.sk_tree.specs.declared.token.Mark.{Mark}
 use Rattle.sk_tree.specs.declared.token.Mark.TheVariants as mark
 use Rattle.sk_tree.specs.declared.token.Key.TheVariants as key
 use Rattle.sk_tree.specs.declared.expr.Expr.{Expr}
@@ -26,7 +24,7 @@ use Rattle.sk_tree.specs.declared.item.FunItem.{FunItem}
 use Rattle.sk_tree.specs.declared.item.Item.{Item}
 use Rattle.sk_tree.specs.declared.item.Item.TheVariants as item
 use Rattle.sk_tree.specs.declared.item.Tree.{Tree}
-use Rattle.sk_tree.specs.Phrase.{Phrase, Nothing, One, Sign, Keyword, ◌▸◌, Each, Behind, Between, Perhaps, span_of}
+use Rattle.sk_tree.specs.Phrase.{Phrase, Nothing, One, Sign, Keyword, ◌▸◌, Each, Between, Perhaps, span_of}
 
 -- tokens that are spelt so, and whose span this is
 abbrev pub Spans : Span → Phrase → Phrase

@@ -5,11 +5,13 @@
 mod expr;
 mod item;
 mod pattern;
+mod shape;
 mod stmt;
 mod token;
 
 pub use expr::{EForm, Expr, NewField};
 pub use item::{Base, Field, FunItem, FunKind, Item, Param, Tree, TyTree};
 pub use pattern::Pattern;
+pub use shape::Shape;
 pub use stmt::{Declared, Form, StepKind, Stmt};
 pub use token::{Key, Kind, Mark, Token};
