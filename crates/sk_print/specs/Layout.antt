@@ -1,7 +1,7 @@
 -- The text of a typed program: structs, then constants, then functions, each in order; four spaces of
 -- indentation a block; every line ends with a line feed; one space round binary operators and behind
 -- commas. So far the forms of early programs are laid out; others fall to a last case without text.
-use Rattle.std.specs.Prelude.{ℕ, suc, List, [], ◌∷◌, ◌++◌, Bool, true, false, Option, Some, None, codes}
+use Rattle.std.specs.Prelude.{ℕ, List, [], ◌++◌, Bool, true, false, Option, Some, None, codes}
 use Rattle.std.specs.Fmt.{decimal}
 use Rattle.std.specs.List.{repeat, flat_map, join_by}
 use Rattle.sk_prog.specs.declared.ty.Elem.{Elem}

@@ -7,3 +7,4 @@ pub mod Spelling
 pub mod Shapes
 pub mod Longest
 pub mod Tokens
+pub mod Names
