@@ -1,2 +1,3 @@
 mod StreamLemmas
+mod EndingLemmas
 pub mod PrintingSteps

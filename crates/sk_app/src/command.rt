@@ -1,6 +1,6 @@
 //! The call that does all that the program does.
 
-ghost use Rattle.std.specs.Prelude.{List, ℕ, ◌≡◌, ◌≤◌, ◌<◌, ◌↔◌, ◌⊎◌, length, map, string_bytes, IsTrue, IfSome};
+ghost use Rattle.std.specs.Prelude.{List, ℕ, ◌≡◌, ◌≤◌, ◌<◌, ◌↔◌, ◌⊎◌, length, map, string_bytes, codes, IsTrue, IfSome};
 ghost use Rattle.sk_base.specs.Stream.{Rose};
 ghost use Rattle.sk_model.specs.declared.expanded.Expanded.{Expanded};
 ghost use Rattle.sk_app.specs.Built.{IsSynth, IsBuilt};
@@ -15,13 +15,23 @@ use crate::prepare::{Found, Prepared, prepare};
 use sk_base::{Sink, Source};
 use std::alloc::Global;
 
+/// Whether a word is `synth`.
+fn is_command(word: &String) -> bool
+    ensures { IsTrue result ↔ (string_bytes word.now ≡ codes "synth") }
+{
+    word.as_bytes() == b"synth".as_slice()
+}
+
 /// Whether the words are the one word `synth`.
 fn is_synth(words: &[String]) -> bool
     ensures { IsTrue result ↔ IsSynth (map string_bytes words.now) }
 {
-    match words {
-        [word] => word.as_bytes() == b"synth",
-        _ => false,
+    match words.split_first() {
+        Some((word, after)) => {
+            let alone = after.is_empty();
+            alone && is_command(word)
+        }
+        None => false,
     }
 }
 
