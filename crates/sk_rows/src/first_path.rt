@@ -1,0 +1,193 @@
+//! One harness of the early language, from bytes to bytes.
+use sk_app::{Ending, message, run, status};
+use sk_base::{CalmSink, CalmSource, List, MemSink, MemSource};
+use std::alloc::Global;
+use std::process::Abort;
+use std::test::Fail;
+
+const DOUBLED: &[u8] =
+    b"harness void doublesketch(int x){\n  int t = x * ??;\n  assert t == x + x;\n}\n";
+
+const DOUBLED_DONE: &[u8] = b"harness void doublesketch(int x) {\n    int t = x * 2;\n    assert t == x + x;\n}\n//@ completion\n//@ value 0\n//@ holes 2\n";
+
+/// Runs `synth` on a text, and looks at its ending and at all that was written.
+fn expect_synth(
+    rt: &(impl Abort + Clone),
+    alloc: Global,
+    text: &[u8],
+    ending: Ending,
+    wanted: &[u8],
+) -> Result<(), Fail> {
+    let word = String::from_str(alloc, "synth")?;
+    let words = vec![in alloc; word]?;
+    let mut source = CalmSource::new(List::from_slice(alloc, text)?);
+    let mut sink = CalmSink::new(alloc);
+    let ends = run(alloc, words.as_slice(), &mut source, &mut sink);
+    assert_eq!(rt; ends, ending);
+    assert_eq!(rt; sink.bytes(), wanted);
+    Ok(())
+}
+
+#[test]
+fn completes_what_can_be_completed(rt: HostRuntime) -> Result<(), Fail> {
+    expect_synth(&rt, rt.alloc(), DOUBLED, Ending::Completed, DOUBLED_DONE)?;
+    // Two holes, a parameter, comments, an assignment.
+    expect_synth(
+        &rt,
+        rt.alloc(),
+        b"/* f */ harness void f(int x) { // body\n int a = x + ??; a = a + ??; assert a == x + 62; }",
+        Ending::Completed,
+        b"harness void f(int x) {\n    int a = x + 31;\n    a = a + 31;\n    assert a == x + 62;\n}\n//@ completion\n//@ value 0\n//@ holes 31 31\n",
+    )?;
+    // No hole, no parameter.
+    expect_synth(
+        &rt,
+        rt.alloc(),
+        b"harness void g(){assert 2 == 1+1;}",
+        Ending::Completed,
+        b"harness void g() {\n    assert 2 == 1 + 1;\n}\n//@ completion\n//@ value 0\n//@ holes\n",
+    )
+}
+
+#[test]
+fn says_where_there_is_no_completion(rt: HostRuntime) -> Result<(), Fail> {
+    // Each single input is passed by some filling, and no filling passes all.
+    expect_synth(
+        &rt,
+        rt.alloc(),
+        b"harness void main(int x) { assert x + ?? == x * 2; }",
+        Ending::NoCompletion,
+        b"//@ none\n",
+    )?;
+    expect_synth(
+        &rt,
+        rt.alloc(),
+        b"harness void main() { assert 1 == 2; }",
+        Ending::NoCompletion,
+        b"//@ none\n",
+    )
+}
+
+#[test]
+fn wraps_at_sixteen_bits(rt: HostRuntime) -> Result<(), Fail> {
+    // 32767 + 1 is -32768, and -32768 + -32768 is 0.
+    expect_synth(
+        &rt,
+        rt.alloc(),
+        b"harness void w() { int a = 32767 + 1; int b = a + a; assert b == ??; }",
+        Ending::Completed,
+        b"harness void w() {\n    int a = 32767 + 1;\n    int b = a + a;\n    assert b == 0;\n}\n//@ completion\n//@ value 0\n//@ holes 0\n",
+    )
+}
+
+#[test]
+fn refuses_what_is_not_taken(rt: HostRuntime) -> Result<(), Fail> {
+    let texts: [&[u8]; 16] = [
+        b"",
+        b"void f() { }",
+        b"harness int f() { }",
+        b"harness void f(bit x) { }",
+        b"harness void f(int x) { assert y == x; }",
+        b"harness void f(int x) { int x = 1; }",
+        b"harness void f(int x, int x) { }",
+        b"harness void f(int x) { x = x; ",
+        b"harness void f(int x) { assert x; }",
+        b"harness void f(int x) { x = x + x + x; }",
+        b"harness void f(int x) { int y = y; }",
+        b"harness void f(int x) { x = 32768; }",
+        b"harness void f(int x) { x = 2147483648; }",
+        b"harness void f(int x) { x = 1; } /* open",
+        b"harness void f(int x) { x = 1; } $",
+        b"harness void f(int a, int b) { a = ??; b = ??; }",
+    ];
+    for text in texts {
+        expect_synth(&rt, rt.alloc(), text, Ending::NotBuilt, b"")?;
+    }
+    Ok(())
+}
+
+#[test]
+fn refuses_other_words(rt: HostRuntime) -> Result<(), Fail> {
+    let alloc = rt.alloc();
+    let lines: [&[&str]; 5] = [&[], &["exec"], &["synth", "--cert"], &["syn"], &["synth", "synth"]];
+    for line in lines {
+        let mut words = Vec::new(alloc);
+        for word in line {
+            words.push(String::from_str(alloc, word)?)?;
+        }
+        let mut source = CalmSource::new(List::from_slice(alloc, DOUBLED)?);
+        let mut sink = CalmSink::new(alloc);
+        let ends = run(alloc, words.as_slice(), &mut source, &mut sink);
+        assert_eq!(rt; ends, Ending::NotALine);
+        assert_eq!(rt; sink.bytes().len(), 0);
+    }
+    Ok(())
+}
+
+#[test]
+fn takes_a_text_of_a_mebibyte(rt: HostRuntime) -> Result<(), Fail> {
+    let alloc = rt.alloc();
+    let mut text = vec![in alloc; 32u8; 1_048_576]?;
+    expect_synth(&rt, alloc, text.as_slice(), Ending::NotBuilt, b"")?;
+    text.push(32)?;
+    expect_synth(&rt, alloc, text.as_slice(), Ending::TooLong, b"")
+}
+
+#[test]
+fn ends_where_a_source_fails(rt: HostRuntime) -> Result<(), Fail> {
+    let alloc = rt.alloc();
+    let word = String::from_str(alloc, "synth")?;
+    let words = vec![in alloc; word]?;
+    let fails = List::from_slice(alloc, &[1])?;
+    let mut source = MemSource::new(List::from_slice(alloc, DOUBLED)?, fails, 8);
+    let mut sink = CalmSink::new(alloc);
+    let ends = run(alloc, words.as_slice(), &mut source, &mut sink);
+    assert_eq!(rt; ends, Ending::ReadFault);
+    assert_eq!(rt; sink.bytes().len(), 0);
+    Ok(())
+}
+
+#[test]
+fn ends_where_a_sink_fails(rt: HostRuntime) -> Result<(), Fail> {
+    let alloc = rt.alloc();
+    let word = String::from_str(alloc, "synth")?;
+    let words = vec![in alloc; word]?;
+    let mut source = CalmSource::new(List::from_slice(alloc, DOUBLED)?);
+    let mut sink = MemSink::new(alloc, List::from_slice(alloc, &[1])?, 10);
+    let ends = run(alloc, words.as_slice(), &mut source, &mut sink);
+    assert_eq!(rt; ends, Ending::WriteFault);
+    assert_eq!(rt; sink.bytes(), b"harness vo".as_slice());
+    Ok(())
+}
+
+#[test]
+fn reads_and_writes_in_steps(rt: HostRuntime) -> Result<(), Fail> {
+    let alloc = rt.alloc();
+    let word = String::from_str(alloc, "synth")?;
+    let words = vec![in alloc; word]?;
+    let mut source = MemSource::new(List::from_slice(alloc, DOUBLED)?, List::new(alloc), 1);
+    let mut sink = MemSink::new(alloc, List::new(alloc), 3);
+    let ends = run(alloc, words.as_slice(), &mut source, &mut sink);
+    assert_eq!(rt; ends, Ending::Completed);
+    assert_eq!(rt; sink.bytes(), DOUBLED_DONE);
+    Ok(())
+}
+
+#[test]
+fn names_each_ending(rt: HostRuntime) -> Result<(), Fail> {
+    let rows: [(Ending, u8, &[u8]); 8] = [
+        (Ending::Completed, 0, b""),
+        (Ending::NoCompletion, 1, b""),
+        (Ending::NotALine, 10, b"usage"),
+        (Ending::ReadFault, 14, b"read fault"),
+        (Ending::WriteFault, 15, b"write fault"),
+        (Ending::TooLong, 16, b"too long"),
+        (Ending::Memory, 17, b"no memory"),
+        (Ending::NotBuilt, 20, b"not built"),
+    ];
+    for (ending, number, text) in rows {
+        assert_eq!(rt; status(&ending), number);
+        assert_eq!(rt; message(rt.alloc(), &ending)?.as_bytes(), text);
+    }
+    Ok(())
+}

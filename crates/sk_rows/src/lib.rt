@@ -1,0 +1,5 @@
+//! Tests that cross crates: each calls `run` over sources and sinks in memory. There is no other code.
+#![tactic(auto)]
+
+#[cfg(test)]
+mod first_path;

@@ -1,0 +1,44 @@
+//! The Sketch synthesiser: reads a sketch from standard input, and writes it completed to standard
+//! output.
+#![tactic(auto)]
+
+use sk_app::{StdSink, StdSource, message, run, status};
+use std::env;
+use std::io::Write;
+use std::process::ExitCode;
+
+/// The status where the runtime does not give the words.
+const NO_WORDS: u8 = 24;
+
+/// Writes a line to standard error. Where that fails, nothing else is to be done.
+fn say(errors: &mut impl Write, line: &[u8]) {
+    let _ = errors.write_all(line);
+    let _ = errors.write_all(b"\n");
+}
+
+fn main(rt: HostRuntime) -> ExitCode {
+    let alloc = rt.alloc();
+    let Ok(words) = words(&rt) else {
+        say(&mut rt.stderr(), b"no words");
+        return ExitCode::from(NO_WORDS);
+    };
+    let mut source = StdSource::new(rt.stdin());
+    let mut sink = StdSink::new(rt.stdout());
+    let ending = run(alloc, words.as_slice(), &mut source, &mut sink);
+    let status = status(&ending);
+    if status >= 10 {
+        if let Ok(line) = message(alloc, &ending) {
+            say(&mut rt.stderr(), line.as_bytes());
+        }
+    }
+    ExitCode::from(status)
+}
+
+/// The words behind the program's own name.
+fn words(rt: &HostRuntime) -> std::io::Result<Vec<String>> {
+    let mut words = Vec::new(rt.alloc());
+    for word in env::args(rt)?.skip(1) {
+        words.push(word)?;
+    }
+    Ok(words)
+}
