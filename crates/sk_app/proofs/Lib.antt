@@ -1,0 +1,2 @@
+pub mod FillingEarly
+pub mod FillingLaws
