@@ -2,3 +2,11 @@ pub mod Sites
 pub mod Expand
 pub mod Fill
 pub mod Nodes
+pub mod Step
+pub mod Values
+pub mod Eval
+pub mod Exec
+pub mod Run
+pub mod Obligations
+pub mod Inputs
+pub mod Meets
