@@ -6,3 +6,4 @@ pub mod Built
 pub mod ResultText
 pub mod Prepared
 pub mod Ends
+pub mod Filling

@@ -13,3 +13,4 @@ mod text;
 pub use ending::{Ending, message, status};
 pub use command::run;
 pub use std_streams::{StdSink, StdSource};
+mod filling;
