@@ -3,3 +3,4 @@ mod EndingLemmas
 pub mod PrintingSteps
 pub mod FillingEarly
 pub mod FillingLaws
+pub mod CostLaws

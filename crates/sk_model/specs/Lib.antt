@@ -10,7 +10,3 @@ pub mod Run
 pub mod Obligations
 pub mod Inputs
 pub mod Meets
-pub mod Sites
-pub mod Expand
-pub mod Fill
-pub mod Nodes
