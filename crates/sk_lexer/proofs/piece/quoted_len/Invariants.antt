@@ -1,0 +1,9 @@
+use Rattle.std.proofs.Common.{◌-◌, ◌≤◌, length}
+use Rattle.sk_lexer.proofs.Fronts.{NotQuotedBefore}
+use Rattle.sk_lexer.proofs.piece.quoted_len.Given as goal
+
+abbrev pub invariant-loop-i : goal.invariant-loop-i
+invariant-loop-i l = record { within : l.i ≤ length l.bytes; before : NotQuotedBefore l.bytes l.i }
+
+abbrev pub decreases-loop-i : goal.decreases-loop-i
+decreases-loop-i l = length l.bytes - l.i

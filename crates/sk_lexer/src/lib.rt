@@ -1,0 +1,13 @@
+//! The tokens of a text.
+#![tactic(auto)]
+
+mod fault;
+mod lexer;
+mod piece;
+mod spelling;
+
+pub use fault::LexFault;
+pub use lexer::tokens;
+
+#[cfg(test)]
+mod tests;
