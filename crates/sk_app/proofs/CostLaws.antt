@@ -1,6 +1,6 @@
 -- The runs of early programs cost nothing: no statement of theirs is a `minimize`.
 use Rattle.std.proofs.Common.{ℕ, zero, suc, ◌≡◌, ◌<◌, ◌≤◌, List, [], ◌∷◌, refl, sym, ap, subst, ◌∙◌, arith, inl}
-use Rattle.std.specs.Prelude.{map, Bool, true, false, nat_lt, ◌&&◌, IsTrue, Option, Some, None, slice_get, if◌then◌else◌}
+use Rattle.std.specs.Prelude.{map, Bool, true, false, nat_lt, ◌&&◌, IsTrue, Option, Some, None, slice_get, if◌then◌else◌, count_by, ◌==◌, ◌++◌}
 use Rattle.std.specs.Prelude.{ℤ}
 use Rattle.std.specs.List.{list_all}
 use Rattle.std.proofs.lemmas.Bool.{false≢true, and_parts}
@@ -16,7 +16,9 @@ use Rattle.sk_prog.specs.declared.expr.BinOp.{BinOp}
 use Rattle.sk_prog.specs.declared.expr.BinOp.TheVariants as op
 use Rattle.sk_prog.specs.declared.expr.PExpr.{PExpr}
 use Rattle.sk_prog.specs.declared.expr.PEForm.TheVariants as eform
-use Rattle.sk_prog.specs.declared.expr.PEForm.TheFolds.{the_lemmas}
+use Rattle.sk_prog.specs.declared.expr.PEForm.TheOpen as P
+use Rattle.sk_prog.specs.declared.expr.PEForm.TheViews as V
+use Rattle.sk_prog.specs.declared.expr.PEForm.TheFolds.{the_lemmas, fold-roll-PExpr, fold-roll-PEForm}
 use Rattle.sk_prog.specs.declared.stmt.PStmt.{PStmt}
 use Rattle.sk_prog.specs.declared.stmt.PForm.TheVariants as form
 use Rattle.sk_prog.specs.declared.stmt.PForm.TheFolds.{the_lemmas as stmt_lemmas}
@@ -26,7 +28,7 @@ use Rattle.sk_model.specs.declared.expanded.Input.{Input}
 use Rattle.sk_model.specs.declared.expanded.Obligation.{Obligation}
 use Rattle.sk_model.specs.declared.expanded.Obligation.TheVariants as obligation
 use Rattle.sk_model.specs.Step.{State, Step, Goes, Fails, Skips, Comp, and_then, ◌>>=◌, pure, fail}
-use Rattle.sk_model.specs.Eval.{Called, Calls, eval, target, read, write, operator, on_numbers, number_operator}
+use Rattle.sk_model.specs.Eval.{Called, Calls, eval, eval_form, target, read, write, operator, on_numbers, number_operator}
 use Rattle.sk_model.specs.Exec.{Flow, Onward, Returns, exec_stmt, exec_all, one_by_one, unless_returned, choose, onward}
 use Rattle.sk_model.specs.Run.{in_frame, body_of, calls, outcome_of, run, first_slots, most_calls, nowhere}
 use Rattle.sk_model.specs.Obligations.{obligations}
@@ -43,13 +45,13 @@ Keeps s (Skips span) = Unit {0}
 pub record Quiet {A : Type 0} (m : Comp A) : Type 0 where
   pub keeps : (s : State) → Keeps s (m s)
 
+keeps_from : {A : Type 0} (s t : State) (m : Step A) → t.cost ≡ s.cost → Keeps t m → Keeps s m
+keeps_from s t (Goes a u) same h = h ∙ same
+keeps_from s t (Fails span) same h = tt
+keeps_from s t (Skips span) same h = tt
+
 then_keeps : {A B : Type 0} (s : State) (m : Step A) (k : A → Comp B) → Keeps s m → ((a : A) → Quiet (k a)) → Keeps s (and_then m k)
-then_keeps s (Goes a t) k h q = both (k a t) ((q a).keeps t)
-  where
-    both : (n : Step _) → Keeps t n → Keeps s n
-    both (Goes b u) g = g ∙ h
-    both (Fails span) g = tt
-    both (Skips span) g = tt
+then_keeps s (Goes a t) k h q = keeps_from s t (k a t) h ((q a).keeps t)
 then_keeps s (Fails span) k h q = tt
 then_keeps s (Skips span) k h q = tt
 
@@ -67,11 +69,6 @@ quiet_read slot = record { keeps = λ s. refl }
 
 quiet_write : (slot : ℕ) (v : Value) → Quiet (write slot v)
 quiet_write slot v = record { keeps = λ s. refl }
-
-keeps_from : {A : Type 0} (s t : State) (m : Step A) → t.cost ≡ s.cost → Keeps t m → Keeps s m
-keeps_from s t (Goes a u) same h = h ∙ same
-keeps_from s t (Fails span) same h = tt
-keeps_from s t (Skips span) same h = tt
 
 module _ (bits : ℕ) (span : Span) where
   quiet_number : (o : BinOp) (x y : ℤ) → Quiet (number_operator bits span o x y)
@@ -116,7 +113,9 @@ module _ (slots bits : ℕ) (call : Calls) where
   eval_hole sp span t = record { keeps = λ s. grind (arith, common_steps, the_lemmas) }
 
   eval_binary : (sp span : Span) (t : Option Ty) (o : BinOp) (a b : PExpr) → eval bits call sp (record { span = span; ty = t; form = eform.Binary o a b }) ≡ (eval bits call sp a >>= (λ v. eval bits call sp b >>= operator bits sp o v))
-  eval_binary sp span t o a b = grind (arith, common_steps, the_lemmas)
+  eval_binary sp span t o a b = subst (λ f. eval bits call sp (record { span = span; ty = t; form = f }) ≡ (eval bits call sp a >>= (λ v. eval bits call sp b >>= operator bits sp o v))) (V.rolls-Binary o a b)
+      (fold-roll-PExpr (Comp Value) (Comp Value) (ℕ × Comp Value) (eval_form bits call sp) (λ x. x.form) (λ x. (x.field, x.value)) (record { span = span; ty = t; form = V.roll-PEForm (P.Binary o a b) })
+      ∙ fold-roll-PEForm (Comp Value) (Comp Value) (ℕ × Comp Value) (eval_form bits call sp) (λ x. x.form) (λ x. (x.field, x.value)) (P.Binary o a b))
 
   quiet_expr : (e : PExpr) → IsTrue (ranked (prank slots e)) → (sp : Span) → Quiet (eval bits call sp e)
   quiet_expr = early_expr slots (λ e. (sp : Span) → Quiet (eval bits call sp e))
@@ -188,10 +187,18 @@ outcome_costs (Goes called s) h = h
 outcome_costs (Fails span) h = refl
 outcome_costs (Skips span) h = refl
 
+quiet_calls : (p : Prog) (bounds : Bounds) (left : ℕ) (active : List ℕ) (span : Span) (f : ℕ) (args : List Value) → IsTrue (early_prog p) → Quiet (calls p bounds left active span f args)
+unfolding calls
+quiet_calls p bounds zero active span f args h = quiet_fail span
+quiet_calls p bounds (suc left) active span f args h =
+    quiet_if (nat_lt (count_by (λ g. g == f) active) bounds.inline_amnt) (body_of bounds (calls p bounds left (active ++ f ∷ [])) span (slice_get p.funs f) args) (fail span)
+    (quiet_body bounds (calls p bounds left (active ++ f ∷ [])) span (slice_get p.funs f) args (λ g is. early_fun_at p.funs f g (early_funs_of p h) is))
+    (quiet_fail span)
+
 -- A run of an early program costs nothing.
 pub run_costs_nothing : (p : Prog) (f : FunId) (args : List Value) (bounds : Bounds) → IsTrue (early_prog p) → cost_of (run p f args bounds) ≡ 0
-unfolding run calls
-run_costs_nothing p f args bounds h = outcome_costs _ ((quiet_if _ _ _ (quiet_body bounds _ nowhere (slice_get p.funs f.index) args (λ g is. early_fun_at p.funs f.index g (early_funs_of p h) is)) (record { keeps = λ s. tt })).keeps (record { heap = []; slots = []; cost = 0 }))
+unfolding run
+run_costs_nothing p f args bounds h = outcome_costs (calls p bounds most_calls [] nowhere f.index args (record { heap = []; slots = []; cost = 0 })) ((quiet_calls p bounds most_calls [] nowhere f.index args h).keeps (record { heap = []; slots = []; cost = 0 }))
 
 obligation_costs : (p : Prog) (bounds : Bounds) (args : List Value) (o : Option Obligation) → IsTrue (early_prog p) → cost_of_obligation p bounds args o ≡ 0
 obligation_costs p bounds args None h = refl
