@@ -1,0 +1,6 @@
+pub mod ReadingLayers
+pub mod ReadingTokens
+pub mod ReadingExprs
+pub mod ReadingItems
+pub mod ReadingStmts
+pub mod ReadingTrees
