@@ -4,3 +4,4 @@ pub mod ReadingExprs
 pub mod ReadingItems
 pub mod ReadingStmts
 pub mod ReadingTrees
+pub mod ReadsAgain

@@ -3,3 +3,4 @@ pub mod Spelt
 pub mod Placed
 pub mod Depth
 pub mod Reads
+pub mod Spanless
