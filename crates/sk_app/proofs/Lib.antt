@@ -4,3 +4,10 @@ pub mod PrintingSteps
 pub mod FillingEarly
 pub mod FillingLaws
 pub mod CostLaws
+pub mod ReadingLayers
+pub mod ReadingTokens
+pub mod ReadingExprs
+pub mod ReadingItems
+pub mod ReadingStmts
+pub mod ReadingTrees
+pub mod ReadsAgain

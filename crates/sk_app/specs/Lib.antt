@@ -7,3 +7,4 @@ pub mod ResultText
 pub mod Prepared
 pub mod Ends
 pub mod Filling
+pub mod Reading

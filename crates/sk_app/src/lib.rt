@@ -14,3 +14,4 @@ pub use ending::{Ending, message, status};
 pub use command::run;
 pub use std_streams::{StdSink, StdSource};
 mod filling;
+mod reader;
