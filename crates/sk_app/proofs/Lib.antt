@@ -1,0 +1,5 @@
+pub mod RunningNumbers
+pub mod RunningFrame
+pub mod RunningEqual
+pub mod RunningRuns
+pub mod RunningLaws
