@@ -11,3 +11,8 @@ pub mod ReadingItems
 pub mod ReadingStmts
 pub mod ReadingTrees
 pub mod ReadsAgain
+pub mod RunningNumbers
+pub mod RunningFrame
+pub mod RunningEqual
+pub mod RunningRuns
+pub mod RunningLaws

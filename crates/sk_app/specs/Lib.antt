@@ -8,3 +8,4 @@ pub mod Prepared
 pub mod Ends
 pub mod Filling
 pub mod Reading
+pub mod Running

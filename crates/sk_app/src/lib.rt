@@ -15,3 +15,4 @@ pub use command::run;
 pub use std_streams::{StdSink, StdSource};
 mod filling;
 mod reader;
+mod running;
