@@ -317,7 +317,7 @@ same_heads values (f ∷ fs) i = ap (λ gs. head f ∷ gs) (same_heads values fs
 
 -- Values in range
 
-fits_length : (ss : List Site) (vs : List ℕ) → Fits ss vs → length vs ≡ length ss
+pub fits_length : (ss : List Site) (vs : List ℕ) → Fits ss vs → length vs ≡ length ss
 fits_length [] [] h = refl
 fits_length [] (v ∷ vs) h = absurd h
 fits_length (s ∷ ss) [] h = absurd h
@@ -342,7 +342,7 @@ below_fits n (s ∷ ss) (v ∷ vs) h l k = (omega (arith, h.0, k.0), below_fits 
 
 -- What a filling needs of values in range
 
-expansion_sized : (e : Expanded) (bounds : Bounds) → IsEarlyExpansion e bounds → Sized (2 ^ bounds.cbits) e.sites
+pub expansion_sized : (e : Expanded) (bounds : Bounds) → IsEarlyExpansion e bounds → Sized (2 ^ bounds.cbits) e.sites
 expansion_sized e bounds h = subst (λ x. Sized (2 ^ bounds.cbits) x.sites) (sym h.is) (sites_sized bounds e.prog h.early)
 
 power_small : (b : ℕ) → b ≤ 31 → 2 ^ b ≤ 2147483648

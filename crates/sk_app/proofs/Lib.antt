@@ -1,2 +1,4 @@
 pub mod FillingEarly
 pub mod FillingLaws
+pub mod SearchingDigits
+pub mod SearchingLaws
