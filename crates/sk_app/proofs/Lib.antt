@@ -2,3 +2,8 @@ pub mod FillingEarly
 pub mod FillingLaws
 pub mod SearchingDigits
 pub mod SearchingLaws
+pub mod RunningNumbers
+pub mod RunningFrame
+pub mod RunningEqual
+pub mod RunningRuns
+pub mod RunningLaws

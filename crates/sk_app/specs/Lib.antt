@@ -1,3 +1,4 @@
 pub mod Early
 pub mod Filling
 pub mod Searching
+pub mod Running

@@ -3,3 +3,4 @@
 
 mod filling;
 mod search;
+mod running;
