@@ -1,9 +1,9 @@
 pub mod FillingEarly
 pub mod FillingLaws
+pub mod RunningLaws
 pub mod SearchingDigits
 pub mod SearchingLaws
 pub mod RunningNumbers
 pub mod RunningFrame
 pub mod RunningEqual
 pub mod RunningRuns
-pub mod RunningLaws

@@ -1,26 +1,26 @@
 -- To try all numbers is to try all inputs, and all choices.
-use Rattle.std.proofs.Common.{◌≡◌, ℕ, zero, suc, ◌+◌, ◌-◌, ◌*◌, ◌^◌, ◌<◌, ◌≤◌, ◌↔◌, ◌⊎◌, inl, inr, ints, List, [], ◌∷◌, length, refl, sym, ap, subst, ◌∙◌, arith}
-use Rattle.std.specs.Prelude.{map, pos, All, IsTrue}
+use Rattle.std.proofs.Common.{◌≡◌, ℕ, zero, suc, ◌+◌, ◌-◌, ◌*◌, ◌^◌, ◌<◌, ◌≤◌, ◌↔◌, inl, inr, List, [], ◌∷◌, length, refl, sym, ap, subst, ◌∙◌, arith}
+use Rattle.std.specs.Prelude.{pos, All, IsTrue}
 use Rattle.std.proofs.Math.Nat.{pow-zero, pow-succ'}
-use Rattle.std.proofs.lemmas.Bool.{cases_order, false≢true}
+use Rattle.std.proofs.lemmas.Bool.{cases_order}
 use Rattle.std.proofs.lemmas.Nat.{pow_pos, pow-add}
+use Rattle.std.proofs.lemmas.Int.{ints}
 use Rattle.std.proofs.lemmas.List.Elements.{All-nil, All-cons, All-head, All-tail}
 use Rattle.std.proofs.Math.Pow.{pow_mono}
-use Rattle.sk_base.specs.Word.{IsWord, half}
+use Rattle.sk_base.specs.Word.{IsWord}
 use Rattle.sk_base.specs.declared.bounds.Bounds.{Bounds}
 use Rattle.sk_prog.specs.declared.value.Value.TheVariants as value
 use Rattle.sk_prog.specs.declared.prog.Fun.{Fun}
 use Rattle.sk_prog.specs.declared.prog.Prog.{Prog}
 use Rattle.sk_model.specs.declared.expanded.Choice.{Choice}
 use Rattle.sk_model.specs.declared.expanded.Expanded.{Expanded}
-use Rattle.sk_model.specs.Fill.{Fits, InRange, fill, fill_funs}
-use Rattle.sk_model.specs.Expand.{expand}
+use Rattle.sk_model.specs.Fill.{InRange, fill, fill_funs}
 use Rattle.sk_model.specs.Meets.{Breaks, Meets}
 use Rattle.sk_app.specs.Early.{early_prog}
 use Rattle.sk_app.specs.Filling.{IsEarlyExpansion, FromEarly}
-use Rattle.sk_app.specs.Running.{IsNumber, AreNumbers, AreWidths, AreArguments, NoNumbersBreak, params_count, first_params, numbers}
-use Rattle.sk_app.specs.Searching.{digits, search_bits, choice_at, input_at, NoneBreaks, NoneMeets}
-use Rattle.sk_app.proofs.FillingLaws.{Below, Sized, fits_below, below_fits, fits_length, expansion_sized, early_filled}
+use Rattle.sk_app.specs.Running.{IsNumber, AreNumbers, params_count, first_params, numbers}
+use Rattle.sk_app.specs.Searching.{digits, choice_at, input_at, NoneBreaks, NoneMeets}
+use Rattle.sk_app.proofs.FillingLaws.{Below, fits_below, below_fits, fits_length, expansion_sized, early_filled}
 use Rattle.sk_app.proofs.SearchingDigits.{number, digits_length, digits_below, digits_number, number_below}
 use Rattle.sk_app.proofs.RunningLaws.{meets_early}
 
@@ -34,7 +34,7 @@ below_all base (n ∷ ns) h = All-cons (λ n. n < base) n ns h.0 (below_all base
 
 -- how many lists of so many numbers of so many bits there are
 lists_count : (bits count : ℕ) → (2 ^ bits) ^ count ≡ 2 ^ (count * bits)
-lists_count bits zero = pow-zero (2 ^ bits)
+lists_count bits zero = let e : 0 ≡ 0 * bits = omega arith in pow-zero (2 ^ bits) ∙ sym (pow-zero 2) ∙ ap (λ x. 2 ^ x) e
 lists_count bits (suc count) =
     let e : bits + count * bits ≡ suc count * bits = omega arith in
     pow-succ' (2 ^ bits) count ∙ ap (λ x. 2 ^ bits * x) (lists_count bits count) ∙ sym (pow-add 2 bits (count * bits)) ∙ ap (λ x. 2 ^ x) e
@@ -63,10 +63,12 @@ module _ (prog : Prog) (bounds : Bounds) where
           h.none (number base ns) small (subst (λ xs. Breaks prog bounds (record { obligation = 0; args = numbers xs })) is b))
 
       back : Meets prog bounds → NoneBreaks prog bounds total
-      back meets = record { none = λ n l b.
-          let base : ℕ = 2 ^ bounds.inbits in
-          let ns : List ℕ = digits base (params_count prog) n in
-          (meets_early prog bounds early).0 meets ns (record { count = digits_length base (params_count prog) n; below = below_all base ns (digits_below base (params_count prog) n (pow_pos bounds.inbits)) }) b }
+      back meets = record {
+        none = λ n l b.
+            let base : ℕ = 2 ^ bounds.inbits in
+            let ns : List ℕ = digits base (params_count prog) n in
+            (meets_early prog bounds early).0 meets ns (record { count = digits_length base (params_count prog) n; below = below_all base ns (digits_below base (params_count prog) n (pow_pos bounds.inbits)) }) b;
+      }
 
 number_is : (bits inbits n : ℕ) → inbits < bits → n < 2 ^ inbits → IsWord bits (pos n)
 number_is bits inbits n h k =
@@ -118,5 +120,7 @@ module _ (e : Expanded) (bounds : Bounds) where
       none.none (number base vs) small (subst (λ xs. Meets (fill e (record { values = xs })) bounds) same meets)
 
 pub ruleset trying_inputs = (none_at_first, none_more, one_breaks)
+
 pub ruleset filled = (from_early, filled_early, same_params)
+
 pub ruleset trying_choices = (none_meets_first, none_meets_more)

@@ -2,5 +2,5 @@
 #![tactic(auto)]
 
 mod filling;
-mod search;
 mod running;
+mod search;

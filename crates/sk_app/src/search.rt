@@ -75,7 +75,6 @@ pub fn is_searchable(expanded: &Expanded, bounds: &Bounds) -> bool
 }
 
 /// Whether the input with this number breaks an early program.
-#[tactic(auto, using(crate::proofs::SearchingLaws::args_are))]
 fn breaks_at(alloc: Global, prog: &Prog, bounds: &Bounds, number: u32) -> Result<bool, AllocError>
     requires early { IsTrue (early_prog prog.now) }
     requires widths { AreWidths bounds.now }
@@ -118,7 +117,12 @@ fn meets_early(alloc: Global, prog: &Prog, bounds: &Bounds) -> Result<bool, Allo
 }
 
 /// The choice with this number: so many digits of it, the first site's the least.
-fn choice_at(alloc: Global, expanded: &Expanded, bounds: &Bounds, number: u32) -> Result<Choice, AllocError>
+fn choice_at(
+    alloc: Global,
+    expanded: &Expanded,
+    bounds: &Bounds,
+    number: u32,
+) -> Result<Choice, AllocError>
     requires { bounds.now.cbits ≤ 31 }
     ensures { IfOk result (λ a. a ≡ choice_at expanded.now bounds.now number) }
 {
@@ -130,7 +134,12 @@ fn choice_at(alloc: Global, expanded: &Expanded, bounds: &Bounds, number: u32) -
 
 /// Whether a filling meets its harness.
 #[tactic(auto, using(crate::proofs::SearchingLaws::filled))]
-fn filling_meets(alloc: Global, expanded: &Expanded, choice: &Choice, bounds: &Bounds) -> Result<bool, AllocError>
+fn filling_meets(
+    alloc: Global,
+    expanded: &Expanded,
+    choice: &Choice,
+    bounds: &Bounds,
+) -> Result<bool, AllocError>
     requires expansion { IsEarlyExpansion expanded.now bounds.now }
     requires range { InRange expanded.now choice.now }
     requires widths { AreWidths bounds.now }
@@ -145,7 +154,12 @@ fn filling_meets(alloc: Global, expanded: &Expanded, choice: &Choice, bounds: &B
 
 /// The choice with this number, if its filling meets the harness.
 #[tactic(auto, using(crate::proofs::SearchingLaws::in_range_at))]
-fn try_choice(alloc: Global, expanded: &Expanded, bounds: &Bounds, number: u32) -> Result<Option<Choice>, AllocError>
+fn try_choice(
+    alloc: Global,
+    expanded: &Expanded,
+    bounds: &Bounds,
+    number: u32,
+) -> Result<Option<Choice>, AllocError>
     requires expansion { IsEarlyExpansion expanded.now bounds.now }
     requires widths { AreWidths bounds.now }
     requires inputs { bounds.now.inbits < bounds.now.int_bits }
@@ -162,7 +176,12 @@ fn try_choice(alloc: Global, expanded: &Expanded, bounds: &Bounds, number: u32) 
 
 /// The first of so many choices whose filling meets the harness.
 #[tactic(auto, using(crate::proofs::SearchingLaws::trying_choices))]
-fn first_of(alloc: Global, expanded: &Expanded, bounds: &Bounds, total: u32) -> Result<Option<Choice>, AllocError>
+fn first_of(
+    alloc: Global,
+    expanded: &Expanded,
+    bounds: &Bounds,
+    total: u32,
+) -> Result<Option<Choice>, AllocError>
     requires expansion { IsEarlyExpansion expanded.now bounds.now }
     requires widths { AreWidths bounds.now }
     requires inputs { bounds.now.inbits < bounds.now.int_bits }
@@ -181,7 +200,11 @@ fn first_of(alloc: Global, expanded: &Expanded, bounds: &Bounds, total: u32) -> 
 /// A choice whose filling meets the harness, or `None` where there is none: every choice is tried on
 /// every input, so holes and arguments may have at most 15 bits in all.
 #[tactic(auto, using(crate::proofs::SearchingLaws::all_choices))]
-pub fn search(alloc: Global, expanded: &Expanded, bounds: &Bounds) -> Result<Option<Choice>, AllocError>
+pub fn search(
+    alloc: Global,
+    expanded: &Expanded,
+    bounds: &Bounds,
+) -> Result<Option<Choice>, AllocError>
     requires expansion { IsEarlyExpansion expanded.now bounds.now }
     requires widths { AreWidths bounds.now }
     requires inputs { bounds.now.inbits < bounds.now.int_bits }
