@@ -1,9 +1,8 @@
 -- What holds of early expressions and statements: an induction over the four forms of an early
 -- expression, and the three forms of an early statement.
-use Rattle.std.proofs.Common.{rules, ◌≡◌, ◌<◌, List, [], ◌∷◌, refl, sym, ap, subst, ◌∙◌, arith}
-use Rattle.std.specs.Prelude.{if◌then◌else◌, ℕ, map, Bool, true, false, nat_lt, ◌&&◌, IsTrue, Option, Some, None}
-use Rattle.std.proofs.lemmas.Bool.{false≢true, and_parts, and_from}
-use Rattle.std.proofs.lemmas.Grind.{common_steps}
+use Rattle.std.proofs.Common.{rules, [], refl, sym, subst}
+use Rattle.std.specs.Prelude.{if◌then◌else◌, ℕ, Bool, true, false, nat_lt, ◌&&◌, IsTrue, Option, Some, None}
+use Rattle.std.proofs.lemmas.Bool.{false≢true, and_parts}
 use Rattle.sk_base.specs.declared.span.Span.{Span}
 use Rattle.sk_base.specs.declared.name.Name.{Name}
 use Rattle.sk_prog.specs.declared.ty.Ty.{Ty}
@@ -15,14 +14,14 @@ use Rattle.sk_prog.specs.declared.expr.PEForm.{PEForm}
 use Rattle.sk_prog.specs.declared.expr.PEForm.TheVariants as eform
 use Rattle.sk_prog.specs.declared.expr.PEForm.TheOpen as P
 use Rattle.sk_prog.specs.declared.expr.PEForm.TheViews as V
-use Rattle.sk_prog.specs.declared.expr.PEForm.TheFolds.{map-PEForm, map-PExpr, map-PField, fold-PEForm, fold-PExpr, fold-PField, fold-roll-PEForm, fold-roll-PExpr, ind-PExpr}
+use Rattle.sk_prog.specs.declared.expr.PEForm.TheFolds.{map-PEForm, map-PExpr, fold-PEForm, fold-PField, fold-roll-PEForm, fold-roll-PExpr, ind-PExpr}
 use Rattle.sk_prog.specs.declared.stmt.PStmt.{PStmt}
 use Rattle.sk_prog.specs.declared.stmt.PForm.{PForm}
 use Rattle.sk_prog.specs.declared.stmt.PForm.TheVariants as form
 use Rattle.sk_prog.specs.declared.stmt.PForm.TheOpen as S
 use Rattle.sk_prog.specs.declared.stmt.PForm.TheViews as W
-use Rattle.sk_prog.specs.declared.stmt.PForm.TheFolds.{map-PForm, map-PStmt, fold-PForm, fold-PStmt, fold-roll-PForm, fold-roll-PStmt, ind-PStmt}
-use Rattle.sk_app.specs.Early.{Rank, Operand, Sum, Equation, Other, of_operands, of_sums, poperator_rank, peform_rank, prank, is_sum, is_equation, is_variable, variable_form, is_int_ty, is_sum_pvalue, early_pform, early_pstmt}
+use Rattle.sk_prog.specs.declared.stmt.PForm.TheFolds.{map-PForm, map-PStmt, fold-PForm, fold-roll-PForm, fold-roll-PStmt, ind-PStmt}
+use Rattle.sk_app.specs.Early.{Rank, Operand, Sum, Equation, Other, of_operands, of_sums, poperator_rank, peform_rank, prank, is_sum, is_equation, is_variable, variable_form, is_int_ty, early_pform, early_pstmt}
 
 -- whether it is one of the three ranks of early expressions
 abbrev pub ranked : Rank → Bool

@@ -1,6 +1,6 @@
 -- Laws of the sites and the fillings of early programs.
-use Rattle.std.proofs.Common.{rules, suc-ne-zero, ◌≡◌, ℕ, zero, suc, ◌+◌, ◌^◌, ◌<◌, ◌≤◌, List, [], ◌∷◌, ◌++◌, length, length-append, refl, sym, ap, subst, ◌∙◌, arith}
-use Rattle.std.specs.Prelude.{map, Bool, true, false, nat_lt, nat_le, ◌&&◌, IsTrue, Option, Some, None}
+use Rattle.std.proofs.Common.{suc-ne-zero, ◌≡◌, ℕ, suc, ◌+◌, ◌^◌, ◌<◌, ◌≤◌, List, [], ◌∷◌, ◌++◌, length, length-append, refl, sym, ap, subst, ◌∙◌, arith}
+use Rattle.std.specs.Prelude.{map, true, nat_lt, nat_le, ◌&&◌, IsTrue, Option, Some, None}
 use Rattle.std.specs.List.{list_all}
 use Rattle.std.proofs.lemmas.Bool.{false≢true, and_parts, and_from, le-leb, lt-ltb}
 use Rattle.std.proofs.Math.Pow.{pow_mono}
@@ -23,10 +23,9 @@ use Rattle.sk_prog.specs.declared.prog.Prog.{Prog}
 use Rattle.sk_model.specs.declared.expanded.Site.{Site}
 use Rattle.sk_model.specs.declared.expanded.Choice.{Choice}
 use Rattle.sk_model.specs.declared.expanded.Expanded.{Expanded}
-use Rattle.sk_model.specs.Sites.{joined, site, expr_sites, stmt_sites, stmts_sites, funs_sites, sites}
-use Rattle.sk_model.specs.Fill.{Part, counts, in_turn, value, expr_part, fill_expr, stmt_part, fill_stmts, stmts_count, fill_funs, fill, Fits, InRange}
-use Rattle.sk_app.specs.Early.{Rank, Operand, Sum, Equation, Other, poperator_rank, prank, is_sum, is_equation, is_variable, is_int_ty, is_none, is_absent, is_pharness, early_pparam, early_pstmt, early_pfun, early_funs, early_prog}
-use Rattle.sk_model.specs.Expand.{expand}
+use Rattle.sk_model.specs.Sites.{site, expr_sites, stmt_sites, stmts_sites, funs_sites, sites}
+use Rattle.sk_model.specs.Fill.{value, expr_part, fill_expr, stmt_part, fill_stmts, stmts_count, fill_funs, fill, Fits, InRange}
+use Rattle.sk_app.specs.Early.{Operand, poperator_rank, prank, is_sum, is_equation, is_variable, is_int_ty, is_none, is_absent, is_pharness, early_pparam, early_pstmt, early_pfun, early_funs, early_prog}
 use Rattle.sk_app.specs.Filling.{IsEarlyExpansion, FromEarly, expr_narrow, stmt_narrow, stmts_narrow, funs_narrow, funs_count, are_numbers}
 use Rattle.sk_app.proofs.FillingEarly.{ranked, sum_ranked, equation_ranked, early_expr, variable_expr, early_stmt}
 
@@ -317,7 +316,7 @@ same_heads values (f ∷ fs) i = ap (λ gs. head f ∷ gs) (same_heads values fs
 
 -- Values in range
 
-fits_length : (ss : List Site) (vs : List ℕ) → Fits ss vs → length vs ≡ length ss
+pub fits_length : (ss : List Site) (vs : List ℕ) → Fits ss vs → length vs ≡ length ss
 fits_length [] [] h = refl
 fits_length [] (v ∷ vs) h = absurd h
 fits_length (s ∷ ss) [] h = absurd h
@@ -342,7 +341,7 @@ below_fits n (s ∷ ss) (v ∷ vs) h l k = (omega (arith, h.0, k.0), below_fits 
 
 -- What a filling needs of values in range
 
-expansion_sized : (e : Expanded) (bounds : Bounds) → IsEarlyExpansion e bounds → Sized (2 ^ bounds.cbits) e.sites
+pub expansion_sized : (e : Expanded) (bounds : Bounds) → IsEarlyExpansion e bounds → Sized (2 ^ bounds.cbits) e.sites
 expansion_sized e bounds h = subst (λ x. Sized (2 ^ bounds.cbits) x.sites) (sym h.is) (sites_sized bounds e.prog h.early)
 
 power_small : (b : ℕ) → b ≤ 31 → 2 ^ b ≤ 2147483648

@@ -11,8 +11,10 @@ pub mod ReadingItems
 pub mod ReadingStmts
 pub mod ReadingTrees
 pub mod ReadsAgain
+pub mod RunningLaws
+pub mod SearchingDigits
+pub mod SearchingLaws
 pub mod RunningNumbers
 pub mod RunningFrame
 pub mod RunningEqual
 pub mod RunningRuns
-pub mod RunningLaws

@@ -8,4 +8,5 @@ pub mod Prepared
 pub mod Ends
 pub mod Filling
 pub mod Reading
+pub mod Searching
 pub mod Running

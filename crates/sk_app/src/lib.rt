@@ -16,3 +16,4 @@ pub use std_streams::{StdSink, StdSource};
 mod filling;
 mod reader;
 mod running;
+mod search;
