@@ -1,2 +1,4 @@
 //! The call that does all that the program does.
 #![tactic(auto)]
+
+mod typing;

@@ -1,0 +1,2 @@
+pub mod TypingFollows
+pub mod TypingLaws
