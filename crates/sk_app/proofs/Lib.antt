@@ -1,2 +1,3 @@
 pub mod TypingFollows
 pub mod TypingLaws
+pub mod TypingScopes

@@ -1,6 +1,7 @@
 -- The typed program that an early tree becomes, as a function: the own type of an expression, what it is at
 -- a type that its place wants, and what statements and functions become.
 use Rattle.std.specs.Prelude.{◌≡◌, ◌≤◌, ℕ, Bool, true, false, ◌&&◌, not, if◌then◌else◌, List, [], ◌∷◌, ◌++◌, map, length, Option, Some, None, Result, Ok, Err, option_and_then}
+use Rattle.std.specs.List.{list_all}
 use Rattle.sk_base.specs.declared.span.Span.{Span}
 use Rattle.sk_base.specs.declared.bounds.Bounds.{Bounds}
 use Rattle.sk_tree.specs.declared.expr.Expr.{Expr}
@@ -172,16 +173,28 @@ abbrev pub params_of : List Param → Option (List ParamDef)
 params_of [] = Some []
 params_of (p ∷ ps) = param_of p >>= λ d. params_of ps >>= λ ds. Some (d ∷ ds)
 
+-- whether no parameter is a reference to its caller's variable
+abbrev pub none_by_ref : List ParamDef → Bool
+none_by_ref ds = list_all (λ d. not d.by_ref) ds
+
+abbrev pub function : FunItem → Option Ty → List ParamDef → Made (List PStmt) → Fun
+function g t ds b = record { name = g.name; kind = kind_of g.kind; result = t; params = ds; slots = length b.scope; implements = None; body = b.made }
+
 -- a function whose result and parameters these are
 abbrev pub body_of : Bounds → FunItem → Option Ty → List ParamDef → Option Fun
 body_of bounds g t ds =
-    if may_be (kind_of g.kind) ds && all_distinct (map (λ d. d.name) ds) then
-    (make_all bounds 0 (parameters ds) g.body >>= λ b. Some (record { name = g.name; kind = kind_of g.kind; result = t; params = ds; slots = length b.scope; implements = None; body = b.made }))
+    if may_be (kind_of g.kind) ds then
+    (if all_distinct (map (λ d. d.name) ds) then
+    (make_all bounds 0 (parameters ds) g.body >>= λ b. Some (function g t ds b))
+    else None)
     else None
+
+abbrev pub plain_fun : Bounds → FunItem → Option Fun
+plain_fun bounds g = any_ty g.result >>= λ t. params_of g.params >>= λ ds. body_of bounds g t ds
 
 abbrev pub fun_with : Bounds → FunItem → Option (List ℕ) → Option Fun
 fun_with bounds g (Some x) = None
-fun_with bounds g None = any_ty g.result >>= λ t. params_of g.params >>= λ ds. body_of bounds g t ds
+fun_with bounds g None = plain_fun bounds g
 
 abbrev pub fun_of : Bounds → FunItem → Option Fun
 fun_of bounds g = fun_with bounds g g.implements

@@ -2,16 +2,20 @@
 
 ghost use Rattle.std.specs.Prelude.{◌≡◌, ◌≤◌, Option, Some, None, List, [], ◌∷◌, ◌++◌, map, length, IfOk, IfSome, IsTrue};
 ghost use Rattle.sk_app.specs.declared.typing.Fault.TheVariants.{Memory, Refused};
-ghost use Rattle.sk_app.specs.Typing.{value_at, form_part, part, typed, number_at, hole_at, name_at, wanted, operands_at, IsWidth, any_at, base_ty, ty_of, any_ty, Enters, declare, declare_names, assign, assign_to, make_form, make, make_all, param_of, params_of, body_of, fun_with, fun_of, items_of, prog_of, Gives, Leaves};
+ghost use Rattle.sk_app.specs.Typing.{value_at, form_part, part, typed, number_at, hole_at, name_at, wanted, operands_at, IsWidth, any_at, base_ty, ty_of, any_ty, Enters, declare, declare_names, assign, assign_to, make_form, make, make_all, param_of, params_of, none_by_ref, body_of, plain_fun, fun_of, items_of, prog_of, Gives, Leaves};
 
 ghost use Rattle.sk_types.specs.Rules.{class_of, result_of};
 ghost use Rattle.sk_types.specs.Scope.{lookup};
-ghost use Rattle.sk_types.specs.Types.{name_own, operation_own};
+ghost use Rattle.std.specs.List.{list_any};
+ghost use Rattle.std.specs.Str.{bytes_eq};
+ghost use Rattle.sk_types.specs.Types.{name_own, operation_own, parameters, kind_of, may_be, all_distinct};
 ghost use Rattle.sk_prog.specs.declared.expr.PEForm.TheVariants.{Var, Binary};
 
 use sk_base::{Bounds, Boxed, List, Name, Span};
-use sk_prog::{BinOp, Elem, PEForm, PExpr, PForm, PStmt, Ty};
-use sk_tree::{Base, Declared, EForm, Expr, Form, Stmt, TyTree};
+use sk_prog::{
+    BinOp, Elem, Fun, FunKind as PFunKind, PEForm, PExpr, PForm, PStmt, ParamDef, Prog, Ty,
+};
+use sk_tree::{Base, Declared, EForm, Expr, Form, FunItem, FunKind, Item, Param, Stmt, Tree, TyTree};
 use sk_types::{
     Class, Own, Place, Variable, class_of, fits, hole_takes, in_range, is_taken, lookup, loose_takes, number_own,
     number_takes, operand, operator_of, result_of, result_own,
@@ -482,4 +486,186 @@ fn make_all(
         made.push(stmt)?;
     }
     Ok(made)
+}
+
+fn param_of(alloc: Global, param: &Param) -> Result<ParamDef, Fault>
+    ensures { Gives result (param_of param.now) }
+{
+    let ty = ty_of(&param.ty)?;
+    let name = copied(alloc, &param.name)?;
+    Ok(ParamDef {
+        name,
+        ty,
+        by_ref: param.by_ref,
+    })
+}
+
+#[tactic(auto, using(crate::proofs::TypingFollows::split_at, crate::proofs::TypingFollows::one_more_param))]
+fn params_of(alloc: Global, params: &[Param]) -> Result<List<ParamDef>, Fault>
+    ensures { Gives result (params_of params.now) }
+{
+    let mut made = List::new(alloc);
+    for param in params {
+        let param = param_of(alloc, param)?;
+        made.push(param)?;
+    }
+    Ok(made)
+}
+
+/// The parameters are the first variables of their function.
+#[tactic(auto, using(crate::proofs::TypingFollows::split_at, crate::proofs::TypingFollows::one_more_variable))]
+fn enter_all(
+    alloc: Global,
+    scope: &mut Vec<Variable>,
+    params: &[ParamDef],
+) -> Result<(), Fault>
+    ensures { Enters result scope.new.items (scope.old.items ++ parameters params.now) }
+{
+    for param in params {
+        enter(alloc, scope, &param.name, param.ty)?;
+    }
+    Ok(())
+}
+
+fn kind_of(kind: FunKind) -> PFunKind
+    ensures { result ≡ kind_of kind }
+{
+    match kind {
+        FunKind::Plain => PFunKind::Plain,
+        FunKind::Harness => PFunKind::Harness,
+        FunKind::Generator => PFunKind::Generator,
+    }
+}
+
+#[tactic(auto, using(crate::proofs::TypingFollows::split_at))]
+fn none_by_ref(params: &[ParamDef]) -> bool
+    ensures { result ≡ none_by_ref params.now }
+{
+    for param in params {
+        if param.by_ref {
+            return false;
+        }
+    }
+    true
+}
+
+fn may_be(kind: PFunKind, params: &[ParamDef]) -> bool
+    ensures { result ≡ may_be kind params.now }
+{
+    match kind {
+        PFunKind::Harness => none_by_ref(params),
+        _ => true,
+    }
+}
+
+fn is_same(a: &Name, b: &Name) -> bool
+    ensures { result ≡ bytes_eq a.now b.now }
+{
+    a.as_bytes() == b.as_bytes()
+}
+
+#[tactic(auto, using(crate::proofs::TypingFollows::split_at))]
+fn is_named(params: &[ParamDef], name: &Name) -> bool
+    ensures { result ≡ list_any (bytes_eq name.now) (map (λ d. d.name) params.now) }
+{
+    for param in params {
+        if is_same(name, &param.name) {
+            return true;
+        }
+    }
+    false
+}
+
+#[tactic(auto, using(crate::proofs::TypingFollows::split_at))]
+fn all_distinct(params: &[ParamDef]) -> bool
+    ensures { result ≡ all_distinct (map (λ d. d.name) params.now) }
+{
+    for (i, param) in params.iter().enumerate() {
+        if is_named(&params[i + 1..], &param.name) {
+            return false;
+        }
+    }
+    true
+}
+
+fn body_of(
+    alloc: Global,
+    bounds: &Bounds,
+    item: &FunItem,
+    ty: Option<Ty>,
+    params: List<ParamDef>,
+) -> Result<Fun, Fault>
+    requires { IsWidth bounds.now }
+    ensures { Gives result (body_of bounds.now item.now ty params) }
+{
+    let kind = kind_of(item.kind);
+    if !may_be(kind, params.as_slice()) {
+        return Err(Fault::Refused);
+    }
+    if !all_distinct(params.as_slice()) {
+        return Err(Fault::Refused);
+    }
+    let mut scope = Vec::new(alloc);
+    enter_all(alloc, &mut scope, params.as_slice())?;
+    let body = make_all(alloc, bounds, &mut scope, 0, item.body.as_slice())?;
+    let slots = numbered(scope.len())?;
+    let name = copied(alloc, &item.name)?;
+    Ok(Fun {
+        name,
+        kind,
+        result: ty,
+        params,
+        slots,
+        implements: None,
+        body,
+    })
+}
+
+fn plain_fun(alloc: Global, bounds: &Bounds, item: &FunItem) -> Result<Fun, Fault>
+    requires { IsWidth bounds.now }
+    ensures { Gives result (plain_fun bounds.now item.now) }
+{
+    let ty = any_ty(&item.result)?;
+    let params = params_of(alloc, item.params.as_slice())?;
+    let fun = body_of(alloc, bounds, item, ty, params)?;
+    Ok(fun)
+}
+
+fn fun_of(alloc: Global, bounds: &Bounds, item: &FunItem) -> Result<Fun, Fault>
+    requires { IsWidth bounds.now }
+    ensures { Gives result (fun_of bounds.now item.now) }
+{
+    match &item.implements {
+        Some(_) => Err(Fault::Refused),
+        None => {
+            let fun = plain_fun(alloc, bounds, item)?;
+            Ok(fun)
+        }
+    }
+}
+
+fn one(alloc: Global, fun: Fun) -> Result<Prog, Fault>
+    ensures { Gives result (Some (record { structs = []; consts = []; funs = fun ∷ [] })) }
+{
+    let mut funs = List::new(alloc);
+    funs.push(fun)?;
+    Ok(Prog {
+        structs: List::new(alloc),
+        consts: List::new(alloc),
+        funs,
+    })
+}
+
+fn items_of(alloc: Global, bounds: &Bounds, items: &[Item]) -> Result<Prog, Fault>
+    requires { IsWidth bounds.now }
+    ensures { Gives result (items_of bounds.now items.now) }
+{
+    match items {
+        [Item::Fun(item)] => {
+            let fun = fun_of(alloc, bounds, item)?;
+            let prog = one(alloc, fun)?;
+            Ok(prog)
+        }
+        _ => Err(Fault::Refused),
+    }
 }
