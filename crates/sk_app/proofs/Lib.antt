@@ -1,3 +1,4 @@
 pub mod TypingFollows
 pub mod TypingLaws
 pub mod TypingScopes
+pub mod TypingSteps

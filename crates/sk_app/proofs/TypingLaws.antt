@@ -38,7 +38,7 @@ use Rattle.sk_app.specs.Typing.{◌>>=◌, Part, FormPart, typed, number_at, hol
 
 -- Types that are the same
 
-both_true : (a b : Bool) → (a && b) ≡ true → (a ≡ true) × (b ≡ true)
+pub both_true : (a b : Bool) → (a && b) ≡ true → (a ≡ true) × (b ≡ true)
 both_true true true e = (refl, refl)
 both_true true false e = cc
 both_true false b e = cc
@@ -94,14 +94,14 @@ pexpr_law P Q f g = ind-PExpr P Q (λ n. Unit {0}) (λ x y is. subst (λ z. P (r
 
 -- What is made of parts
 
-bind_some : {A B : Type 0} (o : Option A) (f : A → Option B) (y : B) → (o >>= f) ≡ Some y → (x : A) × (o ≡ Some x) × (f x ≡ Some y)
+pub bind_some : {A B : Type 0} (o : Option A) (f : A → Option B) (y : B) → (o >>= f) ≡ Some y → (x : A) × (o ≡ Some x) × (f x ≡ Some y)
 bind_some None f y e = cc
 bind_some (Some x) f y e = (x, refl, e)
 
-some_same : {A : Type 0} (x y : A) → Some x ≡ Some y → x ≡ y
+pub some_same : {A : Type 0} (x y : A) → Some x ≡ Some y → x ≡ y
 some_same x y e = cc
 
-if_some : {A : Type 0} (b : Bool) (o : Option A) (y : A) → (if b then o else None) ≡ Some y → (b ≡ true) × (o ≡ Some y)
+pub if_some : {A : Type 0} (b : Bool) (o : Option A) (y : A) → (if b then o else None) ≡ Some y → (b ≡ true) × (o ≡ Some y)
 if_some true o y e = (refl, e)
 if_some false o y e = cc
 
@@ -133,7 +133,7 @@ some_wanted k (Firm v) t u e =
 has_type : (f : Ty → Bool) (t : Option Ty) (u : Ty) → t ≡ Some u → HasType f t → f u ≡ true
 has_type f t u is h = subst (HasType f) is h
 
-both : (a b : Bool) → a ≡ true → b ≡ true → (a && b) ≡ true
+pub both : (a b : Bool) → a ≡ true → b ≡ true → (a && b) ≡ true
 both a b h k = rw (h, k) refl
 
 module _ (bounds : Bounds) (scope : List Variable) where
@@ -148,16 +148,16 @@ module _ (bounds : Bounds) (scope : List Variable) where
   pub part_is : (e : Expr) → part bounds scope e ≡ record { own = (form_part bounds scope e.form).own; at = (form_part bounds scope e.form).at e.span }
   part_is e = fold-roll-Expr FormPart Part (Unit {0}) (eform_part bounds scope) (expr_part bounds scope) (λ x. tt) (record { span = e.span; form = e.form })
 
-  form_number : (n : ℕ) → form_part bounds scope (eform.Number n) ≡ eform_part bounds scope (E.Number n)
+  pub form_number : (n : ℕ) → form_part bounds scope (eform.Number n) ≡ eform_part bounds scope (E.Number n)
   form_number n = ap (form_part bounds scope) (sym (eform.rolls-Number n)) ∙ form_is (E.Number n)
 
-  form_word : (x : List ℕ) → form_part bounds scope (eform.Word x) ≡ eform_part bounds scope (E.Word x)
+  pub form_word : (x : List ℕ) → form_part bounds scope (eform.Word x) ≡ eform_part bounds scope (E.Word x)
   form_word x = ap (form_part bounds scope) (sym (eform.rolls-Word x)) ∙ form_is (E.Word x)
 
-  form_hole : form_part bounds scope (eform.Hole None) ≡ eform_part bounds scope (E.Hole None)
+  pub form_hole : form_part bounds scope (eform.Hole None) ≡ eform_part bounds scope (E.Hole None)
   form_hole = ap (form_part bounds scope) (sym (eform.rolls-Hole None)) ∙ form_is (E.Hole None)
 
-  form_binary : (m : Mark) (a b : Expr) → form_part bounds scope (eform.Binary m a b) ≡ eform_part bounds scope (E.Binary m (part bounds scope a) (part bounds scope b))
+  pub form_binary : (m : Mark) (a b : Expr) → form_part bounds scope (eform.Binary m a b) ≡ eform_part bounds scope (E.Binary m (part bounds scope a) (part bounds scope b))
   form_binary m a b = ap (form_part bounds scope) (sym (eform.rolls-Binary m a b)) ∙ form_is (E.Binary m a b)
 
   -- its own types are those of the rules
@@ -168,10 +168,10 @@ module _ (bounds : Bounds) (scope : List Variable) where
   abbrev field_own : NewField → Unit {0}
   field_own = fold-NewField Own Own (Unit {0}) (eform_own scope) (λ x. x.form) (λ x. tt)
 
-  form_own_is : (l : E.EForm-F EForm Expr NewField) → form_own (roll-EForm l) ≡ eform_own scope (map-EForm EForm Expr NewField Own Own (Unit {0}) form_own (own scope) field_own l)
+  pub form_own_is : (l : E.EForm-F EForm Expr NewField) → form_own (roll-EForm l) ≡ eform_own scope (map-EForm EForm Expr NewField Own Own (Unit {0}) form_own (own scope) field_own l)
   form_own_is l = fold-roll-EForm Own Own (Unit {0}) (eform_own scope) (λ x. x.form) (λ x. tt) l
 
-  own_is : (e : Expr) → own scope e ≡ form_own e.form
+  pub own_is : (e : Expr) → own scope e ≡ form_own e.form
   own_is e = fold-roll-Expr Own Own (Unit {0}) (eform_own scope) (λ x. x.form) (λ x. tt) (record { span = e.span; form = e.form })
 
   abbrev FormOwn : EForm → Type 0
@@ -320,7 +320,7 @@ module _ (bounds : Bounds) (scope : List Variable) where
       let k = if_some _ _ p h in
       good (PE.Hole None) s t (pform.Hole None) _ p (pform.rolls-Hole None) (some_same _ _ k.1) (eform.rolls-Hole None, k.0)
 
-  sound_name : (x : List ℕ) (o : Option Place) → lookup scope x ≡ o → (s : Span) (t : Ty) (p : PExpr) → name_at x o s t ≡ Some p → FormGood s t (roll-EForm (E.Word x)) p
+  pub sound_name : (x : List ℕ) (o : Option Place) → lookup scope x ≡ o → (s : Span) (t : Ty) (p : PExpr) → name_at x o s t ≡ Some p → FormGood s t (roll-EForm (E.Word x)) p
   sound_name x None is s t p h = cc
   sound_name x (Some v) is s t p h =
       let k = if_some (fits v.ty t) _ p h in
