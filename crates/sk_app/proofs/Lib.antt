@@ -18,3 +18,7 @@ pub mod RunningNumbers
 pub mod RunningFrame
 pub mod RunningEqual
 pub mod RunningRuns
+pub mod TypingFollows
+pub mod TypingLaws
+pub mod TypingScopes
+pub mod TypingSteps

@@ -10,3 +10,4 @@ pub mod Filling
 pub mod Reading
 pub mod Searching
 pub mod Running
+pub mod Typing

@@ -17,3 +17,4 @@ mod filling;
 mod reader;
 mod running;
 mod search;
+mod typing;
