@@ -1,1 +1,6 @@
 pub mod PrintingSteps
+pub mod ShownMeans
+pub mod ShownLayers
+pub mod ShownSpell
+pub mod ShownText
+pub mod ShownLines
