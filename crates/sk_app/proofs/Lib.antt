@@ -4,3 +4,4 @@ pub mod ShownLayers
 pub mod ShownSpell
 pub mod ShownText
 pub mod ShownLines
+pub mod ShownExprs

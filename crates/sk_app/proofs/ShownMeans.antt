@@ -47,6 +47,42 @@ pub record IsOperation (bounds : Bounds) (scope : List Variable) (op : BinOp) (a
   pub right : Means bounds scope b y
   pub rule : MeansOperation (class_of op) (own scope x) (own scope y) u a.ty b.ty t
 
+module _ (bounds : Bounds) (scope : List Variable) where
+  abbrev pub MeansForm : PEForm → EFormRule
+  MeansForm = rec-PEForm EFormRule ExprRule FieldRule (eform_means bounds scope) (expr_means bounds scope) (field_means bounds scope)
+
+  abbrev pub MeansField : PField → FieldRule
+  MeansField = rec-PField EFormRule ExprRule FieldRule (eform_means bounds scope) (expr_means bounds scope) (field_means bounds scope)
+
+  form_same : (X Y Z : Type 0) (u : X → PEForm) (v : Y → PExpr) (w : Z → PField) (f : PEForm → EFormRule) (e : PExpr → ExprRule) (n : PField → FieldRule) (x : P.PEForm-F X Y Z) → eform_means bounds scope X Y Z u v w (λ p. f (u p)) (λ p. e (v p)) (λ p. n (w p)) x ≡ eform_means bounds scope PEForm PExpr PField (λ y. y) (λ y. y) (λ y. y) f e n (map-PEForm X Y Z PEForm PExpr PField u v w x)
+  form_same X Y Z u v w f e n (P.Hole None) = refl
+  form_same X Y Z u v w f e n (P.Hole (Some k)) = refl
+  form_same X Y Z u v w f e n _ = refl
+
+  pub form_is : (l : P.PEForm-F PEForm PExpr PField) → MeansForm (roll-PEForm l) ≡ eform_means bounds scope PEForm PExpr PField (λ y. y) (λ y. y) (λ y. y) MeansForm (Means bounds scope) MeansField l
+  form_is l = rec-roll-PEForm EFormRule ExprRule FieldRule (eform_means bounds scope) (expr_means bounds scope) (field_means bounds scope) form_same l
+
+  pub expr_is : (x : P.PExpr-F PEForm PExpr PField) → Means bounds scope (roll-PExpr x) ≡ expr_means bounds scope PEForm PExpr PField (λ y. y) (λ y. y) (λ y. y) MeansForm (Means bounds scope) MeansField x
+  expr_is x = rec-roll-PExpr EFormRule ExprRule FieldRule (eform_means bounds scope) (expr_means bounds scope) (field_means bounds scope) (λ X Y Z u v w f e n x. refl) x
+
+  -- an expression of one layer means what the layer means
+  close : (s : Span) (t : Option Ty) (l : P.PEForm-F PEForm PExpr PField) (f : PEForm) (e : Expr) → roll-PEForm l ≡ f → s ≡ e.span → eform_means bounds scope PEForm PExpr PField (λ y. y) (λ y. y) (λ y. y) MeansForm (Means bounds scope) MeansField l t e.form → Means bounds scope (pexpr s t f) e
+  close s t l f e rolls at h =
+      let is = subst (λ (R : EFormRule). R t e.form) (sym (form_is l)) h in
+      subst (λ k. Means bounds scope (pexpr s t k) e) rolls (subst (λ (R : ExprRule). R e) (sym (expr_is (record { span = s; ty = t; form = roll-PEForm l }))) (at, is))
+
+  pub means_number : (s : Span) (t : Option Ty) (n : ℕ) → IsTrue (in_range bounds n) → HasType (number_takes n) t → Means bounds scope (pexpr s t (peform.Number n)) (expr s (eform.Number n))
+  means_number s t n range has = close s t (P.Number n) (peform.Number n) (expr s (eform.Number n)) (peform.rolls-Number n) refl (refl, range, has)
+
+  pub means_variable : (s : Span) (t : Option Ty) (slot : ℕ) (x : List ℕ) (u : Ty) → t ≡ Some u → Nearest scope x slot u → Means bounds scope (pexpr s t (peform.Var slot x)) (expr s (eform.Word x))
+  means_variable s t slot x u is near = close s t (P.Var slot x) (peform.Var slot x) (expr s (eform.Word x)) (peform.rolls-Var slot x) refl (refl, u, is, near)
+
+  pub means_hole : (s : Span) (t : Option Ty) → HasType hole_takes t → Means bounds scope (pexpr s t (peform.Hole None)) (expr s (eform.Hole None))
+  means_hole s t has = close s t (P.Hole None) (peform.Hole None) (expr s (eform.Hole None)) (peform.rolls-Hole None) refl (refl, has)
+
+  pub means_binary : (s : Span) (t : Option Ty) (op : BinOp) (a b : PExpr) (m : Mark) (x y : Expr) (u : Ty) → IsOperation bounds scope op a b m x y u t → Means bounds scope (pexpr s t (peform.Binary op a b)) (expr s (eform.Binary m x y))
+  means_binary s t op a b m x y u o = close s t (P.Binary op a b) (peform.Binary op a b) (expr s (eform.Binary m x y)) (peform.rolls-Binary op a b) refl (m, x, y, refl, o.operator, o.left, o.right, u, o.rule)
+
 module _
   (bounds : Bounds)
   (scope : List Variable)
@@ -56,25 +92,8 @@ module _
   (hole : (s : Span) (t : Option Ty) → HasType hole_takes t → C (pexpr s t (peform.Hole None)) (expr s (eform.Hole None)))
   (binary : (s : Span) (t : Option Ty) (op : BinOp) (a b : PExpr) (m : Mark) (x y : Expr) (u : Ty) → IsOperation bounds scope op a b m x y u t → C a x → C b y → C (pexpr s t (peform.Binary op a b)) (expr s (eform.Binary m x y)))
   where
-  abbrev MeansForm : PEForm → EFormRule
-  MeansForm = rec-PEForm EFormRule ExprRule FieldRule (eform_means bounds scope) (expr_means bounds scope) (field_means bounds scope)
-
-  abbrev MeansField : PField → FieldRule
-  MeansField = rec-PField EFormRule ExprRule FieldRule (eform_means bounds scope) (expr_means bounds scope) (field_means bounds scope)
-
-  form_same : (X Y Z : Type 0) (u : X → PEForm) (v : Y → PExpr) (w : Z → PField) (f : PEForm → EFormRule) (e : PExpr → ExprRule) (n : PField → FieldRule) (x : P.PEForm-F X Y Z) → eform_means bounds scope X Y Z u v w (λ p. f (u p)) (λ p. e (v p)) (λ p. n (w p)) x ≡ eform_means bounds scope PEForm PExpr PField (λ y. y) (λ y. y) (λ y. y) f e n (map-PEForm X Y Z PEForm PExpr PField u v w x)
-  form_same X Y Z u v w f e n (P.Hole None) = refl
-  form_same X Y Z u v w f e n (P.Hole (Some k)) = refl
-  form_same X Y Z u v w f e n _ = refl
-
-  form_is : (l : P.PEForm-F PEForm PExpr PField) → MeansForm (roll-PEForm l) ≡ eform_means bounds scope PEForm PExpr PField (λ y. y) (λ y. y) (λ y. y) MeansForm (Means bounds scope) MeansField l
-  form_is l = rec-roll-PEForm EFormRule ExprRule FieldRule (eform_means bounds scope) (expr_means bounds scope) (field_means bounds scope) form_same l
-
-  expr_is : (x : P.PExpr-F PEForm PExpr PField) → Means bounds scope (roll-PExpr x) ≡ expr_means bounds scope PEForm PExpr PField (λ y. y) (λ y. y) (λ y. y) MeansForm (Means bounds scope) MeansField x
-  expr_is x = rec-roll-PExpr EFormRule ExprRule FieldRule (eform_means bounds scope) (expr_means bounds scope) (field_means bounds scope) (λ X Y Z u v w f e n x. refl) x
-
   abbrev At_form : PEForm → Type 0
-  At_form f = (s : Span) (t : Option Ty) (e : Expr) → s ≡ e.span → MeansForm f t e.form → C (pexpr s t f) e
+  At_form f = (s : Span) (t : Option Ty) (e : Expr) → s ≡ e.span → MeansForm bounds scope f t e.form → C (pexpr s t f) e
 
   abbrev At_expr : PExpr → Type 0
   At_expr p = (e : Expr) → Means bounds scope p e → C p e
@@ -95,8 +114,8 @@ module _
   put : (s : Span) (t : Option Ty) (f g : PEForm) (h : EForm) (e : Expr) → f ≡ g → e.form ≡ h → s ≡ e.span → C (pexpr s t f) (expr s h) → C (pexpr s t g) e
   put s t f g h e same is at c = subst (λ k. C (pexpr s t k) e) same (subst (C (pexpr s t f)) (λ i. expr (at i) (sym is i)) c)
 
-  opened : (l : P.PEForm-F PEForm PExpr PField) (t : Option Ty) (f : EForm) → MeansForm (roll-PEForm l) t f → eform_means bounds scope PEForm PExpr PField (λ y. y) (λ y. y) (λ y. y) MeansForm (Means bounds scope) MeansField l t f
-  opened l t f h = subst (λ (R : EFormRule). R t f) (form_is l) h
+  opened : (l : P.PEForm-F PEForm PExpr PField) (t : Option Ty) (f : EForm) → MeansForm bounds scope (roll-PEForm l) t f → eform_means bounds scope PEForm PExpr PField (λ y. y) (λ y. y) (λ y. y) (MeansForm bounds scope) (Means bounds scope) (MeansField bounds scope) l t f
+  opened l t f h = subst (λ (R : EFormRule). R t f) (form_is bounds scope l) h
 
   layer : (y : P.PEForm-F Such_form Such_expr Such_field) → At_form (roll-PEForm (down y))
   layer (P.Number n) s t e at h =
@@ -118,7 +137,7 @@ module _
   pub by_means : (p : PExpr) (e : Expr) → Means bounds scope p e → C p e
   by_means = ind-PExpr At_form At_expr (λ x. Unit {0})
       (λ x y is. subst (λ z. At_form (roll-PEForm z)) is (layer y))
-      (λ x y is. subst (λ z. At_expr (roll-PExpr z)) is (λ e h. let o = subst (λ (R : ExprRule). R e) (expr_is (map-PExpr Such_form Such_expr Such_field PEForm PExpr PField (λ q. q.0) (λ q. q.0) (λ q. q.0) y)) h in y.form.1 y.span y.ty e o.0 o.1))
+      (λ x y is. subst (λ z. At_expr (roll-PExpr z)) is (λ e h. let o = subst (λ (R : ExprRule). R e) (expr_is bounds scope (map-PExpr Such_form Such_expr Such_field PEForm PExpr PField (λ q. q.0) (λ q. q.0) (λ q. q.0) y)) h in y.form.1 y.span y.ty e o.0 o.1))
       (λ x y is. tt)
 
 abbrev pub pstmt : Span → PForm → PStmt
@@ -126,6 +145,35 @@ pstmt s f = record { span = s; form = f }
 
 abbrev pub stmt : Span → Form → Stmt
 stmt s f = record { span = s; form = f }
+
+module _ (bounds : Bounds) where
+  abbrev pub MeansPForm : PForm → FormRule
+  MeansPForm = rec-PForm FormRule StmtRule (form_means bounds) (stmt_means bounds)
+
+  pform_same : (X Y : Type 0) (u : X → PForm) (v : Y → PStmt) (f : PForm → FormRule) (k : PStmt → StmtRule) (x : S.PForm-F X Y) → form_means bounds X Y u v (λ p. f (u p)) (λ p. k (v p)) x ≡ form_means bounds PForm PStmt (λ y. y) (λ y. y) f k (map-PForm X Y PForm PStmt u v x)
+  pform_same X Y u v f k (S.Declare slot x t value) = refl
+  pform_same X Y u v f k _ = refl
+
+  pub pform_is : (l : S.PForm-F PForm PStmt) → MeansPForm (roll-PForm l) ≡ form_means bounds PForm PStmt (λ y. y) (λ y. y) MeansPForm (StmtMeans bounds) l
+  pform_is l = rec-roll-PForm FormRule StmtRule (form_means bounds) (stmt_means bounds) pform_same l
+
+  pub pstmt_is : (x : S.PStmt-F PForm PStmt) → StmtMeans bounds (record { span = x.span; form = x.form }) ≡ stmt_means bounds PForm PStmt (λ y. y) (λ y. y) MeansPForm (StmtMeans bounds) x
+  pstmt_is x = rec-roll-PStmt FormRule StmtRule (form_means bounds) (stmt_means bounds) (λ X Y u v f k x. refl) x
+
+  -- a statement of one layer means what the layer means
+  close_stmt : (s : Span) (from : ℕ) (scope : List Variable) (l : S.PForm-F PForm PStmt) (f : PForm) (e : Stmt) → roll-PForm l ≡ f → s ≡ e.span → form_means bounds PForm PStmt (λ y. y) (λ y. y) MeansPForm (StmtMeans bounds) l from scope e.form → StmtMeans bounds (pstmt s f) from scope e
+  close_stmt s from scope l f e rolls at h =
+      let is = subst (λ (R : FormRule). R from scope e.form) (sym (pform_is l)) h in
+      subst (λ k. StmtMeans bounds (pstmt s k) from scope e) rolls (subst (λ (R : StmtRule). R from scope e) (sym (pstmt_is (record { span = s; form = roll-PForm l }))) (at, is))
+
+  pub means_declare : (s : Span) (from : ℕ) (scope : List Variable) (slot : ℕ) (x : List ℕ) (t : Ty) (value : Option PExpr) (y : TyTree) (d : Declared) → MeansDeclare bounds from scope slot x t value y d → StmtMeans bounds (pstmt s (pform.Declare slot x t value)) from scope (stmt s (form.Declare y (d ∷ [])))
+  means_declare s from scope slot x t value y d rule = close_stmt s from scope (S.Declare slot x t value) (pform.Declare slot x t value) (stmt s (form.Declare y (d ∷ []))) (pform.rolls-Declare slot x t value) refl (y, d, refl, rule)
+
+  pub means_assign : (s : Span) (from : ℕ) (scope : List Variable) (p q : PExpr) (x y : Expr) (t : Ty) → MeansAssign bounds scope t p q x y → StmtMeans bounds (pstmt s (pform.Assign p q)) from scope (stmt s (form.Assign x y))
+  means_assign s from scope p q x y t rule = close_stmt s from scope (S.Assign p q) (pform.Assign p q) (stmt s (form.Assign x y)) (pform.rolls-Assign p q) refl (x, y, refl, t, rule)
+
+  pub means_assert : (s : Span) (from : ℕ) (scope : List Variable) (p : PExpr) (x : Expr) → IsAt bounds scope bit p x → StmtMeans bounds (pstmt s (pform.Assert p)) from scope (stmt s (form.Assert x))
+  means_assert s from scope p x rule = close_stmt s from scope (S.Assert p) (pform.Assert p) (stmt s (form.Assert x)) (pform.rolls-Assert p) refl (x, refl, rule)
 
 module _
   (bounds : Bounds)
@@ -136,23 +184,10 @@ module _
   (assign : (s : Span) (p q : PExpr) (x y : Expr) (t : Ty) → MeansAssign bounds scope t p q x y → C (pstmt s (pform.Assign p q)) (stmt s (form.Assign x y)))
   (asserts : (s : Span) (p : PExpr) (x : Expr) → IsAt bounds scope bit p x → C (pstmt s (pform.Assert p)) (stmt s (form.Assert x)))
   where
-  abbrev MeansPForm : PForm → FormRule
-  MeansPForm = rec-PForm FormRule StmtRule (form_means bounds) (stmt_means bounds)
-
-  pform_same : (X Y : Type 0) (u : X → PForm) (v : Y → PStmt) (f : PForm → FormRule) (k : PStmt → StmtRule) (x : S.PForm-F X Y) → form_means bounds X Y u v (λ p. f (u p)) (λ p. k (v p)) x ≡ form_means bounds PForm PStmt (λ y. y) (λ y. y) f k (map-PForm X Y PForm PStmt u v x)
-  pform_same X Y u v f k (S.Declare slot x t value) = refl
-  pform_same X Y u v f k _ = refl
-
-  pform_is : (l : S.PForm-F PForm PStmt) → MeansPForm (roll-PForm l) ≡ form_means bounds PForm PStmt (λ y. y) (λ y. y) MeansPForm (StmtMeans bounds) l
-  pform_is l = rec-roll-PForm FormRule StmtRule (form_means bounds) (stmt_means bounds) pform_same l
-
-  pstmt_is : (x : S.PStmt-F PForm PStmt) → StmtMeans bounds (record { span = x.span; form = x.form }) ≡ stmt_means bounds PForm PStmt (λ y. y) (λ y. y) MeansPForm (StmtMeans bounds) x
-  pstmt_is x = rec-roll-PStmt FormRule StmtRule (form_means bounds) (stmt_means bounds) (λ X Y u v f k x. refl) x
-
   put_stmt : (s : Span) (f g : PForm) (h : Form) (e : Stmt) → f ≡ g → e.form ≡ h → s ≡ e.span → C (pstmt s f) (stmt s h) → C (pstmt s g) e
   put_stmt s f g h e same is at c = subst (λ k. C (pstmt s k) e) same (subst (C (pstmt s f)) (λ i. stmt (at i) (sym is i)) c)
 
-  stmt_layer : (l : S.PForm-F PForm PStmt) (s : Span) (e : Stmt) → s ≡ e.span → form_means bounds PForm PStmt (λ y. y) (λ y. y) MeansPForm (StmtMeans bounds) l from scope e.form → C (pstmt s (roll-PForm l)) e
+  stmt_layer : (l : S.PForm-F PForm PStmt) (s : Span) (e : Stmt) → s ≡ e.span → form_means bounds PForm PStmt (λ y. y) (λ y. y) (MeansPForm bounds) (StmtMeans bounds) l from scope e.form → C (pstmt s (roll-PForm l)) e
   stmt_layer (S.Declare slot x t value) s e at (y, d, is, rule) = put_stmt s (pform.Declare slot x t value) (roll-PForm (S.Declare slot x t value)) (form.Declare y (d ∷ [])) e (sym (pform.rolls-Declare slot x t value)) is at (declare s slot x t value y d rule)
   stmt_layer (S.Assign p q) s e at (x, y, is, t, rule) = put_stmt s (pform.Assign p q) (roll-PForm (S.Assign p q)) (form.Assign x y) e (sym (pform.rolls-Assign p q)) is at (assign s p q x y t rule)
   stmt_layer (S.Assert p) s e at (x, is, rule) = put_stmt s (pform.Assert p) (roll-PForm (S.Assert p)) (form.Assert x) e (sym (pform.rolls-Assert p)) is at (asserts s p x rule)
@@ -161,7 +196,7 @@ module _
   -- a statement that means a tree
   pub by_stmt_means : (p : PStmt) (e : Stmt) → StmtMeans bounds p from scope e → C p e
   by_stmt_means p e h =
-      let o = subst (λ (R : StmtRule). R from scope e) (pstmt_is (record { span = p.span; form = p.form })) h in
-      let l = subst (λ f. MeansPForm f from scope e.form) (sym (roll-out-PForm p.form)) o.1 in
-      let k = subst (λ (R : FormRule). R from scope e.form) (pform_is (out-PForm p.form)) l in
+      let o = subst (λ (R : StmtRule). R from scope e) (pstmt_is bounds (record { span = p.span; form = p.form })) h in
+      let l = subst (λ f. MeansPForm bounds f from scope e.form) (sym (roll-out-PForm p.form)) o.1 in
+      let k = subst (λ (R : FormRule). R from scope e.form) (pform_is bounds (out-PForm p.form)) l in
       subst (λ f. C (pstmt p.span f) e) (roll-out-PForm p.form) (stmt_layer (out-PForm p.form) p.span e o.0 k)
