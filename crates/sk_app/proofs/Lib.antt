@@ -5,3 +5,4 @@ pub mod ShownSpell
 pub mod ShownText
 pub mod ShownLines
 pub mod ShownExprs
+pub mod ShownStmts
