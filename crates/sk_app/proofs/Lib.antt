@@ -6,3 +6,4 @@ pub mod ShownText
 pub mod ShownLines
 pub mod ShownExprs
 pub mod ShownStmts
+pub mod Shown
