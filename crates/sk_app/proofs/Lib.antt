@@ -1,3 +1,4 @@
+mod StreamLemmas
 pub mod PrintingSteps
 pub mod ShownMeans
 pub mod ShownLayers

@@ -1,4 +1,6 @@
 //! The call that does all that the program does.
 #![tactic(auto)]
 
+mod output;
+mod text;
 mod printing;

@@ -1,0 +1,12 @@
+pub mod Step
+pub mod Values
+pub mod Eval
+pub mod Exec
+pub mod Run
+pub mod Obligations
+pub mod Inputs
+pub mod Meets
+pub mod Sites
+pub mod Expand
+pub mod Fill
+pub mod Nodes

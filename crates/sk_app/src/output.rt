@@ -1,0 +1,35 @@
+//! The result text, written to a sink.
+
+ghost use Rattle.std.specs.Prelude.{◌≡◌, ◌≤◌, ◌+◌, ◌++◌, length, take, true, false};
+ghost use Rattle.sk_base.specs.Stream.{Rose};
+ghost use Rattle.sk_app.specs.Streams.{Appends, AppendsPrefix};
+
+use sk_base::{Put, Sink};
+
+/// The bytes after so many.
+fn after(bytes: &[u8], count: usize) -> &[u8]
+    requires { count ≤ length bytes.now }
+    ensures split { bytes.now ≡ take count bytes.now ++ result.now }
+    ensures shorter { length bytes.now ≡ count + length result.now }
+{
+    &bytes[count..]
+}
+
+/// Writes all these bytes. Each write offers all that is left. It answers whether no write failed.
+#[tactic(auto, using(crate::proofs::StreamLemmas::writes_more))]
+pub fn write_all<K: Sink>(sink: &mut K, bytes: &[u8]) -> bool
+    requires { length bytes.now ≤ K.spare sink.old }
+    ensures count { K.faults sink.old ≤ K.faults sink.new }
+    ensures all { result ≡ true → Appends bytes.now (K.held sink.old) (K.held sink.new) }
+    ensures fault { result ≡ false → Rose (K.faults sink.old) (K.faults sink.new) }
+    ensures prefix { result ≡ false → AppendsPrefix bytes.now (K.held sink.old) (K.held sink.new) }
+{
+    let mut rest = bytes;
+    'writing: while !rest.is_empty() {
+        match sink.write(rest) {
+            Put::Wrote(count) => rest = after(rest, count),
+            Put::Failed => return false,
+        }
+    }
+    true
+}

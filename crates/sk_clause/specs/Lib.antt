@@ -1,0 +1,5 @@
+pub mod Code
+pub mod Split
+pub mod Meaning
+pub mod Problem
+pub mod Values
