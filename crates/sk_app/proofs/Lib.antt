@@ -8,3 +8,7 @@ pub mod ShownLines
 pub mod ShownExprs
 pub mod ShownStmts
 pub mod Shown
+pub mod TypingFollows
+pub mod TypingLaws
+pub mod TypingScopes
+pub mod TypingSteps

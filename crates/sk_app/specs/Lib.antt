@@ -1,3 +1,4 @@
 pub mod Early
 pub mod Streams
 pub mod ReadStep
+pub mod Typing

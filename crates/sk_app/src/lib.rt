@@ -4,3 +4,4 @@
 mod output;
 mod text;
 mod printing;
+mod typing;

@@ -107,6 +107,11 @@ pub record MeansOperation (k : Class) (x y : Own) (u : Ty) (a b t : Option Ty) :
   pub right : b ≡ Some u
   pub result : t ≡ Some (result_of k u)
 
+-- A target is a variable; fields and elements come later.
+abbrev pub TargetForm : EForm → Type 0
+TargetForm (eform.Word x) = Unit {0}
+TargetForm _ = ⊥
+
 module _ (bounds : Bounds) (scope : List Variable) where
   abbrev pub eform_means : (X Y Z : Type 0) → (X → PEForm) → (Y → PExpr) → (Z → PField) → (X → EFormRule) → (Y → ExprRule) → (Z → FieldRule) → P.PEForm-F X Y Z → EFormRule
   eform_means X Y Z u v w f k n (P.Number i) t e = (e ≡ eform.Number i) × IsTrue (in_range bounds i) × HasType (number_takes i) t
@@ -134,11 +139,6 @@ module _ (bounds : Bounds) (scope : List Variable) where
   AnyAt t None None = Unit {0}
   AnyAt t (Some p) (Some e) = IsAt t p e
   AnyAt t _ _ = ⊥
-
-  -- A target is a variable; fields and elements come later.
-  abbrev pub TargetForm : EForm → Type 0
-  TargetForm (eform.Word x) = Unit {0}
-  TargetForm _ = ⊥
 
   pub record IsTarget (t : Ty) (p : PExpr) (e : Expr) : Type 0 where
     pub is_at : IsAt t p e
