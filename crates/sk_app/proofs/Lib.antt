@@ -12,3 +12,10 @@ pub mod TypingFollows
 pub mod TypingLaws
 pub mod TypingScopes
 pub mod TypingSteps
+pub mod ReadingLayers
+pub mod ReadingTokens
+pub mod ReadingExprs
+pub mod ReadingItems
+pub mod ReadingStmts
+pub mod ReadingTrees
+pub mod ReadsAgain

@@ -2,3 +2,4 @@ pub mod Early
 pub mod Streams
 pub mod ReadStep
 pub mod Typing
+pub mod Reading

@@ -5,3 +5,4 @@ mod output;
 mod text;
 mod printing;
 mod typing;
+mod reader;

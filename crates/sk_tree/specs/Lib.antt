@@ -8,3 +8,4 @@ pub mod Shapes
 pub mod Longest
 pub mod Tokens
 pub mod Names
+pub mod Spanless
