@@ -19,3 +19,12 @@ pub mod ReadingItems
 pub mod ReadingStmts
 pub mod ReadingTrees
 pub mod ReadsAgain
+pub mod FillingEarly
+pub mod FillingLaws
+pub mod RunningLaws
+pub mod SearchingDigits
+pub mod SearchingLaws
+pub mod RunningNumbers
+pub mod RunningFrame
+pub mod RunningEqual
+pub mod RunningRuns

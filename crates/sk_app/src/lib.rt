@@ -6,3 +6,6 @@ mod text;
 mod printing;
 mod typing;
 mod reader;
+mod filling;
+mod running;
+mod search;

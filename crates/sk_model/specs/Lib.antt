@@ -1,3 +1,7 @@
+pub mod Sites
+pub mod Expand
+pub mod Fill
+pub mod Nodes
 pub mod Step
 pub mod Values
 pub mod Eval
