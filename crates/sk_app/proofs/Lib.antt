@@ -11,6 +11,18 @@ pub mod ReadingItems
 pub mod ReadingStmts
 pub mod ReadingTrees
 pub mod ReadsAgain
+pub mod ShownMeans
+pub mod ShownLayers
+pub mod ShownSpell
+pub mod ShownText
+pub mod ShownLines
+pub mod ShownExprs
+pub mod ShownStmts
+pub mod Shown
+pub mod TypingFollows
+pub mod TypingLaws
+pub mod TypingScopes
+pub mod TypingSteps
 pub mod RunningLaws
 pub mod SearchingDigits
 pub mod SearchingLaws
@@ -18,7 +30,3 @@ pub mod RunningNumbers
 pub mod RunningFrame
 pub mod RunningEqual
 pub mod RunningRuns
-pub mod TypingFollows
-pub mod TypingLaws
-pub mod TypingScopes
-pub mod TypingSteps

@@ -6,8 +6,8 @@ pub mod Built
 pub mod ResultText
 pub mod Prepared
 pub mod Ends
-pub mod Filling
+pub mod Typing
 pub mod Reading
+pub mod Filling
 pub mod Searching
 pub mod Running
-pub mod Typing

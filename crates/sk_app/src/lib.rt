@@ -13,6 +13,8 @@ mod text;
 pub use ending::{Ending, message, status};
 pub use command::run;
 pub use std_streams::{StdSink, StdSource};
+mod typing;
+mod reader;
 mod filling;
 mod reader;
 mod running;

@@ -13,6 +13,7 @@ use Rattle.sk_tree.specs.declared.token.Token.{Token}
 use Rattle.sk_tree.specs.declared.token.Kind.{Kind}
 use Rattle.sk_tree.specs.declared.token.Kind.TheVariants as kind
 use Rattle.sk_tree.specs.declared.token.Mark.{Mark}
+use Rattle.sk_tree.specs.declared.token.Mark.TheVariants as mark
 use Rattle.sk_tree.specs.Spelling.{key_of, single_mark, double_mark}
 use Rattle.sk_tree.specs.Shapes.{is_blank, is_letter, is_digit, is_word_byte, if_all, mark_of, shape_of}
 use Rattle.sk_tree.specs.Longest.{Longest, Stands, opens_comment}
@@ -293,3 +294,28 @@ lex_two b c m text ks by two no_slash l =
     tt
     (λ at. refl)
     l
+
+-- nothing follows, or a space
+abbrev pub stays_slash : List ℕ → Bool
+stays_slash [] = true
+stays_slash (c ∷ text) = eqb c 32
+
+-- the mark / in front of a space
+pub lex_slash : (text : List ℕ) (ks : List Kind) → stays_slash text ≡ true → Lexes text ks → Lexes (47 ∷ text) (kind.Mark mark.Slash ∷ ks)
+unfolding shape_of is_blank is_letter is_digit
+lex_slash text ks ends l =
+    lex_piece (47 ∷ []) text (shape.Mark mark.Slash) (kind.Mark mark.Slash ∷ []) ks
+    (record { piece = record { within = omega arith; stands = refl; longest = past text ends }; comment = no text ends })
+    tt
+    (λ at. refl)
+    l
+  where
+    past : (text : List ℕ) → stays_slash text ≡ true → (n : ℕ) → 1 < n → n ≤ length (47 ∷ text) → shape_of (take n (47 ∷ text)) ≡ None
+    past text ends zero above inside = absurd (omega arith)
+    past text ends (suc zero) above inside = absurd (omega arith)
+    past [] ends (suc (suc n)) above inside = absurd (omega arith)
+    past (c ∷ text) ends (suc (suc n)) above inside = let e : 32 ≡ c = sym (eqb-true c 32 ends) in subst (λ b. shape_of (47 ∷ b ∷ take n text) ≡ None) e refl
+
+    no : (text : List ℕ) → stays_slash text ≡ true → opens_comment (47 ∷ text) ≡ true → shape.Mark mark.Slash ≡ shape.Comment
+    no [] ends h = cc
+    no (c ∷ text) ends h = let e : c ≡ 32 = eqb-true c 32 ends in let g = subst (λ b. opens_comment (47 ∷ b ∷ text) ≡ true) e h in cc

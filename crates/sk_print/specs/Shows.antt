@@ -1,5 +1,7 @@
 -- When a text shows a program: it reads as a tree that means the program, spans aside.
 use Rattle.std.specs.Prelude.{ℕ, ◌≡◌, List}
+-- When a text shows a program: its tokens read as a tree that means the program, spans aside.
+use Rattle.std.specs.Prelude.{◌≡◌, ℕ, List}
 use Rattle.sk_base.specs.declared.bounds.Bounds.{Bounds}
 use Rattle.sk_tree.specs.declared.token.Token.{Token}
 use Rattle.sk_tree.specs.declared.item.Tree.{Tree}
@@ -15,5 +17,6 @@ pub record Shows (text : List ℕ) (bounds : Bounds) (prog : Prog) : Type 0 wher
   pub typed : Prog
   pub divided : AreTokens text tokens
   pub reads : Reads tokens tree
+  pub lexed : AreTokens text tokens
   pub types : Types tree bounds typed
   pub same : spanless typed ≡ spanless prog
