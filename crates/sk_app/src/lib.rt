@@ -4,19 +4,17 @@
 mod command;
 mod complete;
 mod ending;
+mod filling;
 mod output;
 mod prepare;
 mod printing;
-mod std_streams;
-mod text;
-
-pub use ending::{Ending, message, status};
-pub use command::run;
-pub use std_streams::{StdSink, StdSource};
-mod typing;
-mod reader;
-mod filling;
 mod reader;
 mod running;
 mod search;
+mod std_streams;
+mod text;
 mod typing;
+
+pub use command::run;
+pub use ending::{Ending, message, status};
+pub use std_streams::{StdSink, StdSource};

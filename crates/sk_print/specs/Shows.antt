@@ -1,5 +1,3 @@
--- When a text shows a program: it reads as a tree that means the program, spans aside.
-use Rattle.std.specs.Prelude.{ℕ, ◌≡◌, List}
 -- When a text shows a program: its tokens read as a tree that means the program, spans aside.
 use Rattle.std.specs.Prelude.{◌≡◌, ℕ, List}
 use Rattle.sk_base.specs.declared.bounds.Bounds.{Bounds}
@@ -13,10 +11,9 @@ use Rattle.sk_types.specs.Types.{Types}
 
 pub record Shows (text : List ℕ) (bounds : Bounds) (prog : Prog) : Type 0 where
   pub tokens : List Token
-  pub tree : Tree
-  pub typed : Prog
-  pub divided : AreTokens text tokens
-  pub reads : Reads tokens tree
   pub lexed : AreTokens text tokens
+  pub tree : Tree
+  pub reads : Reads tokens tree
+  pub typed : Prog
   pub types : Types tree bounds typed
   pub same : spanless typed ≡ spanless prog
