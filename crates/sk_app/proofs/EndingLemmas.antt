@@ -22,8 +22,8 @@ unbuilt_of (Some text) h = h.found
 -- A text without a completion is taken, so what holds of those that are not is of no matter.
 pub nothing_is_built : (left : Option (List ℕ)) (out : Vec ℕ Global) (P : List ℕ → Type 0) → IfSome left (Finds (found.Nothing out)) → IfSome left (λ text. length text ≤ most_bytes → IsUnbuilt text → P text)
 nothing_is_built None out P h = tt
-nothing_is_built (Some text) out P h = λ short unbuilt. absurd (unbuilt h.found.e h.found.built)
+nothing_is_built (Some text) out P h = λ short unbuilt. absurd (unbuilt h.found.e h.found.only.built)
 
 pub completion_is_built : (left : Option (List ℕ)) (out : Vec ℕ Global) (P : List ℕ → Type 0) → IfSome left (Finds (found.Completion out)) → IfSome left (λ text. length text ≤ most_bytes → IsUnbuilt text → P text)
 completion_is_built None out P h = tt
-completion_is_built (Some text) out P h = λ short unbuilt. absurd (unbuilt h.found.e h.found.built)
+completion_is_built (Some text) out P h = λ short unbuilt. absurd (unbuilt h.found.e h.found.only.built)

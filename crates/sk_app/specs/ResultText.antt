@@ -7,7 +7,7 @@ use Rattle.sk_model.specs.Fill.{InRange, fill}
 use Rattle.sk_model.specs.Meets.{Meets, IsGreatestCost}
 use Rattle.sk_print.specs.Layout.{layout}
 use Rattle.sk_print.specs.Shows.{Shows}
-use Rattle.sk_app.specs.Built.{IsBuilt, default_bounds}
+use Rattle.sk_app.specs.Built.{IsOnly, default_bounds}
 
 -- each number with a space before it
 abbrev pub spaced : List ℕ → List ℕ
@@ -33,8 +33,7 @@ pub record IsCompletion (text out : List ℕ) : Type 0 where
   pub e : Expanded
   pub a : Choice
   pub value : ℕ
-  pub built : IsBuilt text e
-  pub only : (f : Expanded) → IsBuilt text f → f ≡ e
+  pub only : IsOnly text e
   pub in_range : InRange e a
   pub shows : Shows (layout (fill e a)) default_bounds (fill e a)
   pub meets : Meets (fill e a) default_bounds
@@ -45,7 +44,6 @@ pub record IsCompletion (text out : List ℕ) : Type 0 where
 -- The result text says that there is no completion, and no filling in range meets its harness.
 pub record IsNone (text out : List ℕ) : Type 0 where
   pub e : Expanded
-  pub built : IsBuilt text e
-  pub only : (f : Expanded) → IsBuilt text f → f ≡ e
+  pub only : IsOnly text e
   pub none : (b : Choice) → InRange e b → Meets (fill e b) default_bounds → ⊥
   pub is : out ≡ none_text

@@ -1,17 +1,163 @@
 //! The completion of a text.
 
-ghost use Rattle.std.specs.Prelude.{◌≤◌, length, IfOk};
+ghost use Rattle.std.specs.Prelude.{ℕ, ◌≡◌, ◌≤◌, ◌↔◌, ◌++◌, Some, length, IsTrue, IsNone, IfOk, OnOk, IfSome};
+ghost use Rattle.sk_base.specs.declared.bounds.Bounds.{Bounds};
+ghost use Rattle.sk_tree.specs.declared.item.Tree.{Tree};
+ghost use Rattle.sk_prog.specs.declared.prog.Prog.{Prog};
+ghost use Rattle.sk_model.specs.Fill.{InRange, fill};
 ghost use Rattle.sk_app.specs.Streams.{most_bytes};
-ghost use Rattle.sk_app.specs.Prepared.{IsFound};
+ghost use Rattle.sk_app.specs.Built.{default_bounds, bits_count, most_bits, IsTree, IsTyped, IsBuilt, IsOnly};
+ghost use Rattle.sk_app.specs.ResultText.{spaced, completion_lines, completed_text, none_text};
+ghost use Rattle.sk_app.specs.Filling.{IsEarlyExpansion};
+ghost use Rattle.sk_app.specs.Prepared.{IsFound, IsUnbuilt};
 
+use crate::filling::{expand_early, fill_early, is_within};
 use crate::prepare::Found;
+use crate::printing::print_early;
+use crate::reader::read_early;
+use crate::search::search;
+use crate::typing::check_early;
+use sk_base::{Bounds, push_number};
+use sk_lexer::{LexFault, tokens};
+use sk_model::{Choice, Expanded};
+use sk_prog::Prog;
+use sk_tree::Tree;
 use std::alloc::{AllocError, Global};
 
+/// The greatest number of nodes of an expansion that is taken so far.
+const MOST_NODES: usize = 4096;
+
+/// The greatest number of bits of holes and arguments that are tried so far.
+const MOST_BITS: usize = 15;
+
+/// The bounds that hold where nothing sets them.
+fn default_bounds() -> Bounds
+    ensures { result ≡ default_bounds }
+{
+    Bounds {
+        int_bits: 16,
+        cbits: 5,
+        inbits: 5,
+        unroll: 8,
+        inline_amnt: 5,
+    }
+}
+
+/// The early tree of a text, or none.
+fn tree_of(alloc: Global, text: &[u8]) -> Result<Option<Tree>, AllocError>
+    requires { length text.now ≤ most_bytes }
+    ensures found { IfOk result (λ o. IfSome o (IsTree text.now)) }
+    ensures only { IfOk result (λ o. (tree : Tree) → IsTree text.now tree → o ≡ Some tree) }
+{
+    match tokens(alloc, text) {
+        Ok(tokens) => {
+            let tree = read_early(alloc, tokens.as_slice())?;
+            Ok(tree)
+        }
+        Err(LexFault::Memory) => Err(AllocError),
+        Err(_) => Ok(None),
+    }
+}
+
+/// The program that a text means, or none.
+fn prog_of(alloc: Global, text: &[u8]) -> Result<Option<Prog>, AllocError>
+    requires { length text.now ≤ most_bytes }
+    ensures found { IfOk result (λ o. IfSome o (IsTyped text.now)) }
+    ensures only { IfOk result (λ o. (prog : Prog) → IsTyped text.now prog → o ≡ Some prog) }
+{
+    let bounds = default_bounds();
+    match tree_of(alloc, text)? {
+        Some(tree) => {
+            let prog = check_early(alloc, &tree, &bounds)?;
+            Ok(prog)
+        }
+        None => Ok(None),
+    }
+}
+
+/// How many bits the holes and the arguments of an early expansion have, or more than are tried.
+fn has_few_bits(expanded: &Expanded, bounds: &Bounds) -> bool
+    requires { IsEarlyExpansion expanded.now bounds.now }
+    ensures { IsTrue result ↔ (bits_count expanded.now bounds.now ≤ most_bits) }
+{
+    let holes = expanded.sites.len() as u128 * bounds.cbits as u128;
+    let mut params = 0u128;
+    for fun in expanded.prog.funs.as_slice() {
+        params += fun.params.len() as u128 * bounds.inbits as u128;
+    }
+    holes + params <= MOST_BITS as u128
+}
+
+/// The expansion of a text that is taken, or none.
+fn built(alloc: Global, text: &[u8]) -> Result<Option<Expanded>, AllocError>
+    requires { length text.now ≤ most_bytes }
+    ensures found { IfOk result (λ o. IfSome o (IsOnly text.now)) }
+    ensures none { IfOk result (λ o. IsNone o → IsUnbuilt text.now) }
+{
+    let bounds = default_bounds();
+    let Some(prog) = prog_of(alloc, text)? else {
+        return Ok(None);
+    };
+    let expanded = expand_early(alloc, prog, &bounds)?;
+    if is_within(&expanded.prog, MOST_NODES) && has_few_bits(&expanded, &bounds) {
+        Ok(Some(expanded))
+    } else {
+        Ok(None)
+    }
+}
+
+/// Appends each number with a space before it.
+fn push_spaced(out: &mut Vec<u8>, numbers: &[u64]) -> Result<(), AllocError>
+    ensures { OnOk result (out.new.items ≡ out.old.items ++ spaced numbers.now) }
+{
+    let mut rest = numbers;
+    while let [number, after @ ..] = rest {
+        out.push(b' ')?;
+        push_number(out, *number)?;
+        rest = after;
+    }
+    Ok(())
+}
+
+/// Appends the lines of a completion of value 0.
+fn push_completion(out: &mut Vec<u8>, choice: &Choice) -> Result<(), AllocError>
+    ensures { OnOk result (out.new.items ≡ out.old.items ++ completion_lines choice.now 0) }
+{
+    out.extend_from_slice(b"//@ completion\n//@ value 0\n//@ holes")?;
+    push_spaced(out, choice.values.as_slice())?;
+    out.push(b'\n')?;
+    Ok(())
+}
+
+/// The result text of a choice: the filled program and the lines of the completion.
+fn completed(alloc: Global, expanded: &Expanded, choice: &Choice) -> Result<Vec<u8>, AllocError>
+    requires expansion { IsEarlyExpansion expanded.now default_bounds }
+    requires range { InRange expanded.now choice.now }
+    ensures { IfOk result (λ out. out.items ≡ completed_text expanded.now choice.now 0) }
+{
+    let filled = fill_early(alloc, expanded, choice)?;
+    let mut out = print_early(alloc, &filled)?;
+    push_completion(&mut out, choice)?;
+    Ok(out)
+}
+
 /// Completes a text, by trying every filling on every input.
-#[tactic(auto, using(crate::proofs::CostLaws::costs_nothing))]
 pub fn complete(alloc: Global, text: &[u8]) -> Result<Found, AllocError>
     requires { length text.now ≤ most_bytes }
     ensures { IfOk result (λ found. IsFound found text.now) }
 {
-    Err(AllocError)
+    let bounds = default_bounds();
+    let Some(expanded) = built(alloc, text)? else {
+        return Ok(Found::NotBuilt);
+    };
+    match search(alloc, &expanded, &bounds)? {
+        Some(choice) => {
+            let out = completed(alloc, &expanded, &choice)?;
+            Ok(Found::Completion(out))
+        }
+        None => {
+            let out = Vec::from_slice(alloc, b"//@ none\n")?;
+            Ok(Found::Nothing(out))
+        }
+    }
 }
