@@ -2,3 +2,5 @@
 #![tactic(auto)]
 
 mod running;
+#[cfg(test)]
+mod running_tests;
