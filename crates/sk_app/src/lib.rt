@@ -4,3 +4,5 @@
 mod filling;
 mod running;
 mod search;
+#[cfg(test)]
+mod search_tests;
