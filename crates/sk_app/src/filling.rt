@@ -91,8 +91,8 @@ fn funs_sites(alloc: Global, funs: &[Fun], bounds: &Bounds) -> Result<Vec<Site>,
     Ok(sites)
 }
 
-#[tactic(auto, using(crate::proofs::FillingLaws::prog_is_narrow))]
 /// The expansion of an early program, which stands for itself.
+#[tactic(auto, using(crate::proofs::FillingLaws::prog_is_narrow))]
 pub fn expand_early(alloc: Global, prog: Prog, bounds: &Bounds) -> Result<Expanded, AllocError>
     requires early { IsTrue (early_prog prog) }
     requires narrow { bounds.now.cbits ≤ 31 }

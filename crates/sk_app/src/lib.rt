@@ -20,3 +20,4 @@ pub use ending::{Ending, message, status};
 pub use std_streams::{StdSink, StdSource};
 #[cfg(test)]
 mod running_tests;
+mod search_tests;
