@@ -203,7 +203,7 @@ module _ (bounds : Bounds) (scope : List Variable) where
   abbrev pub FieldMeans : PField → FieldRule
   FieldMeans = rec-PField EFormRule ExprRule FieldRule (eform_means bounds scope) (expr_means bounds scope) (field_means bounds scope)
 
-  abbrev rule : PE.PEForm-F PEForm PExpr PField → EFormRule
+  abbrev pub rule : PE.PEForm-F PEForm PExpr PField → EFormRule
   rule l = eform_means bounds scope PEForm PExpr PField (λ y. y) (λ y. y) (λ y. y) FormMeans (Means bounds scope) FieldMeans l
 
   pub form_means_are : (l : PE.PEForm-F PEForm PExpr PField) → FormMeans (roll-PEForm l) ≡ rule l

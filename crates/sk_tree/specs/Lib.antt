@@ -4,3 +4,4 @@ pub mod Placed
 pub mod Depth
 pub mod Reads
 pub mod Names
+pub mod Spanless
