@@ -5,3 +5,4 @@ pub mod TypingSteps
 pub mod TypingFuns
 pub mod TypingEarly
 pub mod TypingChecks
+pub mod TypesAgain

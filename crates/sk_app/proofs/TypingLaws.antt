@@ -139,7 +139,7 @@ both a b h k = rw (h, k) refl
 module _ (bounds : Bounds) (scope : List Variable) where
   -- the layers of the function
 
-  abbrev fields : NewField → Unit {0}
+  abbrev pub fields : NewField → Unit {0}
   fields = fold-NewField FormPart Part (Unit {0}) (eform_part bounds scope) (expr_part bounds scope) (λ x. tt)
 
   pub form_is : (l : E.EForm-F EForm Expr NewField) → form_part bounds scope (roll-EForm l) ≡ eform_part bounds scope (map-EForm EForm Expr NewField FormPart Part (Unit {0}) (form_part bounds scope) (part bounds scope) fields l)
