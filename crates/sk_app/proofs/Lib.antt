@@ -30,3 +30,7 @@ pub mod RunningNumbers
 pub mod RunningFrame
 pub mod RunningEqual
 pub mod RunningRuns
+pub mod TypingFuns
+pub mod TypingEarly
+pub mod TypingChecks
+pub mod TypesAgain

@@ -306,6 +306,13 @@ result_early None None h m = refl
 result_early None (Some t) h m = absurd m
 result_early (Some y) t h m = cc
 
+slots_hold : (f : Fun) → f.slots ≡ most f.body (parameters f.params) → (length (after_all f.body (parameters f.params)) ≤ f.slots) × (length f.params ≤ f.slots)
+slots_hold f is =
+    let count : f.slots ≡ length (after_all f.body (parameters f.params)) = is ∙ most_is f.body (parameters f.params) in
+    let first : length (parameters f.params) ≤ length (after_all f.body (parameters f.params)) = longer (parameters f.params) (after_all f.body (parameters f.params)) (adds_all f.body (parameters f.params)) in
+    let same : length (parameters f.params) ≡ length f.params = length-map f.params _ in
+    (omega arith, omega arith)
+
 module _ (bounds : Bounds) where
   fun_early : (g : FunItem) (f : Fun) → FunMeans bounds g f → early_fun g ≡ true → early_pfun f ≡ true
   fun_early g f m h =
@@ -318,6 +325,8 @@ module _ (bounds : Bounds) where
       let first = longer (parameters f.params) (after_all f.body (parameters f.params)) (adds_all f.body (parameters f.params)) in
       let same : length (parameters f.params) ≡ length f.params = length-map f.params _ in
       both _ _ (both _ _ (both _ _ (both _ _ (both _ _ (subst (λ k. is_pharness k ≡ true) (sym m.kind) (harness_early g.kind d.0)) (result_early g.result f.result d.1 m.result)) (params_early g.params f.params m.params c.1)) (ap is_absent m.implements.1)) (le-leb (length f.params) f.slots (omega arith))) (all_early f.slots bounds 0 (parameters f.params) f.body g.body m.body a.1 room)
+      let slots = slots_hold f m.slots in
+      both _ _ (both _ _ (both _ _ (both _ _ (both _ _ (subst (λ k. is_pharness k ≡ true) (sym m.kind) (harness_early g.kind d.0)) (result_early g.result f.result d.1 m.result)) (params_early g.params f.params m.params c.1)) (ap is_absent m.implements.1)) (le-leb (length f.params) f.slots slots.1)) (all_early f.slots bounds 0 (parameters f.params) f.body g.body m.body a.1 slots.0)
 
   items_early : (items : List Item) (fs : List Fun) → ItemsMean bounds items fs → early_items items ≡ true → early_funs fs ≡ true
   items_early (item.Fun g ∷ []) (f ∷ []) m h = fun_early g f m.0 h

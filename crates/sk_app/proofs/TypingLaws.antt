@@ -139,7 +139,7 @@ both a b h k = rw (h, k) refl
 module _ (bounds : Bounds) (scope : List Variable) where
   -- the layers of the function
 
-  abbrev fields : NewField → Unit {0}
+  abbrev pub fields : NewField → Unit {0}
   fields = fold-NewField FormPart Part (Unit {0}) (eform_part bounds scope) (expr_part bounds scope) (λ x. tt)
 
   pub form_is : (l : E.EForm-F EForm Expr NewField) → form_part bounds scope (roll-EForm l) ≡ eform_part bounds scope (map-EForm EForm Expr NewField FormPart Part (Unit {0}) (form_part bounds scope) (part bounds scope) fields l)
@@ -203,7 +203,7 @@ module _ (bounds : Bounds) (scope : List Variable) where
   abbrev pub FieldMeans : PField → FieldRule
   FieldMeans = rec-PField EFormRule ExprRule FieldRule (eform_means bounds scope) (expr_means bounds scope) (field_means bounds scope)
 
-  abbrev rule : PE.PEForm-F PEForm PExpr PField → EFormRule
+  abbrev pub rule : PE.PEForm-F PEForm PExpr PField → EFormRule
   rule l = eform_means bounds scope PEForm PExpr PField (λ y. y) (λ y. y) (λ y. y) FormMeans (Means bounds scope) FieldMeans l
 
   pub form_means_are : (l : PE.PEForm-F PEForm PExpr PField) → FormMeans (roll-PEForm l) ≡ rule l

@@ -75,7 +75,7 @@ module _ (bounds : Bounds) where
   abbrev pub ActMeans : PForm → FormRule
   ActMeans = rec-PForm FormRule StmtRule (form_means bounds) (stmt_means bounds)
 
-  abbrev act_rule : S.PForm-F PForm PStmt → FormRule
+  abbrev pub act_rule : S.PForm-F PForm PStmt → FormRule
   act_rule l = form_means bounds PForm PStmt (λ y. y) (λ y. y) ActMeans (StmtMeans bounds) l
 
   pub act_means_are : (l : S.PForm-F PForm PStmt) → ActMeans (roll-PForm l) ≡ act_rule l

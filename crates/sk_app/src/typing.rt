@@ -3,7 +3,9 @@
 ghost use Rattle.std.specs.Prelude.{◌≡◌, ◌≤◌, Option, Some, None, List, [], ◌∷◌, ◌++◌, map, length, IfOk, IfSome, IsTrue};
 ghost use Rattle.sk_app.specs.declared.typing.Fault.TheVariants.{Memory, Refused};
 ghost use Rattle.sk_app.specs.Typing.{value_at, form_part, part, typed, number_at, hole_at, name_at, wanted, operands_at, IsWidth, any_at, base_ty, ty_of, any_ty, Enters, declare, declare_names, assign, assign_to, make_form, make, make_all, param_of, params_of, none_by_ref, body_of, plain_fun, fun_of, items_of, prog_of, Gives, Leaves};
-
+ghost use Rattle.sk_prog.specs.declared.prog.Prog.{Prog};
+ghost use Rattle.sk_types.specs.Types.{Types};
+ghost use Rattle.sk_app.specs.Early.{is_early, early_prog};
 ghost use Rattle.sk_types.specs.Rules.{class_of, result_of};
 ghost use Rattle.sk_types.specs.Scope.{lookup};
 ghost use Rattle.std.specs.List.{list_any};
@@ -15,10 +17,12 @@ use sk_base::{Bounds, Boxed, List, Name, Span};
 use sk_prog::{
     BinOp, Elem, Fun, FunKind as PFunKind, PEForm, PExpr, PForm, PStmt, ParamDef, Prog, Ty,
 };
-use sk_tree::{Base, Declared, EForm, Expr, Form, FunItem, FunKind, Item, Param, Stmt, Tree, TyTree};
+use sk_tree::{
+    Base, Declared, EForm, Expr, Form, FunItem, FunKind, Item, Param, Stmt, Tree, TyTree,
+};
 use sk_types::{
-    Class, Own, Place, Variable, class_of, fits, hole_takes, in_range, is_taken, lookup, loose_takes, number_own,
-    number_takes, operand, operator_of, result_of, result_own,
+    Class, Own, Place, Variable, class_of, fits, hole_takes, in_range, is_taken, lookup,
+    loose_takes, number_own, number_takes, operand, operator_of, result_of, result_own,
 };
 use std::alloc::{AllocError, AllocFailed, Global};
 
@@ -44,7 +48,6 @@ impl<T: Drop> From<AllocFailed<T>> for Fault {
         Fault::Memory
     }
 }
-
 
 fn name_own(place: Option<Place>) -> Own
     ensures { result ≡ name_own place }
@@ -255,13 +258,7 @@ fn form_at(
 
 /// An expression at a type that its place wants.
 #[cycle(typing)]
-fn at(
-    alloc: Global,
-    bounds: &Bounds,
-    scope: &[Variable],
-    ty: Ty,
-    e: &Expr,
-) -> Result<PExpr, Fault>
+fn at(alloc: Global, bounds: &Bounds, scope: &[Variable], ty: Ty, e: &Expr) -> Result<PExpr, Fault>
     requires { IsWidth bounds.now }
     ensures { Gives result ((part bounds.now scope.now e.now).at ty) }
 {
@@ -514,11 +511,7 @@ fn params_of(alloc: Global, params: &[Param]) -> Result<List<ParamDef>, Fault>
 
 /// The parameters are the first variables of their function.
 #[tactic(auto, using(crate::proofs::TypingFollows::split_at, crate::proofs::TypingFollows::one_more_variable))]
-fn enter_all(
-    alloc: Global,
-    scope: &mut Vec<Variable>,
-    params: &[ParamDef],
-) -> Result<(), Fault>
+fn enter_all(alloc: Global, scope: &mut Vec<Variable>, params: &[ParamDef]) -> Result<(), Fault>
     ensures { Enters result scope.new.items (scope.old.items ++ parameters params.now) }
 {
     for param in params {
@@ -667,5 +660,30 @@ fn items_of(alloc: Global, bounds: &Bounds, items: &[Item]) -> Result<Prog, Faul
             Ok(prog)
         }
         _ => Err(Fault::Refused),
+    }
+}
+
+fn prog_of(alloc: Global, bounds: &Bounds, tree: &Tree) -> Result<Prog, Fault>
+    requires { IsWidth bounds.now }
+    ensures { Gives result (prog_of bounds.now tree.now) }
+{
+    let prog = items_of(alloc, bounds, tree.items.as_slice())?;
+    Ok(prog)
+}
+
+/// The typed program that an early tree means: none exactly where no program means it, by the rules
+/// of names and types. The width of `int`, `bounds.int_bits`, is from 2 to 32 bits.
+#[tactic(auto, using(crate::proofs::TypingChecks::check_once, crate::proofs::TypingChecks::check_none))]
+pub fn check_early(alloc: Global, tree: &Tree, bounds: &Bounds) -> Result<Option<Prog>, AllocError>
+    requires early { IsTrue (is_early tree.now) }
+    requires at_least { 2 ≤ bounds.now.int_bits }
+    requires at_most { bounds.now.int_bits ≤ 32 }
+    ensures found { IfOk result (λ o. IfSome o (λ prog. Types tree.now bounds.now prog × IsTrue (early_prog prog))) }
+    ensures only { IfOk result (λ o. (prog : Prog) → Types tree.now bounds.now prog → o ≡ Some prog) }
+{
+    match prog_of(alloc, bounds, tree) {
+        Ok(prog) => Ok(Some(prog)),
+        Err(Fault::Refused) => Ok(None),
+        Err(Fault::Memory) => Err(AllocError),
     }
 }
