@@ -167,10 +167,10 @@ quiet_if : {A : Type 0} (b : Bool) (m n : Comp A) → Quiet m → Quiet n → Qu
 quiet_if true m n qm qn = qm
 quiet_if false m n qm qn = qn
 
-some_is : {A : Type 0} {x y : A} → ◌≡◌ {A = Option A} (Some x) (Some y) → x ≡ y
+pub some_is : {A : Type 0} {x y : A} → ◌≡◌ {A = Option A} (Some x) (Some y) → x ≡ y
 some_is h = cc
 
-none_is : {A : Type 0} {x : A} → ◌≡◌ {A = Option A} None (Some x) → ⊥
+pub none_is : {A : Type 0} {x : A} → ◌≡◌ {A = Option A} None (Some x) → ⊥
 none_is h = cc
 
 early_fun_at : (funs : List Fun) (i : ℕ) (f : Fun) → IsTrue (early_funs funs) → slice_get funs i ≡ Some f → IsTrue (early_pfun f)
@@ -179,7 +179,7 @@ early_fun_at (g ∷ []) zero f h is = subst (λ x. IsTrue (early_pfun x)) (some_
 early_fun_at (g ∷ []) (suc i) f h is = absurd (none_is is)
 early_fun_at (g ∷ g' ∷ gs) i f h is = absurd (false≢true h)
 
-early_funs_of : (p : Prog) → IsTrue (early_prog p) → IsTrue (early_funs p.funs)
+pub early_funs_of : (p : Prog) → IsTrue (early_prog p) → IsTrue (early_funs p.funs)
 early_funs_of p h = (and_parts _ (early_funs p.funs) h).1
 
 outcome_costs : (m : Step Called) → Keeps (record { heap = []; slots = []; cost = 0 }) m → cost_of (outcome_of m) ≡ 0

@@ -10,7 +10,6 @@ pub mod ReadingExprs
 pub mod ReadingItems
 pub mod ReadingStmts
 pub mod ReadingTrees
-pub mod ReadsAgain
 pub mod ShownMeans
 pub mod ShownLayers
 pub mod ShownSpell
@@ -33,4 +32,7 @@ pub mod RunningRuns
 pub mod TypingFuns
 pub mod TypingEarly
 pub mod TypingChecks
-pub mod TypesAgain
+pub mod ShownFilled
+pub mod ShownFilling
+pub mod ShownNames
+pub mod CompleteLaws

@@ -1,7 +1,7 @@
 -- The layout of an early program shows it.
 use Rattle.std.proofs.Common.{◌≡◌, ℕ, suc, max, ◌≤◌, Bool, true, false, ◌&&◌, not, List, [], ◌∷◌, ◌++◌, Option, Some, None, map, refl, sym, ap, ◌∙◌, subst, append_assoc, append-nil}
 use Rattle.std.specs.Prelude.{IsTrue}
-use Rattle.std.specs.List.{flat_map, join_by, list_all}
+use Rattle.std.specs.List.{flat_map, list_all}
 use Rattle.std.proofs.lemmas.Bool.{and_parts, and_from, false≢true}
 use Rattle.sk_base.specs.declared.bounds.Bounds.{Bounds}
 use Rattle.sk_tree.specs.declared.token.Token.{Token}
@@ -18,21 +18,20 @@ use Rattle.sk_tree.specs.declared.item.FunItem.{FunItem}
 use Rattle.sk_tree.specs.declared.item.Item.{Item}
 use Rattle.sk_tree.specs.declared.item.Item.TheVariants as item
 use Rattle.sk_tree.specs.declared.item.Tree.{Tree}
-use Rattle.sk_tree.specs.Phrase.{Phrase, Nothing, One, Sign, Keyword, Each, Behind, Between, Perhaps, ◌▸◌}
-use Rattle.sk_tree.specs.Spelt.{SpeltTy, SpeltStmt, SpeltRef, SpeltParam, SpeltKind, SpeltResult, SpeltFun, SpeltItem, SpeltTree}
+use Rattle.sk_tree.specs.Phrase.{Phrase, One, Sign, Keyword, Each, Behind, Between, Perhaps, ◌▸◌}
+use Rattle.sk_tree.specs.Spelt.{SpeltStmt, SpeltRef, SpeltParam, SpeltKind, SpeltResult, SpeltFun, SpeltItem, SpeltTree}
 use Rattle.sk_tree.specs.Placed.{stmt_placed, item_placed, tree_placed}
 use Rattle.sk_tree.specs.Depth.{deepest, any_depth, ty_depth, stmt_depth, param_depth, fun_depth, item_depth, tree_depth}
-use Rattle.sk_tree.specs.Reads.{Reads, most_levels}
-use Rattle.sk_tree.specs.Tokens.{AreTokens, tokens_of}
-use Rattle.sk_tree.specs.Names.{item_names, all_names}
+use Rattle.sk_tree.specs.Reads.{most_levels}
+use Rattle.sk_tree.specs.Tokens.{tokens_of}
+use Rattle.sk_tree.specs.Names.{all_names}
 use Rattle.sk_prog.specs.declared.ty.Ty.{Ty}
 use Rattle.sk_prog.specs.declared.stmt.PStmt.{PStmt}
 use Rattle.sk_prog.specs.declared.prog.FunKind.{FunKind as PFunKind}
-use Rattle.sk_prog.specs.declared.prog.FunKind.TheVariants as pkind
 use Rattle.sk_prog.specs.declared.prog.ParamDef.{ParamDef}
 use Rattle.sk_prog.specs.declared.prog.Fun.{Fun}
 use Rattle.sk_prog.specs.declared.prog.Prog.{Prog}
-use Rattle.sk_prog.specs.Spanless.{spanless_const, spanless_stmt, spanless_fun, spanless}
+use Rattle.sk_prog.specs.Spanless.{spanless_const, spanless_stmt, spanless_fun}
 use Rattle.sk_types.specs.declared.scope.Variable.{Variable}
 use Rattle.sk_types.specs.Types.{after, most_within, most, AllMean, ParamMeans, ParamsMean, parameters, kind_of, ResultMeans, FunMeans, ItemsMean, all_distinct, Types}
 use Rattle.sk_print.specs.Layout.{layout}
@@ -108,8 +107,13 @@ param_again p d means early ts ks h =
       rest = b.rest;
       split = a.split ∙ ap (λ z. a.token ∷ z) b.split;
       left = b.left;
-      spelt = ([], a.token ∷ b.token ∷ [], refl, ref_spelt p.by_ref (subst (λ v. IsTrue (not v)) means.by_ref are.0),
-      (a.token ∷ [], b.token ∷ [], refl, int_spelt p.ty.base p.ty.lengths d.ty (a.token ∷ []) means.type are.1 a.one, b.one));
+      spelt = (
+        [],
+        a.token ∷ b.token ∷ [],
+        refl,
+        ref_spelt p.by_ref (subst (λ v. IsTrue (not v)) means.by_ref are.0),
+        (a.token ∷ [], b.token ∷ [], refl, int_spelt p.ty.base p.ty.lengths d.ty (a.token ∷ []) means.type are.1 a.one, b.one),
+      );
     }
 
 abbrev comma_spell : Param → List Kind
@@ -213,14 +217,49 @@ fun_again bounds g f means early ts ks h =
       rest = t7.rest;
       split = t1.split ∙ ap (λ z. t1.token ∷ z) (t2.split ∙ ap (λ z. t2.token ∷ z) (t3.split ∙ ap (λ z. t3.token ∷ z) (t4.split ∙ ap (λ z. t4.token ∷ z) s4)));
       left = t7.left;
-      spelt = (t1.token ∷ [], f1, refl, kind_spelt g.kind f.kind (t1.token ∷ []) means.kind are.kind t1.one,
-      (t2.token ∷ [], f2, refl, result_spelt g.result f.result (t2.token ∷ []) means.result are.result t2.one,
-      (t3.token ∷ [], f3, refl, t3.one,
-      (t4.token ∷ [], f4, refl, t4.one,
-      (ps.front, f5, refl, ps.spelt,
-      (t5.token ∷ [], f6, refl, t5.one,
-      ([], f6, refl, none_spelt (λ x. Keyword key.Implements ▸ One (kind.Word x)) g.implements means.implements.0,
-      (t6.token ∷ [], f7, refl, t6.one, (ss.front, t7.token ∷ [], refl, ss.spelt, t7.one)))))))));
+      spelt = (
+        t1.token ∷ [],
+        f1,
+        refl,
+        kind_spelt g.kind f.kind (t1.token ∷ []) means.kind are.kind t1.one,
+        (
+          t2.token ∷ [],
+          f2,
+          refl,
+          result_spelt g.result f.result (t2.token ∷ []) means.result are.result t2.one,
+          (
+            t3.token ∷ [],
+            f3,
+            refl,
+            t3.one,
+            (
+              t4.token ∷ [],
+              f4,
+              refl,
+              t4.one,
+              (
+                ps.front,
+                f5,
+                refl,
+                ps.spelt,
+                (
+                  t5.token ∷ [],
+                  f6,
+                  refl,
+                  t5.one,
+                  (
+                    [],
+                    f6,
+                    refl,
+                    none_spelt (λ x. Keyword key.Implements ▸ One (kind.Word x)) g.implements means.implements.0,
+                    (t6.token ∷ [], f7, refl, t6.one, (ss.front, t7.token ∷ [], refl, ss.spelt, t7.one)),
+                  ),
+                ),
+              ),
+            ),
+          ),
+        ),
+      );
       places = ss.places;
       depth = ap (λ n. suc (max (any_depth ty_depth g.result) (max (deepest (map param_depth g.params)) n))) ss.depth;
       means = record {
@@ -276,7 +315,7 @@ items_again bounds (item.Fun g ∷ gs) (f ∷ fs) means early ts ks h =
     }
 items_again bounds _ _ means early ts ks h = absurd means
 
-early_all : (fs : List Fun) → IsTrue (early_funs fs) → IsTrue (list_all early_pfun fs)
+pub early_all : (fs : List Fun) → IsTrue (early_funs fs) → IsTrue (list_all early_pfun fs)
 early_all [] h = absurd (false≢true h)
 early_all (f ∷ []) h = and_from (early_pfun f) true h refl
 early_all (f ∷ g ∷ fs) h = absurd (false≢true h)

@@ -14,9 +14,9 @@ use Rattle.sk_tree.specs.declared.expr.EForm.TheVariants as eform
 use Rattle.sk_tree.specs.declared.expr.NewField.{NewField}
 use Rattle.sk_tree.specs.declared.expr.EForm.TheOpen as E
 use Rattle.sk_tree.specs.declared.expr.EForm.TheViews.{roll-EForm}
-use Rattle.sk_tree.specs.declared.expr.EForm.TheFolds.{map-EForm, rec-EForm, rec-Expr, rec-NewField, rec-roll-EForm, rec-roll-Expr}
-use Rattle.sk_tree.specs.Phrase.{Phrase, One, Sign, span_of}
-use Rattle.sk_tree.specs.Spelt.{Spans, eform_spelt, expr_spelt, field_spelt, SpeltExpr}
+use Rattle.sk_tree.specs.declared.expr.EForm.TheFolds.{map-EForm, rec-EForm, rec-NewField, rec-roll-EForm, rec-roll-Expr}
+use Rattle.sk_tree.specs.Phrase.{Phrase, One, span_of}
+use Rattle.sk_tree.specs.Spelt.{eform_spelt, expr_spelt, field_spelt, SpeltExpr}
 use Rattle.sk_tree.specs.Placed.{Place, eform_place, expr_place, field_placed, place_of, level_of, between}
 use Rattle.sk_tree.specs.Depth.{eform_depth, expr_depth}
 use Rattle.sk_prog.specs.declared.ty.Ty.{Ty}
@@ -81,14 +81,14 @@ pub record Alike (scope : List Variable) (x e : Expr) : Type 0 where
   pub place : place_of x ≡ place_of e
   pub depth : expr_depth x ≡ expr_depth e
   pub owns : own scope x ≡ own scope e
-  pub target : (bounds : Bounds) → TargetForm bounds scope e.form → TargetForm bounds scope x.form
+  pub target : TargetForm e.form → TargetForm x.form
 
 alike_number : (scope : List Variable) (s r : Span) (n : ℕ) → Alike scope (expr s (eform.Number n)) (expr r (eform.Number n))
 alike_number scope s r n = record {
   place = of_number Place Place Bool eform_place expr_place field_placed s n ∙ sym (of_number Place Place Bool eform_place expr_place field_placed r n);
   depth = of_number ℕ ℕ ℕ eform_depth (λ x. suc x.form) (λ x. suc x.value) s n ∙ sym (of_number ℕ ℕ ℕ eform_depth (λ x. suc x.form) (λ x. suc x.value) r n);
   owns = of_number Own Own (Unit {0}) (eform_own scope) (λ x. x.form) (λ x. tt) s n ∙ sym (of_number Own Own (Unit {0}) (eform_own scope) (λ x. x.form) (λ x. tt) r n);
-  target = λ bounds h. h;
+  target = λ h. h;
 }
 
 alike_word : (scope : List Variable) (s r : Span) (n : List ℕ) → Alike scope (expr s (eform.Word n)) (expr r (eform.Word n))
@@ -96,7 +96,7 @@ alike_word scope s r n = record {
   place = of_word Place Place Bool eform_place expr_place field_placed s n ∙ sym (of_word Place Place Bool eform_place expr_place field_placed r n);
   depth = of_word ℕ ℕ ℕ eform_depth (λ x. suc x.form) (λ x. suc x.value) s n ∙ sym (of_word ℕ ℕ ℕ eform_depth (λ x. suc x.form) (λ x. suc x.value) r n);
   owns = of_word Own Own (Unit {0}) (eform_own scope) (λ x. x.form) (λ x. tt) s n ∙ sym (of_word Own Own (Unit {0}) (eform_own scope) (λ x. x.form) (λ x. tt) r n);
-  target = λ bounds h. h;
+  target = λ h. h;
 }
 
 alike_hole : (scope : List Variable) (s r : Span) → Alike scope (expr s (eform.Hole None)) (expr r (eform.Hole None))
@@ -104,7 +104,7 @@ alike_hole scope s r = record {
   place = of_hole Place Place Bool eform_place expr_place field_placed s ∙ sym (of_hole Place Place Bool eform_place expr_place field_placed r);
   depth = of_hole ℕ ℕ ℕ eform_depth (λ x. suc x.form) (λ x. suc x.value) s ∙ sym (of_hole ℕ ℕ ℕ eform_depth (λ x. suc x.form) (λ x. suc x.value) r);
   owns = of_hole Own Own (Unit {0}) (eform_own scope) (λ x. x.form) (λ x. tt) s ∙ sym (of_hole Own Own (Unit {0}) (eform_own scope) (λ x. x.form) (λ x. tt) r);
-  target = λ bounds h. h;
+  target = λ h. h;
 }
 
 alike_binary : (scope : List Variable) (s r : Span) (m : Mark) (a b x y : Expr) → Alike scope a x → Alike scope b y → Alike scope (expr s (eform.Binary m a b)) (expr r (eform.Binary m x y))
@@ -112,7 +112,7 @@ alike_binary scope s r m a b x y l h = record {
   place = of_binary Place Place Bool eform_place expr_place field_placed s m a b ∙ (λ i. between (level_of m) (l.place i) (h.place i)) ∙ sym (of_binary Place Place Bool eform_place expr_place field_placed r m x y);
   depth = of_binary ℕ ℕ ℕ eform_depth (λ x. suc x.form) (λ x. suc x.value) s m a b ∙ (λ i. suc (max (l.depth i) (h.depth i))) ∙ sym (of_binary ℕ ℕ ℕ eform_depth (λ x. suc x.form) (λ x. suc x.value) r m x y);
   owns = of_binary Own Own (Unit {0}) (eform_own scope) (λ x. x.form) (λ x. tt) s m a b ∙ (λ i. operation_own (operator_of m) (l.owns i) (h.owns i)) ∙ sym (of_binary Own Own (Unit {0}) (eform_own scope) (λ x. x.form) (λ x. tt) r m x y);
-  target = λ bounds h. h;
+  target = λ h. h;
 }
 
 -- Reading again
@@ -215,8 +215,8 @@ module _ (bounds : Bounds) (scope : List Variable) where
           rule = subst (λ (T : Type 0). T) (λ i. MeansOperation (class_of o) (sym l.alike.owns i) (sym g.alike.owns i) u (sym l.type i) (sym g.type i) t) rule.rule;
         });
         same = of_pbinary PEForm PExpr PField roll-PEForm without_span field_again r t o l.prog g.prog
-          ∙ (λ i. without_span (record { span = no_span; ty = t; form = roll-PEForm (P.Binary o (l.same i) (g.same i)) }))
-          ∙ sym (of_pbinary PEForm PExpr PField roll-PEForm without_span field_again s t o a b);
+            ∙ (λ i. without_span (record { span = no_span; ty = t; form = roll-PEForm (P.Binary o (l.same i) (g.same i)) }))
+            ∙ sym (of_pbinary PEForm PExpr PField roll-PEForm without_span field_again s t o a b);
       }
 
   pub expr_again : (p : PExpr) (e : Expr) → Means bounds scope p e → ReadAgain p e

@@ -1,5 +1,5 @@
 -- What a fold gives for each form that is so far spelt.
-use Rattle.std.proofs.Common.{◌≡◌, ℕ, List, Option, Some, None, refl, sym, ap, ◌∙◌}
+use Rattle.std.proofs.Common.{◌≡◌, ℕ, List, Option, None, sym, ap, ◌∙◌}
 use Rattle.sk_base.specs.declared.span.Span.{Span}
 use Rattle.sk_tree.specs.declared.token.Mark.{Mark}
 use Rattle.sk_tree.specs.declared.expr.Expr.{Expr}

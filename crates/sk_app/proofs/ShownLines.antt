@@ -1,5 +1,5 @@
 -- The lines of an early program divide into the tokens of each tree that the program is the meaning of.
-use Rattle.std.proofs.Common.{rules, ◌≡◌, ℕ, zero, suc, ◌≤◌, Bool, true, false, ◌&&◌, not, List, [], ◌∷◌, ◌++◌, Option, Some, None, map, refl, sym, ap, ◌∙◌, subst, append_assoc, append-nil, codes}
+use Rattle.std.proofs.Common.{◌≡◌, ℕ, zero, suc, ◌≤◌, Bool, true, false, ◌&&◌, not, List, [], ◌∷◌, ◌++◌, Option, Some, None, refl, sym, ap, ◌∙◌, subst, append_assoc, append-nil, codes}
 use Rattle.std.specs.Prelude.{IsTrue, nat_lt, nat_le, length}
 use Rattle.std.specs.List.{repeat, flat_map, join_by, list_all}
 use Rattle.std.proofs.lemmas.Bool.{and_parts, false≢true}
@@ -8,7 +8,6 @@ use Rattle.sk_base.specs.declared.bounds.Bounds.{Bounds}
 use Rattle.sk_tree.specs.declared.token.Kind.{Kind}
 use Rattle.sk_tree.specs.declared.token.Kind.TheVariants as kind
 use Rattle.sk_tree.specs.declared.token.Mark.TheVariants as mark
-use Rattle.sk_tree.specs.declared.token.Key.{Key}
 use Rattle.sk_tree.specs.declared.token.Key.TheVariants as key
 use Rattle.sk_tree.specs.declared.expr.Expr.{Expr}
 use Rattle.sk_tree.specs.declared.stmt.Stmt.{Stmt}
@@ -25,9 +24,6 @@ use Rattle.sk_tree.specs.Spelling.{key_of, single_mark, double_mark}
 use Rattle.sk_tree.specs.Shapes.{is_blank, is_letter, is_digit, is_word_byte, shape_of}
 use Rattle.sk_tree.specs.Names.{ty_names, any_names, declared_names, expr_names, form_names, stmt_names, param_names, any_name, any_ty_names, fun_names, item_names}
 use Rattle.sk_prog.specs.declared.ty.Ty.{Ty}
-use Rattle.sk_prog.specs.declared.ty.Ty.TheVariants as ty
-use Rattle.sk_prog.specs.declared.ty.Elem.{Elem}
-use Rattle.sk_prog.specs.declared.ty.Elem.TheVariants as elem
 use Rattle.sk_prog.specs.declared.expr.PExpr.{PExpr}
 use Rattle.sk_prog.specs.declared.stmt.PStmt.{PStmt}
 use Rattle.sk_prog.specs.declared.stmt.PForm.TheVariants as pform
@@ -39,13 +35,13 @@ use Rattle.sk_prog.specs.declared.prog.Prog.{Prog}
 use Rattle.sk_types.specs.declared.scope.Variable.{Variable}
 use Rattle.sk_types.specs.Rules.{int, bit}
 use Rattle.sk_types.specs.Types.{BaseMeans, TyMeans, AnyAt, IsAt, MeansDeclare, MeansAssign, StmtMeans, AllMean, after, ParamMeans, ParamsMean, FunMeans, ItemsMean, parameters}
-use Rattle.sk_print.specs.Layout.{expr_layout, elem_layout, ty_layout, line, initial_layout, pform_layout, stmt_layout, ref_layout, param_layout, kind_layout, result_layout, head_layout, fun_layout}
+use Rattle.sk_print.specs.Layout.{expr_layout, ty_layout, line, initial_layout, pform_layout, stmt_layout, ref_layout, param_layout, kind_layout, result_layout, fun_layout}
 use Rattle.sk_print.proofs.Lexed.{Lexes, stops, lex_end, lex_blank, lex_word, lex_one}
-use Rattle.sk_app.specs.Early.{early_pform, early_pstmt, is_int_ty, is_sum_pvalue, is_sum, is_equation, is_variable, prank, early_pparam, is_pharness, is_absent, early_pfun}
-use Rattle.sk_app.proofs.ShownSpell.{is_name, expr_spell, base_spell, ty_spell, initial_spell, declared_spell, form_spell, stmt_spell, param_spell, params_spell, fun_spell, item_spell}
+use Rattle.sk_app.specs.Early.{early_pform, early_pstmt, is_int_ty, is_sum_pvalue, early_pparam, is_pharness, is_absent, early_pfun}
+use Rattle.sk_app.proofs.ShownSpell.{is_name, expr_spell, base_spell, ty_spell, initial_spell, form_spell, stmt_spell, param_spell, params_spell, fun_spell, item_spell}
 use Rattle.sk_app.proofs.ShownMeans.{stmt, pstmt, by_stmt_means}
 use Rattle.sk_app.proofs.ShownLayers.{of_declare, of_assign, of_assert, of_pdeclare, of_passign, of_passert}
-use Rattle.sk_app.proofs.ShownText.{put, lex_name, lex_space, space_stops, Told, expr_told}
+use Rattle.sk_app.proofs.ShownText.{put, lex_name, lex_space, space_stops, expr_told}
 
 -- Words and marks
 
@@ -363,7 +359,7 @@ fun_told prog bounds narrow g f means names early text ks l =
     let ps : List ℕ = join_by (param_layout prog) (codes ", ") f.params in
     let ss : List ℕ = flat_map (λ s. stmt_layout prog s 1) f.body in
     let bytes : fun_layout prog f ++ text ≡ codes "harness" ++ (32 ∷ (codes "void" ++ (32 ∷ (f.name ++ (40 ∷ params_text))))) =
-      (λ i. (line 0 (harness i ++ none i ++ codes " " ++ f.name ++ codes "(" ++ ps ++ codes ") {") ++ ss ++ line 0 (codes "}")) ++ text) ∙ grouped f.name ps ss text in
+    (λ i. (line 0 (harness i ++ none i ++ codes " " ++ f.name ++ codes "(" ++ ps ++ codes ") {") ++ ss ++ line 0 (codes "}")) ++ text) ∙ grouped f.name ps ss text in
     let tokens : fun_spell g ++ ks ≡ kind.Key key.Harness ∷ kind.Key key.Void ∷ kind.Word g.name ∷ kind.Mark mark.OpenParen ∷ params_kinds = simp append_assoc in
     subst (λ z. Lexes z (fun_spell g ++ ks)) (sym bytes) (subst (λ z. Lexes (codes "harness" ++ (32 ∷ (codes "void" ++ (32 ∷ (f.name ++ (40 ∷ params_text)))))) z) (sym tokens) whole)
 

@@ -1,5 +1,5 @@
 -- What holds of each form of an expression or a statement that means a tree holds of all that mean one.
-use Rattle.std.proofs.Common.{◌≡◌, ℕ, Bool, List, [], ◌∷◌, Option, Some, None, refl, sym, ap, ◌∙◌, subst}
+use Rattle.std.proofs.Common.{◌≡◌, ℕ, List, [], ◌∷◌, Option, Some, None, refl, sym, subst}
 use Rattle.std.specs.Prelude.{IsTrue}
 use Rattle.sk_base.specs.declared.span.Span.{Span}
 use Rattle.sk_base.specs.declared.bounds.Bounds.{Bounds}
@@ -7,7 +7,6 @@ use Rattle.sk_tree.specs.declared.token.Mark.{Mark}
 use Rattle.sk_tree.specs.declared.expr.Expr.{Expr}
 use Rattle.sk_tree.specs.declared.expr.EForm.{EForm}
 use Rattle.sk_tree.specs.declared.expr.EForm.TheVariants as eform
-use Rattle.sk_tree.specs.declared.expr.NewField.{NewField}
 use Rattle.sk_tree.specs.declared.stmt.Stmt.{Stmt}
 use Rattle.sk_tree.specs.declared.stmt.Form.{Form}
 use Rattle.sk_tree.specs.declared.stmt.Form.TheVariants as form
@@ -21,13 +20,13 @@ use Rattle.sk_prog.specs.declared.expr.PEForm.TheVariants as peform
 use Rattle.sk_prog.specs.declared.expr.PField.{PField}
 use Rattle.sk_prog.specs.declared.expr.PEForm.TheOpen as P
 use Rattle.sk_prog.specs.declared.expr.PEForm.TheViews.{roll-PEForm, roll-PExpr}
-use Rattle.sk_prog.specs.declared.expr.PEForm.TheFolds.{map-PEForm, map-PExpr, rec-PEForm, rec-PExpr, rec-PField, rec-roll-PEForm, rec-roll-PExpr, ind-PExpr}
+use Rattle.sk_prog.specs.declared.expr.PEForm.TheFolds.{map-PEForm, map-PExpr, rec-PEForm, rec-PField, rec-roll-PEForm, rec-roll-PExpr, ind-PExpr}
 use Rattle.sk_prog.specs.declared.stmt.PStmt.{PStmt}
 use Rattle.sk_prog.specs.declared.stmt.PForm.{PForm}
 use Rattle.sk_prog.specs.declared.stmt.PForm.TheVariants as pform
 use Rattle.sk_prog.specs.declared.stmt.PForm.TheOpen as S
 use Rattle.sk_prog.specs.declared.stmt.PForm.TheViews.{roll-PForm, out-PForm, roll-out-PForm}
-use Rattle.sk_prog.specs.declared.stmt.PForm.TheFolds.{map-PForm, rec-PForm, rec-PStmt, rec-roll-PForm, rec-roll-PStmt}
+use Rattle.sk_prog.specs.declared.stmt.PForm.TheFolds.{map-PForm, rec-PForm, rec-roll-PForm, rec-roll-PStmt}
 use Rattle.sk_types.specs.declared.scope.Variable.{Variable}
 use Rattle.sk_types.specs.Rules.{operator_of, class_of, number_takes, hole_takes, in_range}
 use Rattle.sk_types.specs.Scope.{Nearest}
@@ -84,61 +83,61 @@ module _ (bounds : Bounds) (scope : List Variable) where
   means_binary s t op a b m x y u o = close s t (P.Binary op a b) (peform.Binary op a b) (expr s (eform.Binary m x y)) (peform.rolls-Binary op a b) refl (m, x, y, refl, o.operator, o.left, o.right, u, o.rule)
 
 module _
-  (bounds : Bounds)
-  (scope : List Variable)
-  (C : PExpr → Expr → Type 0)
-  (number : (s : Span) (t : Option Ty) (n : ℕ) → IsTrue (in_range bounds n) → HasType (number_takes n) t → C (pexpr s t (peform.Number n)) (expr s (eform.Number n)))
-  (variable : (s : Span) (t : Option Ty) (slot : ℕ) (x : List ℕ) (u : Ty) → t ≡ Some u → Nearest scope x slot u → C (pexpr s t (peform.Var slot x)) (expr s (eform.Word x)))
-  (hole : (s : Span) (t : Option Ty) → HasType hole_takes t → C (pexpr s t (peform.Hole None)) (expr s (eform.Hole None)))
-  (binary : (s : Span) (t : Option Ty) (op : BinOp) (a b : PExpr) (m : Mark) (x y : Expr) (u : Ty) → IsOperation bounds scope op a b m x y u t → C a x → C b y → C (pexpr s t (peform.Binary op a b)) (expr s (eform.Binary m x y)))
+    (bounds : Bounds)
+    (scope : List Variable)
+    (C : PExpr → Expr → Type 0)
+    (number : (s : Span) (t : Option Ty) (n : ℕ) → IsTrue (in_range bounds n) → HasType (number_takes n) t → C (pexpr s t (peform.Number n)) (expr s (eform.Number n)))
+    (variable : (s : Span) (t : Option Ty) (slot : ℕ) (x : List ℕ) (u : Ty) → t ≡ Some u → Nearest scope x slot u → C (pexpr s t (peform.Var slot x)) (expr s (eform.Word x)))
+    (hole : (s : Span) (t : Option Ty) → HasType hole_takes t → C (pexpr s t (peform.Hole None)) (expr s (eform.Hole None)))
+    (binary : (s : Span) (t : Option Ty) (op : BinOp) (a b : PExpr) (m : Mark) (x y : Expr) (u : Ty) → IsOperation bounds scope op a b m x y u t → C a x → C b y → C (pexpr s t (peform.Binary op a b)) (expr s (eform.Binary m x y)))
   where
-  abbrev At_form : PEForm → Type 0
-  At_form f = (s : Span) (t : Option Ty) (e : Expr) → s ≡ e.span → MeansForm bounds scope f t e.form → C (pexpr s t f) e
+    abbrev At_form : PEForm → Type 0
+    At_form f = (s : Span) (t : Option Ty) (e : Expr) → s ≡ e.span → MeansForm bounds scope f t e.form → C (pexpr s t f) e
 
-  abbrev At_expr : PExpr → Type 0
-  At_expr p = (e : Expr) → Means bounds scope p e → C p e
+    abbrev At_expr : PExpr → Type 0
+    At_expr p = (e : Expr) → Means bounds scope p e → C p e
 
-  abbrev Such_form : Type 0
-  Such_form = (f : PEForm) × At_form f
+    abbrev Such_form : Type 0
+    Such_form = (f : PEForm) × At_form f
 
-  abbrev Such_expr : Type 0
-  Such_expr = (p : PExpr) × At_expr p
+    abbrev Such_expr : Type 0
+    Such_expr = (p : PExpr) × At_expr p
 
-  abbrev Such_field : Type 0
-  Such_field = (x : PField) × Unit {0}
+    abbrev Such_field : Type 0
+    Such_field = (x : PField) × Unit {0}
 
-  abbrev down : P.PEForm-F Such_form Such_expr Such_field → P.PEForm-F PEForm PExpr PField
-  down = map-PEForm Such_form Such_expr Such_field PEForm PExpr PField (λ q. q.0) (λ q. q.0) (λ q. q.0)
+    abbrev down : P.PEForm-F Such_form Such_expr Such_field → P.PEForm-F PEForm PExpr PField
+    down = map-PEForm Such_form Such_expr Such_field PEForm PExpr PField (λ q. q.0) (λ q. q.0) (λ q. q.0)
 
-  -- the form and the tree as they are built
-  put : (s : Span) (t : Option Ty) (f g : PEForm) (h : EForm) (e : Expr) → f ≡ g → e.form ≡ h → s ≡ e.span → C (pexpr s t f) (expr s h) → C (pexpr s t g) e
-  put s t f g h e same is at c = subst (λ k. C (pexpr s t k) e) same (subst (C (pexpr s t f)) (λ i. expr (at i) (sym is i)) c)
+    -- the form and the tree as they are built
+    put : (s : Span) (t : Option Ty) (f g : PEForm) (h : EForm) (e : Expr) → f ≡ g → e.form ≡ h → s ≡ e.span → C (pexpr s t f) (expr s h) → C (pexpr s t g) e
+    put s t f g h e same is at c = subst (λ k. C (pexpr s t k) e) same (subst (C (pexpr s t f)) (λ i. expr (at i) (sym is i)) c)
 
-  opened : (l : P.PEForm-F PEForm PExpr PField) (t : Option Ty) (f : EForm) → MeansForm bounds scope (roll-PEForm l) t f → eform_means bounds scope PEForm PExpr PField (λ y. y) (λ y. y) (λ y. y) (MeansForm bounds scope) (Means bounds scope) (MeansField bounds scope) l t f
-  opened l t f h = subst (λ (R : EFormRule). R t f) (form_is bounds scope l) h
+    opened : (l : P.PEForm-F PEForm PExpr PField) (t : Option Ty) (f : EForm) → MeansForm bounds scope (roll-PEForm l) t f → eform_means bounds scope PEForm PExpr PField (λ y. y) (λ y. y) (λ y. y) (MeansForm bounds scope) (Means bounds scope) (MeansField bounds scope) l t f
+    opened l t f h = subst (λ (R : EFormRule). R t f) (form_is bounds scope l) h
 
-  layer : (y : P.PEForm-F Such_form Such_expr Such_field) → At_form (roll-PEForm (down y))
-  layer (P.Number n) s t e at h =
-      let o = opened (P.Number n) t e.form h in
-      put s t (peform.Number n) (roll-PEForm (P.Number n)) (eform.Number n) e (sym (peform.rolls-Number n)) o.0 at (number s t n o.1 o.2)
-  layer (P.Var slot x) s t e at h =
-      let o = opened (P.Var slot x) t e.form h in
-      put s t (peform.Var slot x) (roll-PEForm (P.Var slot x)) (eform.Word x) e (sym (peform.rolls-Var slot x)) o.0 at (variable s t slot x o.1 o.2 o.3)
-  layer (P.Hole None) s t e at h =
-      let o = opened (P.Hole None) t e.form h in
-      put s t (peform.Hole None) (roll-PEForm (P.Hole None)) (eform.Hole None) e (sym (peform.rolls-Hole None)) o.0 at (hole s t o.1)
-  layer (P.Binary op a b) s t e at h =
-      let (m, x, y, is, operator, left, right, u, rule) = opened (P.Binary op a.0 b.0) t e.form h in
-      put s t (peform.Binary op a.0 b.0) (roll-PEForm (P.Binary op a.0 b.0)) (eform.Binary m x y) e (sym (peform.rolls-Binary op a.0 b.0)) is at
+    layer : (y : P.PEForm-F Such_form Such_expr Such_field) → At_form (roll-PEForm (down y))
+    layer (P.Number n) s t e at h =
+        let o = opened (P.Number n) t e.form h in
+        put s t (peform.Number n) (roll-PEForm (P.Number n)) (eform.Number n) e (sym (peform.rolls-Number n)) o.0 at (number s t n o.1 o.2)
+    layer (P.Var slot x) s t e at h =
+        let o = opened (P.Var slot x) t e.form h in
+        put s t (peform.Var slot x) (roll-PEForm (P.Var slot x)) (eform.Word x) e (sym (peform.rolls-Var slot x)) o.0 at (variable s t slot x o.1 o.2 o.3)
+    layer (P.Hole None) s t e at h =
+        let o = opened (P.Hole None) t e.form h in
+        put s t (peform.Hole None) (roll-PEForm (P.Hole None)) (eform.Hole None) e (sym (peform.rolls-Hole None)) o.0 at (hole s t o.1)
+    layer (P.Binary op a b) s t e at h =
+        let (m, x, y, is, operator, left, right, u, rule) = opened (P.Binary op a.0 b.0) t e.form h in
+        put s t (peform.Binary op a.0 b.0) (roll-PEForm (P.Binary op a.0 b.0)) (eform.Binary m x y) e (sym (peform.rolls-Binary op a.0 b.0)) is at
         (binary s t op a.0 b.0 m x y u (record { operator = operator; left = left; right = right; rule = rule }) (a.1 x left) (b.1 y right))
-  layer y s t e at h = absurd (opened (down y) t e.form h)
+    layer y s t e at h = absurd (opened (down y) t e.form h)
 
-  -- an expression that means a tree
-  pub by_means : (p : PExpr) (e : Expr) → Means bounds scope p e → C p e
-  by_means = ind-PExpr At_form At_expr (λ x. Unit {0})
-      (λ x y is. subst (λ z. At_form (roll-PEForm z)) is (layer y))
-      (λ x y is. subst (λ z. At_expr (roll-PExpr z)) is (λ e h. let o = subst (λ (R : ExprRule). R e) (expr_is bounds scope (map-PExpr Such_form Such_expr Such_field PEForm PExpr PField (λ q. q.0) (λ q. q.0) (λ q. q.0) y)) h in y.form.1 y.span y.ty e o.0 o.1))
-      (λ x y is. tt)
+    -- an expression that means a tree
+    pub by_means : (p : PExpr) (e : Expr) → Means bounds scope p e → C p e
+    by_means = ind-PExpr At_form At_expr (λ x. Unit {0})
+        (λ x y is. subst (λ z. At_form (roll-PEForm z)) is (layer y))
+        (λ x y is. subst (λ z. At_expr (roll-PExpr z)) is (λ e h. let o = subst (λ (R : ExprRule). R e) (expr_is bounds scope (map-PExpr Such_form Such_expr Such_field PEForm PExpr PField (λ q. q.0) (λ q. q.0) (λ q. q.0) y)) h in y.form.1 y.span y.ty e o.0 o.1))
+        (λ x y is. tt)
 
 abbrev pub pstmt : Span → PForm → PStmt
 pstmt s f = record { span = s; form = f }
@@ -176,27 +175,27 @@ module _ (bounds : Bounds) where
   means_assert s from scope p x rule = close_stmt s from scope (S.Assert p) (pform.Assert p) (stmt s (form.Assert x)) (pform.rolls-Assert p) refl (x, refl, rule)
 
 module _
-  (bounds : Bounds)
-  (from : ℕ)
-  (scope : List Variable)
-  (C : PStmt → Stmt → Type 0)
-  (declare : (s : Span) (slot : ℕ) (x : List ℕ) (t : Ty) (value : Option PExpr) (y : TyTree) (d : Declared) → MeansDeclare bounds from scope slot x t value y d → C (pstmt s (pform.Declare slot x t value)) (stmt s (form.Declare y (d ∷ []))))
-  (assign : (s : Span) (p q : PExpr) (x y : Expr) (t : Ty) → MeansAssign bounds scope t p q x y → C (pstmt s (pform.Assign p q)) (stmt s (form.Assign x y)))
-  (asserts : (s : Span) (p : PExpr) (x : Expr) → IsAt bounds scope bit p x → C (pstmt s (pform.Assert p)) (stmt s (form.Assert x)))
+    (bounds : Bounds)
+    (from : ℕ)
+    (scope : List Variable)
+    (C : PStmt → Stmt → Type 0)
+    (declare : (s : Span) (slot : ℕ) (x : List ℕ) (t : Ty) (value : Option PExpr) (y : TyTree) (d : Declared) → MeansDeclare bounds from scope slot x t value y d → C (pstmt s (pform.Declare slot x t value)) (stmt s (form.Declare y (d ∷ []))))
+    (assign : (s : Span) (p q : PExpr) (x y : Expr) (t : Ty) → MeansAssign bounds scope t p q x y → C (pstmt s (pform.Assign p q)) (stmt s (form.Assign x y)))
+    (asserts : (s : Span) (p : PExpr) (x : Expr) → IsAt bounds scope bit p x → C (pstmt s (pform.Assert p)) (stmt s (form.Assert x)))
   where
-  put_stmt : (s : Span) (f g : PForm) (h : Form) (e : Stmt) → f ≡ g → e.form ≡ h → s ≡ e.span → C (pstmt s f) (stmt s h) → C (pstmt s g) e
-  put_stmt s f g h e same is at c = subst (λ k. C (pstmt s k) e) same (subst (C (pstmt s f)) (λ i. stmt (at i) (sym is i)) c)
+    put_stmt : (s : Span) (f g : PForm) (h : Form) (e : Stmt) → f ≡ g → e.form ≡ h → s ≡ e.span → C (pstmt s f) (stmt s h) → C (pstmt s g) e
+    put_stmt s f g h e same is at c = subst (λ k. C (pstmt s k) e) same (subst (C (pstmt s f)) (λ i. stmt (at i) (sym is i)) c)
 
-  stmt_layer : (l : S.PForm-F PForm PStmt) (s : Span) (e : Stmt) → s ≡ e.span → form_means bounds PForm PStmt (λ y. y) (λ y. y) (MeansPForm bounds) (StmtMeans bounds) l from scope e.form → C (pstmt s (roll-PForm l)) e
-  stmt_layer (S.Declare slot x t value) s e at (y, d, is, rule) = put_stmt s (pform.Declare slot x t value) (roll-PForm (S.Declare slot x t value)) (form.Declare y (d ∷ [])) e (sym (pform.rolls-Declare slot x t value)) is at (declare s slot x t value y d rule)
-  stmt_layer (S.Assign p q) s e at (x, y, is, t, rule) = put_stmt s (pform.Assign p q) (roll-PForm (S.Assign p q)) (form.Assign x y) e (sym (pform.rolls-Assign p q)) is at (assign s p q x y t rule)
-  stmt_layer (S.Assert p) s e at (x, is, rule) = put_stmt s (pform.Assert p) (roll-PForm (S.Assert p)) (form.Assert x) e (sym (pform.rolls-Assert p)) is at (asserts s p x rule)
-  stmt_layer _ s e at h = absurd h
+    stmt_layer : (l : S.PForm-F PForm PStmt) (s : Span) (e : Stmt) → s ≡ e.span → form_means bounds PForm PStmt (λ y. y) (λ y. y) (MeansPForm bounds) (StmtMeans bounds) l from scope e.form → C (pstmt s (roll-PForm l)) e
+    stmt_layer (S.Declare slot x t value) s e at (y, d, is, rule) = put_stmt s (pform.Declare slot x t value) (roll-PForm (S.Declare slot x t value)) (form.Declare y (d ∷ [])) e (sym (pform.rolls-Declare slot x t value)) is at (declare s slot x t value y d rule)
+    stmt_layer (S.Assign p q) s e at (x, y, is, t, rule) = put_stmt s (pform.Assign p q) (roll-PForm (S.Assign p q)) (form.Assign x y) e (sym (pform.rolls-Assign p q)) is at (assign s p q x y t rule)
+    stmt_layer (S.Assert p) s e at (x, is, rule) = put_stmt s (pform.Assert p) (roll-PForm (S.Assert p)) (form.Assert x) e (sym (pform.rolls-Assert p)) is at (asserts s p x rule)
+    stmt_layer _ s e at h = absurd h
 
-  -- a statement that means a tree
-  pub by_stmt_means : (p : PStmt) (e : Stmt) → StmtMeans bounds p from scope e → C p e
-  by_stmt_means p e h =
-      let o = subst (λ (R : StmtRule). R from scope e) (pstmt_is bounds (record { span = p.span; form = p.form })) h in
-      let l = subst (λ f. MeansPForm bounds f from scope e.form) (sym (roll-out-PForm p.form)) o.1 in
-      let k = subst (λ (R : FormRule). R from scope e.form) (pform_is bounds (out-PForm p.form)) l in
-      subst (λ f. C (pstmt p.span f) e) (roll-out-PForm p.form) (stmt_layer (out-PForm p.form) p.span e o.0 k)
+    -- a statement that means a tree
+    pub by_stmt_means : (p : PStmt) (e : Stmt) → StmtMeans bounds p from scope e → C p e
+    by_stmt_means p e h =
+        let o = subst (λ (R : StmtRule). R from scope e) (pstmt_is bounds (record { span = p.span; form = p.form })) h in
+        let l = subst (λ f. MeansPForm bounds f from scope e.form) (sym (roll-out-PForm p.form)) o.1 in
+        let k = subst (λ (R : FormRule). R from scope e.form) (pform_is bounds (out-PForm p.form)) l in
+        subst (λ f. C (pstmt p.span f) e) (roll-out-PForm p.form) (stmt_layer (out-PForm p.form) p.span e o.0 k)

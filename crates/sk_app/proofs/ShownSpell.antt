@@ -1,5 +1,5 @@
 -- How an early tree is spelt: the kinds of its tokens in order. Other forms come under a last case.
-use Rattle.std.specs.Prelude.{ℕ, Bool, true, false, ◌&&◌, List, [], ◌∷◌, ◌++◌, Option, Some, None, is_none}
+use Rattle.std.specs.Prelude.{ℕ, Bool, ◌&&◌, List, [], ◌∷◌, ◌++◌, Option, Some, None, is_none}
 use Rattle.std.specs.List.{flat_map, join_by}
 use Rattle.sk_tree.specs.declared.token.Kind.{Kind}
 use Rattle.sk_tree.specs.declared.token.Kind.TheVariants as kind

@@ -1,7 +1,6 @@
 -- Tokens of the kinds of statements read as these statements but for spans, and they mean the same program.
-use Rattle.std.proofs.Common.{◌≡◌, ℕ, suc, max, Bool, true, ◌&&◌, List, [], ◌∷◌, ◌++◌, Option, Some, None, map, length, refl, sym, ap, ◌∙◌, subst, append_assoc, append-nil}
+use Rattle.std.proofs.Common.{◌≡◌, ℕ, suc, max, Bool, true, ◌&&◌, List, [], ◌∷◌, ◌++◌, Option, Some, None, refl, sym, ap, ◌∙◌, subst, append_assoc, append-nil}
 use Rattle.std.specs.Prelude.{IsTrue, nat_lt}
-use Rattle.std.specs.List.{flat_map, join_by, list_all}
 use Rattle.std.proofs.lemmas.Bool.{and_parts, false≢true}
 use Rattle.sk_base.specs.declared.span.Span.{Span}
 use Rattle.sk_base.specs.declared.bounds.Bounds.{Bounds}
@@ -16,15 +15,15 @@ use Rattle.sk_tree.specs.declared.stmt.Form.{Form}
 use Rattle.sk_tree.specs.declared.stmt.Form.TheVariants as form
 use Rattle.sk_tree.specs.declared.stmt.Form.TheOpen as F
 use Rattle.sk_tree.specs.declared.stmt.Form.TheViews.{roll-Form}
-use Rattle.sk_tree.specs.declared.stmt.Form.TheFolds.{map-Form, rec-Form, rec-Stmt, rec-roll-Form, rec-roll-Stmt}
+use Rattle.sk_tree.specs.declared.stmt.Form.TheFolds.{map-Form, rec-Form, rec-roll-Form, rec-roll-Stmt}
 use Rattle.sk_tree.specs.declared.stmt.Declared.{Declared}
 use Rattle.sk_tree.specs.declared.item.Base.{Base}
 use Rattle.sk_tree.specs.declared.item.Base.TheVariants as base
 use Rattle.sk_tree.specs.declared.item.TyTree.{TyTree}
-use Rattle.sk_tree.specs.Phrase.{Phrase, Nothing, One, Sign, Perhaps, Between, span_of, ◌▸◌}
-use Rattle.sk_tree.specs.Spelt.{Spans, SpeltExpr, SpeltBase, SpeltTy, SpeltDeclared, form_spelt, stmt_spelt, SpeltStmt}
-use Rattle.sk_tree.specs.Placed.{Place, place_of, expr_placed, any_placed, form_placed, stmt_placed}
-use Rattle.sk_tree.specs.Depth.{deepest, any_depth, expr_depth, ty_depth, declared_depth, form_depth, stmt_depth}
+use Rattle.sk_tree.specs.Phrase.{Phrase, One, Sign, Perhaps, span_of, ◌▸◌}
+use Rattle.sk_tree.specs.Spelt.{SpeltExpr, SpeltBase, form_spelt, stmt_spelt, SpeltStmt}
+use Rattle.sk_tree.specs.Placed.{Place, any_placed, form_placed, stmt_placed}
+use Rattle.sk_tree.specs.Depth.{any_depth, expr_depth, ty_depth, form_depth, stmt_depth}
 use Rattle.sk_prog.specs.declared.ty.Ty.{Ty}
 use Rattle.sk_prog.specs.declared.expr.PExpr.{PExpr}
 use Rattle.sk_prog.specs.declared.stmt.PStmt.{PStmt}
@@ -32,17 +31,17 @@ use Rattle.sk_prog.specs.declared.stmt.PForm.{PForm}
 use Rattle.sk_prog.specs.declared.stmt.PForm.TheVariants as pform
 use Rattle.sk_prog.specs.declared.stmt.PForm.TheOpen as S
 use Rattle.sk_prog.specs.declared.stmt.PForm.TheViews.{roll-PForm}
-use Rattle.sk_prog.specs.Spanless.{no_span, spanless_expr, any_spanless, spanless_form, stmt_without_span, spanless_stmt}
+use Rattle.sk_prog.specs.Spanless.{no_span, any_spanless, spanless_form, stmt_without_span, spanless_stmt}
 use Rattle.sk_types.specs.declared.scope.Variable.{Variable}
-use Rattle.sk_types.specs.Rules.{int, bit}
-use Rattle.sk_types.specs.Types.{Means, IsAt, IsTarget, AnyAt, BaseMeans, TyMeans, MeansDeclare, MeansAssign, Grows, form_after, after, form_most, most_within, most, StmtMeans, AllMean}
+use Rattle.sk_types.specs.Rules.{bit}
+use Rattle.sk_types.specs.Types.{IsAt, AnyAt, BaseMeans, MeansDeclare, MeansAssign, Grows, form_after, after, form_most, most_within, StmtMeans}
 use Rattle.sk_print.proofs.Lexed.{kinds}
 use Rattle.sk_app.specs.Early.{early_pform, early_pstmt, is_int_ty, is_sum_pvalue}
-use Rattle.sk_app.proofs.ShownSpell.{expr_spell, base_spell, ty_spell, initial_spell, form_spell, stmt_spell}
+use Rattle.sk_app.proofs.ShownSpell.{expr_spell, ty_spell, initial_spell, form_spell, stmt_spell}
 use Rattle.sk_app.proofs.ShownMeans.{stmt, pstmt, means_declare, means_assign, means_assert, by_stmt_means}
 use Rattle.sk_app.proofs.ShownLayers.{of_declare, of_assign, of_assert, of_pdeclare, of_passign, of_passert}
 use Rattle.sk_app.proofs.ShownLines.{int_base}
-use Rattle.sk_app.proofs.ShownExprs.{first_of_kinds, Alike, Again, expr_again}
+use Rattle.sk_app.proofs.ShownExprs.{first_of_kinds, expr_again}
 
 -- Spelling
 
@@ -135,7 +134,7 @@ module _ (bounds : Bounds) (slots from : ℕ) (scope : List Variable) where
       let words : List Kind = kind.Word d.name ∷ initial_spell d.value in
       let grouped : (ty_spell y ++ ((words ++ []) ++ (kind.Mark mark.Semicolon ∷ []))) ++ ks ≡ ty_spell y ++ (kind.Word d.name ∷ (initial_spell d.value ++ semi)) = simp (append_assoc, append-nil) in
       let told : kinds ts ≡ kind.Key key.Int ∷ kind.Word d.name ∷ (initial_spell d.value ++ semi) =
-        h ∙ ap (λ z. z ++ ks) (of_declare (List Kind) (List Kind) form_spell (λ z. z.form) s y (d ∷ [])) ∙ grouped ∙ ap (λ z. z ++ (kind.Word d.name ∷ (initial_spell d.value ++ semi))) int_is.0 in
+      h ∙ ap (λ z. z ++ ks) (of_declare (List Kind) (List Kind) form_spell (λ z. z.form) s y (d ∷ [])) ∙ grouped ∙ ap (λ z. z ++ (kind.Word d.name ∷ (initial_spell d.value ++ semi))) int_is.0 in
       let a = first_of_kinds ts (kind.Key key.Int) (kind.Word d.name ∷ (initial_spell d.value ++ semi)) told in
       let b = first_of_kinds a.rest (kind.Word d.name) (initial_spell d.value ++ semi) a.left in
       let c = initial_again bounds scope t value d.value rule.value b.rest semi b.left in
@@ -151,9 +150,13 @@ module _ (bounds : Bounds) (slots from : ℕ) (scope : List Variable) where
         rest = f.rest;
         split = a.split ∙ ap (λ z. a.token ∷ z) (b.split ∙ ap (λ z. b.token ∷ z) (c.split ∙ ap (λ z. c.front ++ z) f.split ∙ sym (append_assoc c.front (f.token ∷ []) f.rest)));
         left = f.left;
-        spelt = close_stmt (F.Declare y (d' ∷ [])) (form.Declare y (d' ∷ [])) front (form.rolls-Declare y (d' ∷ []))
-          (a.token ∷ [], named ++ (f.token ∷ []), refl, int_spelt y.base y.lengths t (a.token ∷ []) rule.type of_int.1 a.one,
-          (named, f.token ∷ [], refl, (named, [], sym (append-nil named), (b.token ∷ [], c.front, refl, b.one, c.spelt), refl), f.one));
+        spelt = close_stmt (F.Declare y (d' ∷ [])) (form.Declare y (d' ∷ [])) front (form.rolls-Declare y (d' ∷ [])) (
+          a.token ∷ [],
+          named ++ (f.token ∷ []),
+          refl,
+          int_spelt y.base y.lengths t (a.token ∷ []) rule.type of_int.1 a.one,
+          (named, f.token ∷ [], refl, (named, [], sym (append-nil named), (b.token ∷ [], c.front, refl, b.one, c.spelt), refl), f.one),
+        );
         places = of_declare Bool Bool form_placed (λ z. z.form) r y (d' ∷ []) ∙ ap (λ v. v && true) c.places ∙ sym (of_declare Bool Bool form_placed (λ z. z.form) s y (d ∷ []));
         depth = of_declare ℕ ℕ form_depth (λ z. suc z.form) r y (d' ∷ []) ∙ ap (λ n. suc (max (ty_depth y) (max (suc n) 0))) c.depth ∙ sym (of_declare ℕ ℕ form_depth (λ z. suc z.form) s y (d ∷ []));
         means = means_declare bounds r from scope slot x t c.prog y d' (record { name = rule.name; type = rule.type; next = rule.next; once = rule.once; value = c.at });
@@ -182,11 +185,11 @@ module _ (bounds : Bounds) (slots from : ℕ) (scope : List Variable) where
         split = a.split ∙ ap (λ z. a.front ++ z) (b.split ∙ ap (λ z. b.token ∷ z) (c.split ∙ ap (λ z. c.front ++ z) f.split ∙ sym (append_assoc c.front (f.token ∷ []) f.rest))) ∙ sym (append_assoc a.front (b.token ∷ behind) f.rest);
         left = f.left;
         spelt = close_stmt (F.Assign a.tree c.tree) (form.Assign a.tree c.tree) front (form.rolls-Assign a.tree c.tree)
-          (a.front, b.token ∷ behind, refl, a.spelt, (b.token ∷ [], behind, refl, b.one, (c.front, f.token ∷ [], refl, c.spelt, f.one)));
+            (a.front, b.token ∷ behind, refl, a.spelt, (b.token ∷ [], behind, refl, b.one, (c.front, f.token ∷ [], refl, c.spelt, f.one)));
         places = of_assign Bool Bool form_placed (λ z. z.form) r a.tree c.tree ∙ (λ i. (a.alike.place i).placed && (c.alike.place i).placed) ∙ sym (of_assign Bool Bool form_placed (λ z. z.form) s x y);
         depth = of_assign ℕ ℕ form_depth (λ z. suc z.form) r a.tree c.tree ∙ (λ i. suc (max (a.alike.depth i) (c.alike.depth i))) ∙ sym (of_assign ℕ ℕ form_depth (λ z. suc z.form) s x y);
         means = means_assign bounds r from scope a.prog c.prog a.tree c.tree t (record {
-          target = record { is_at = record { means = a.means; type = a.type ∙ rule.target.is_at.type }; target = a.alike.target bounds rule.target.target };
+          target = record { is_at = record { means = a.means; type = a.type ∙ rule.target.is_at.type }; target = a.alike.target rule.target.target };
           value = record { means = c.means; type = c.type ∙ rule.value.type };
         });
         same = of_passign PForm PStmt spanless_form stmt_without_span r a.prog c.prog ∙ (λ i. pstmt no_span (roll-PForm (S.Assign (a.same i) (c.same i)))) ∙ sym (of_passign PForm PStmt spanless_form stmt_without_span s p q);
@@ -212,7 +215,7 @@ module _ (bounds : Bounds) (slots from : ℕ) (scope : List Variable) where
         split = a.split ∙ ap (λ z. a.token ∷ z) (c.split ∙ ap (λ z. c.front ++ z) f.split ∙ sym (append_assoc c.front (f.token ∷ []) f.rest));
         left = f.left;
         spelt = close_stmt (F.Assert c.tree) (form.Assert c.tree) front (form.rolls-Assert c.tree)
-          (a.token ∷ [], behind, refl, a.one, (c.front, f.token ∷ [], refl, c.spelt, f.one));
+            (a.token ∷ [], behind, refl, a.one, (c.front, f.token ∷ [], refl, c.spelt, f.one));
         places = of_assert Bool Bool form_placed (λ z. z.form) r c.tree ∙ (λ i. (c.alike.place i).placed) ∙ sym (of_assert Bool Bool form_placed (λ z. z.form) s x);
         depth = of_assert ℕ ℕ form_depth (λ z. suc z.form) r c.tree ∙ (λ i. suc (c.alike.depth i)) ∙ sym (of_assert ℕ ℕ form_depth (λ z. suc z.form) s x);
         means = means_assert bounds r from scope c.prog c.tree (record { means = c.means; type = c.type ∙ rule.type });

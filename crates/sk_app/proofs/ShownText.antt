@@ -1,8 +1,7 @@
 -- The text of a program divides into tokens that are those of each tree that the program is the meaning of.
-use Rattle.std.proofs.Common.{rules, ◌≡◌, ℕ, zero, suc, ◌+◌, ◌-◌, ◌^◌, ◌<◌, ◌≤◌, Bool, true, false, ◌&&◌, ◌||◌, not, List, [], ◌∷◌, ◌++◌, Option, Some, None, refl, sym, ap, ◌∙◌, subst, arith, append_assoc, append-nil, codes}
-use Rattle.std.specs.Prelude.{IsTrue, is_none, nat_lt}
+use Rattle.std.proofs.Common.{◌≡◌, ℕ, ◌-◌, ◌^◌, ◌<◌, ◌≤◌, Bool, true, false, ◌&&◌, ◌||◌, not, List, [], ◌∷◌, ◌++◌, Option, Some, None, refl, sym, ◌∙◌, subst, arith, append_assoc, codes}
+use Rattle.std.specs.Prelude.{IsTrue, is_none}
 use Rattle.std.specs.Fmt.{decimal}
-use Rattle.std.specs.List.{repeat, flat_map, join_by, list_all}
 use Rattle.std.proofs.lemmas.Bool.{and_parts}
 use Rattle.std.proofs.lemmas.Bool.Decides.{nat_tests}
 use Rattle.std.proofs.Math.Pow.{pow_mono}
@@ -13,8 +12,6 @@ use Rattle.sk_tree.specs.declared.token.Kind.TheVariants as kind
 use Rattle.sk_tree.specs.declared.token.Mark.{Mark}
 use Rattle.sk_tree.specs.declared.token.Mark.TheVariants as mark
 use Rattle.sk_tree.specs.declared.token.Key.{Key}
-use Rattle.sk_tree.specs.declared.token.Key.TheVariants as key
-use Rattle.sk_tree.specs.declared.shape.Shape.TheVariants as shape
 use Rattle.sk_tree.specs.declared.expr.Expr.{Expr}
 use Rattle.sk_tree.specs.declared.expr.EForm.TheVariants as eform
 use Rattle.sk_tree.specs.Spelling.{key_of, single_mark, double_mark}
@@ -32,7 +29,7 @@ use Rattle.sk_types.specs.Rules.{operator_of, number_takes, hole_takes, in_range
 use Rattle.sk_types.specs.Scope.{Nearest}
 use Rattle.sk_types.specs.Types.{HasType, Means}
 use Rattle.sk_print.specs.Layout.{op_layout, eform_layout, expr_layout}
-use Rattle.sk_print.proofs.Lexed.{Lexes, stops, stays, is_word, lex_blank, lex_word, lex_number, lex_one, lex_two, lex_slash}
+use Rattle.sk_print.proofs.Lexed.{Lexes, stops, is_word, lex_blank, lex_word, lex_number, lex_one, lex_two, lex_slash}
 use Rattle.sk_app.proofs.ShownSpell.{is_name, eform_spell, expr_spell}
 use Rattle.sk_app.proofs.ShownMeans.{expr, pexpr, IsOperation, by_means}
 use Rattle.sk_app.proofs.ShownLayers.{of_number, of_word, of_hole, of_binary, of_pnumber, of_pvar, of_phole, of_pbinary}

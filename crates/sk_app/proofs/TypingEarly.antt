@@ -320,11 +320,6 @@ module _ (bounds : Bounds) where
       let b = both_true _ _ a.0 in
       let c = both_true _ _ b.0 in
       let d = both_true _ _ c.0 in
-      let count : f.slots ≡ length (after_all f.body (parameters f.params)) = m.slots ∙ most_is f.body (parameters f.params) in
-      let room : length (after_all f.body (parameters f.params)) ≤ f.slots = omega arith in
-      let first = longer (parameters f.params) (after_all f.body (parameters f.params)) (adds_all f.body (parameters f.params)) in
-      let same : length (parameters f.params) ≡ length f.params = length-map f.params _ in
-      both _ _ (both _ _ (both _ _ (both _ _ (both _ _ (subst (λ k. is_pharness k ≡ true) (sym m.kind) (harness_early g.kind d.0)) (result_early g.result f.result d.1 m.result)) (params_early g.params f.params m.params c.1)) (ap is_absent m.implements.1)) (le-leb (length f.params) f.slots (omega arith))) (all_early f.slots bounds 0 (parameters f.params) f.body g.body m.body a.1 room)
       let slots = slots_hold f m.slots in
       both _ _ (both _ _ (both _ _ (both _ _ (both _ _ (subst (λ k. is_pharness k ≡ true) (sym m.kind) (harness_early g.kind d.0)) (result_early g.result f.result d.1 m.result)) (params_early g.params f.params m.params c.1)) (ap is_absent m.implements.1)) (le-leb (length f.params) f.slots slots.1)) (all_early f.slots bounds 0 (parameters f.params) f.body g.body m.body a.1 slots.0)
 

@@ -9,6 +9,7 @@ ghost use Rattle.sk_app.specs.Streams.{most_bytes};
 ghost use Rattle.sk_app.specs.Built.{default_bounds, bits_count, most_bits, IsTree, IsTyped, IsBuilt, IsOnly};
 ghost use Rattle.sk_app.specs.ResultText.{spaced, completion_lines, completed_text, none_text};
 ghost use Rattle.sk_app.specs.Filling.{IsEarlyExpansion};
+ghost use Rattle.sk_app.specs.Running.{first_params};
 ghost use Rattle.sk_app.specs.Prepared.{IsFound, IsUnbuilt};
 
 use crate::filling::{expand_early, fill_early, is_within};
@@ -20,7 +21,7 @@ use crate::typing::check_early;
 use sk_base::{Bounds, push_number};
 use sk_lexer::{LexFault, tokens};
 use sk_model::{Choice, Expanded};
-use sk_prog::Prog;
+use sk_prog::{Fun, Prog};
 use sk_tree::Tree;
 use std::alloc::{AllocError, Global};
 
@@ -28,7 +29,7 @@ use std::alloc::{AllocError, Global};
 const MOST_NODES: usize = 4096;
 
 /// The greatest number of bits of holes and arguments that are tried so far.
-const MOST_BITS: usize = 15;
+const MOST_BITS: u128 = 15;
 
 /// The bounds that hold where nothing sets them.
 fn default_bounds() -> Bounds
@@ -75,20 +76,29 @@ fn prog_of(alloc: Global, text: &[u8]) -> Result<Option<Prog>, AllocError>
     }
 }
 
-/// How many bits the holes and the arguments of an early expansion have, or more than are tried.
-fn has_few_bits(expanded: &Expanded, bounds: &Bounds) -> bool
-    requires { IsEarlyExpansion expanded.now bounds.now }
-    ensures { IsTrue result ↔ (bits_count expanded.now bounds.now ≤ most_bits) }
+/// Whether the holes and the arguments have few enough bits to try all.
+#[tactic(auto, using(crate::proofs::CompleteLaws::bits_same))]
+fn has_few_bits(expanded: &Expanded) -> bool
+    requires { IsEarlyExpansion expanded.now default_bounds }
+    ensures { IsTrue result ↔ (bits_count expanded.now default_bounds ≤ most_bits) }
 {
-    let holes = expanded.sites.len() as u128 * bounds.cbits as u128;
-    let mut params = 0u128;
-    for fun in expanded.prog.funs.as_slice() {
-        params += fun.params.len() as u128 * bounds.inbits as u128;
+    let holes = expanded.sites.len() as u128;
+    let params = params_of(expanded.prog.funs.as_slice()) as u128;
+    holes * 5 + params * 5 <= MOST_BITS
+}
+
+/// How many parameters the first function has.
+fn params_of(funs: &[Fun]) -> usize
+    ensures { result ≡ first_params funs.now }
+{
+    match funs.split_first() {
+        Some((fun, _)) => fun.params.len(),
+        None => 0,
     }
-    holes + params <= MOST_BITS as u128
 }
 
 /// The expansion of a text that is taken, or none.
+#[tactic(auto, using(crate::proofs::CompleteLaws::only_of, crate::proofs::CompleteLaws::unbuilt_untyped, crate::proofs::CompleteLaws::unbuilt_large))]
 fn built(alloc: Global, text: &[u8]) -> Result<Option<Expanded>, AllocError>
     requires { length text.now ≤ most_bytes }
     ensures found { IfOk result (λ o. IfSome o (IsOnly text.now)) }
@@ -99,7 +109,7 @@ fn built(alloc: Global, text: &[u8]) -> Result<Option<Expanded>, AllocError>
         return Ok(None);
     };
     let expanded = expand_early(alloc, prog, &bounds)?;
-    if is_within(&expanded.prog, MOST_NODES) && has_few_bits(&expanded, &bounds) {
+    if is_within(&expanded.prog, MOST_NODES) && has_few_bits(&expanded) {
         Ok(Some(expanded))
     } else {
         Ok(None)
@@ -142,6 +152,7 @@ fn completed(alloc: Global, expanded: &Expanded, choice: &Choice) -> Result<Vec<
 }
 
 /// Completes a text, by trying every filling on every input.
+#[tactic(auto, using(crate::proofs::CompleteLaws::completion_of, crate::proofs::CompleteLaws::none_of, crate::proofs::CompleteLaws::few_bits))]
 pub fn complete(alloc: Global, text: &[u8]) -> Result<Found, AllocError>
     requires { length text.now ≤ most_bytes }
     ensures { IfOk result (λ found. IsFound found text.now) }

@@ -20,4 +20,5 @@ pub use ending::{Ending, message, status};
 pub use std_streams::{StdSink, StdSource};
 #[cfg(test)]
 mod running_tests;
+#[cfg(test)]
 mod search_tests;

@@ -94,7 +94,7 @@ blank_alone b text ks e ends l =
     (λ at. refl)
     l
 
-if_all_is : (test : ℕ → Bool) (xs : List ℕ) (s r : Shape) → if_all test xs s ≡ Some r → s ≡ r
+pub if_all_is : (test : ℕ → Bool) (xs : List ℕ) (s r : Shape) → if_all test xs s ≡ Some r → s ≡ r
 if_all_is test xs s r e = elim (list_all test xs) as (λ v. cond v (Some s) None ≡ Some r → s ≡ r) [ true ↦ λ h. cc | false ↦ λ h. cc ] e
 
 blank_more : (b c : ℕ) (xs : List ℕ) → is_blank b ≡ true → is_blank c ≡ true → shape_of (b ∷ c ∷ xs) ≡ shape_of (c ∷ xs)

@@ -8,4 +8,3 @@ pub mod Shapes
 pub mod Longest
 pub mod Tokens
 pub mod Names
-pub mod Spanless
