@@ -1,0 +1,5 @@
+pub mod NodeEq
+pub mod GraphLemmas
+pub mod EvalLemmas
+pub mod WordLemmas
+pub mod ReachLemmas

@@ -1,0 +1,21 @@
+use Rattle.std.proofs.Common.{◌≡◌, arith, length, ◌+◌, ◌<◌, ◌≤◌, ap, ◌∙◌, take}
+use Rattle.sk_dag.specs.Eval.{HoldsMachineWords, value_at, values, graph_values}
+use Rattle.sk_dag.proofs.EvalLemmas.{HoldsMachineWords-values, IsWellFormed-take, value_at-take}
+use Rattle.sk_dag.proofs.graph.Dag.values_to.Goals as goal
+
+pub values_of-requires : goal.values_of-requires
+values_of-requires c =
+    let below : c.args.index < length c.self.inside.nodes.keys = rw (← c.self.view_is) at c.requires in
+    rw c.as_slice.ensures.keys (IsWellFormed-take _ _ _ c.self.invariant (omega arith))
+
+pub returns-clause-words : goal.returns-clause-words
+returns-clause-words c =
+    let below : c.args.index < length c.self.inside.nodes.keys = rw (← c.self.view_is) at c.requires in
+    rw (c.in_ok-values.ensures, c.as_slice.ensures.keys)
+    (HoldsMachineWords-values _ _ _ c.self.invariant (c.args.index + 1) (omega arith))
+
+pub returns-clause-same : goal.returns-clause-same
+returns-clause-same c =
+    let below : c.args.index < length c.self.inside.nodes.keys = rw (← c.self.view_is) at c.requires in
+    rw (c.in_ok-values.ensures, c.as_slice.ensures.keys, ← c.self.view_is)
+    (value_at-take _ _ c.self.inside.nodes.keys (c.args.index + 1) c.args.index (omega arith) (omega arith))

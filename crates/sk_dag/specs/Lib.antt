@@ -1,0 +1,5 @@
+pub mod Word
+pub mod Graph
+pub mod Eval
+pub mod EvalShape
+pub mod Reach

@@ -1,0 +1,5 @@
+use Rattle.sk_rup.specs.Steps.{Steps}
+use Rattle.sk_rup.proofs.watches.Watches.spread.Given as goal
+
+abbrev pub invariant-loop : goal.invariant-loop
+invariant-loop l = Steps l.known l.fn.trail l.trail

@@ -1,0 +1,5 @@
+pub mod Checker
+pub mod Look
+pub mod Scan
+pub mod Steps
+pub mod Visit
