@@ -40,7 +40,7 @@ pub shown_of : (text : List ℕ) (e : Expanded) (a : Choice) → IsBuilt text e 
 shown_of text e a b x range =
     subst (λ z. InRange z a → Shows (layout (fill z a)) default_bounds (fill z a)) (sym b.expanded)
     (shown_filling text b.typed.is_tree.tokens b.typed.tree default_bounds b.prog a b.typed.is_tree.lexed b.typed.is_tree.reads b.typed.types
-      (subst (λ z. IsTrue (early_prog z.prog)) b.expanded x.early) (omega arith) (omega arith))
+    (subst (λ z. IsTrue (early_prog z.prog)) b.expanded x.early) (omega arith) (omega arith))
     range
 
 -- a choice that meets the harness gives a completion
@@ -55,7 +55,8 @@ completion_of {text} {e} {a} {out} only x range meets is = record {
   meets = meets;
   costs = costs_nothing (fill e a) default_bounds (early_filled e a x.early);
   least = λ b r m v c. omega arith;
-  is = is }
+  is = is;
+}
 
 -- a text without a choice that meets it
 pub none_of : {text : List ℕ} {e : Expanded} {out : List ℕ} → IsOnly text e → ((b : Choice) → InRange e b → Meets (fill e b) default_bounds → ⊥) → out ≡ none_text → IsNone text out
@@ -65,7 +66,8 @@ none_of {text} {e} only none is = record { e = e; only = only; none = none; is =
 pub only_of : {text : List ℕ} {prog : Prog} {e : Expanded} → length text ≤ most_bytes → IsTyped text prog → ((p : Prog) → IsTyped text p → ◌≡◌ {A = Option Prog} (Some prog) (Some p)) → e ≡ expand prog default_bounds → nodes e.prog ≤ most_nodes → bits_count e default_bounds ≤ most_bits → IsOnly text e
 only_of {text} {prog} {e} short typed once is few_nodes few_bits = record {
   built = record { prog = prog; short = short; typed = typed; expanded = is; nodes_fit = few_nodes; bits_fit = few_bits };
-  only = λ f b. b.expanded ∙ ap (λ p. expand p default_bounds) (sym (some_is (once b.prog b.typed))) ∙ sym is }
+  only = λ f b. b.expanded ∙ ap (λ p. expand p default_bounds) (sym (some_is (once b.prog b.typed))) ∙ sym is;
+}
 
 -- a text that means no program is none that is taken
 pub unbuilt_untyped : {text : List ℕ} → ((p : Prog) → IsTyped text p → ◌≡◌ {A = Option Prog} None (Some p)) → IsUnbuilt text

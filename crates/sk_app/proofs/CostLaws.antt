@@ -210,4 +210,5 @@ pub costs_nothing : (p : Prog) (bounds : Bounds) → IsTrue (early_prog p) → I
 unfolding cost_on
 costs_nothing p bounds h = record {
   greatest = λ input is. subst (λ n. n ≤ 0) (sym (obligation_costs p bounds input.args (slice_get (obligations p) input.obligation) h)) (omega arith);
-  reached = inl refl }
+  reached = inl refl;
+}

@@ -43,11 +43,13 @@ writes_more {bytes} {rest} {after} {old} {mid} {new} {f} {m} {k} {spare} {spare'
   split = w.split ∙ ap (λ r. w.front ++ r) split ∙ sym (append_assoc w.front (take n rest) after);
   appends = appends-more w.front (take n rest) old mid new w.appends put.end;
   count = omega arith;
-  room = omega arith }
+  room = omega arith;
+}
 
 -- bytes that were taken and lost are few too
 pub loses_few : {text : List ℕ} {old mid new : Option (List ℕ)} {f m room : ℕ} → HasRead text old mid f m → Loses room mid new → length text + room ≤ most_bytes + 1 → TakesFew old new
 loses_few {text} {old} {mid} {new} h l fits = record {
   taken = text ++ l.bytes;
   few = rw (length-append text l.bytes) (omega (arith, fits, l.most));
-  split = front-more text l.bytes old mid new h.front l.left }
+  split = front-more text l.bytes old mid new h.front l.left;
+}

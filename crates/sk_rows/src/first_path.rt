@@ -8,7 +8,8 @@ use std::test::Fail;
 const DOUBLED: &[u8] =
     b"harness void doublesketch(int x){\n  int t = x * ??;\n  assert t == x + x;\n}\n";
 
-const DOUBLED_DONE: &[u8] = b"harness void doublesketch(int x) {\n    int t = x * 2;\n    assert t == x + x;\n}\n//@ completion\n//@ value 0\n//@ holes 2\n";
+const DOUBLED_DONE: &[u8] =
+    b"harness void doublesketch(int x) {\n    int t = x * 2;\n    assert t == x + x;\n}\n//@ completion\n//@ value 0\n//@ holes 2\n";
 
 /// Runs `synth` on a text, and looks at its ending and at all that was written.
 fn expect_synth(
@@ -109,7 +110,13 @@ fn refuses_what_is_not_taken(rt: HostRuntime) -> Result<(), Fail> {
 #[test]
 fn refuses_other_words(rt: HostRuntime) -> Result<(), Fail> {
     let alloc = rt.alloc();
-    let lines: [&[&str]; 5] = [&[], &["exec"], &["synth", "--cert"], &["syn"], &["synth", "synth"]];
+    let lines: [&[&str]; 5] = [
+        &[],
+        &["exec"],
+        &["synth", "--cert"],
+        &["syn"],
+        &["synth", "synth"],
+    ];
     for line in lines {
         let mut words = Vec::new(alloc);
         for word in line {
