@@ -1,0 +1,14 @@
+pub mod AnalysisLemmas
+pub mod BeginLemmas
+pub mod CancelLemmas
+pub mod InsideLemmas
+pub mod LessonLemmas
+pub mod NumberLemmas
+pub mod PropagateLemmas
+pub mod RepeatLemmas
+pub mod ResolveLemmas
+pub mod RoundLemmas
+pub mod SearchLemmas
+pub mod SettleLemmas
+pub mod SolverLemmas
+pub mod TrailLemmas

@@ -1,0 +1,92 @@
+use Rattle.std.proofs.Common.{◌≡◌, ◌∙◌, ap, length, subst}
+use Rattle.std.proofs.lemmas.List.{length-map}
+use Rattle.sk_sat.proofs.SearchLemmas.{searches_begin, searches_decided, searches_learnt, grown_added, each_added, consistent_added, within_added, spent_added, unspent, met_all, work_falls}
+use Rattle.sk_sat.proofs.search.search.Goals as goal
+
+pub rounds-init : goal.rounds-init
+rounds-init c = searches_begin _ _ _ _ c.in_ok-trail.trail c.requires.fresh c.requires.within (c.in_ok-trail.ensures.trail c.args.known.now) c.in_ok-trail.ensures.long
+
+pub returns-in-Refuted-clause-grown : goal.returns-in-Refuted-clause-grown
+returns-in-Refuted-clause-grown c =
+    let r = rw c.in-Refuted.is at c.in_ok-round_of.ensures in
+    rw (r.0, r.1) c.rounds.invariant.grown
+
+pub returns-in-Refuted-clause-each : goal.returns-in-Refuted-clause-each
+returns-in-Refuted-clause-each c =
+    let r = rw c.in-Refuted.is at c.in_ok-round_of.ensures in
+    rw r.1 c.rounds.invariant.each
+
+pub returns-in-Refuted-clause-consistent : goal.returns-in-Refuted-clause-consistent
+returns-in-Refuted-clause-consistent c =
+    let r = rw c.in-Refuted.is at c.in_ok-round_of.ensures in
+    rw r.1 c.rounds.invariant.consistent
+
+pub returns-in-Refuted-clause-within : goal.returns-in-Refuted-clause-within
+returns-in-Refuted-clause-within c =
+    let r = rw c.in-Refuted.is at c.in_ok-round_of.ensures in
+    rw r.0 c.rounds.invariant.within
+
+pub returns-in-Refuted-clause-outcome : goal.returns-in-Refuted-clause-outcome
+returns-in-Refuted-clause-outcome c =
+    let r = rw c.in-Refuted.is at c.in_ok-round_of.ensures in
+    let f = rw c.rounds.invariant.grown at r.2 in
+    (rw r.1 f, unspent _ _ _ _ _ _ _ c.rounds.invariant c.round_of.new.known c.round_of.new.fresh r.1)
+
+pub returns-in-Full-clause-each : goal.returns-in-Full-clause-each
+returns-in-Full-clause-each c =
+    let r = rw c.in-Full.is at c.in_ok-round_of.ensures in
+    rw r.1 c.rounds.invariant.each
+
+pub returns-in-Full-clause-outcome : goal.returns-in-Full-clause-outcome
+returns-in-Full-clause-outcome c =
+    let r = rw c.in-Full.is at c.in_ok-round_of.ensures in
+    let b = rw c.deref.ensures.value at c.in_ok-bits-in-Full.ensures in (
+      ap length b ∙ length-map c.round_of.new.trail.values.items _ ∙ r.3 ∙ c.rounds.invariant.long,
+      met_all c.args.known.now c.rounds.known c.rounds.fresh c.round_of.new.trail.values.items c.in_ok-bits-in-Full.field-0.items c.rounds.invariant.grown r.2 b,
+      unspent _ _ _ _ _ _ _ c.rounds.invariant c.round_of.new.known c.round_of.new.fresh r.1,
+    )
+
+pub rounds-smaller-in-Moved : goal.rounds-smaller-in-Moved
+rounds-smaller-in-Moved c =
+    let r = rw c.in-Moved.is at c.in_ok-round_of.ensures in
+    work_falls c.rounds.known c.round_of.new.known c.rounds.trail c.round_of.new.trail r.2.trail r.2.long r.2.more
+
+pub rounds-preserved-in-Moved : goal.rounds-preserved-in-Moved
+rounds-preserved-in-Moved c =
+    let r = rw c.in-Moved.is at c.in_ok-round_of.ensures in
+    searches_decided _ _ _ _ _ c.rounds.trail _ c.rounds.invariant _ _ c.round_of.new.trail r.0 r.1 r.2
+
+pub returns-then-left-eq1-clause-grown : goal.returns-then-left-eq1-clause-grown
+returns-then-left-eq1-clause-grown c =
+    let r = rw c.in-Learnt.is at c.in_ok-round_of.ensures in
+    grown_added _ _ _ _ _ c.rounds.trail _ c.rounds.invariant _ _ _ r.0.1 (λ p. r.0.2 (c.is_limited-strict.ensures p))
+
+pub returns-then-left-eq1-clause-each : goal.returns-then-left-eq1-clause-each
+returns-then-left-eq1-clause-each c =
+    let r = rw c.in-Learnt.is at c.in_ok-round_of.ensures in
+    each_added _ _ _ _ _ c.rounds.trail _ c.rounds.invariant _ _ _ r.0.1 (λ p. r.0.2 (c.is_limited-strict.ensures p))
+
+pub returns-then-left-eq1-clause-consistent : goal.returns-then-left-eq1-clause-consistent
+returns-then-left-eq1-clause-consistent c =
+    let r = rw c.in-Learnt.is at c.in_ok-round_of.ensures in
+    consistent_added _ _ _ _ _ c.rounds.trail _ c.rounds.invariant _ _ _ r.0.1 (λ p. r.0.2 (c.is_limited-strict.ensures p))
+
+pub returns-then-left-eq1-clause-within : goal.returns-then-left-eq1-clause-within
+returns-then-left-eq1-clause-within c =
+    let r = rw c.in-Learnt.is at c.in_ok-round_of.ensures in
+    within_added _ _ _ _ _ c.rounds.trail _ c.rounds.invariant _ _ _ r.0.1 (λ p. r.0.2 (c.is_limited-strict.ensures p))
+
+pub returns-then-left-eq1-clause-outcome : goal.returns-then-left-eq1-clause-outcome
+returns-then-left-eq1-clause-outcome c =
+    let r = rw c.in-Learnt.is at c.in_ok-round_of.ensures in
+    spent_added _ _ _ _ _ c.rounds.trail _ c.rounds.invariant _ _ _ r.0.1 (λ p. r.0.2 (c.is_limited-strict.ensures p)) c.if-left-eq1.true
+
+pub rounds-smaller : goal.rounds-smaller
+rounds-smaller c =
+    let r = rw c.in-Learnt.is at c.in_ok-round_of.ensures in
+    work_falls c.rounds.known c.round_of.new.known c.rounds.trail c.round_of.new.trail r.1.trail r.1.long r.1.more
+
+pub rounds-preserved : goal.rounds-preserved
+rounds-preserved c =
+    let r = rw c.in-Learnt.is at c.in_ok-round_of.ensures in
+    rw c.saturating_sub-left.ensures (searches_learnt _ _ _ _ _ c.rounds.trail _ c.rounds.invariant _ _ _ r.0.1 (λ p. r.0.2 (c.is_limited-strict.ensures p)) c.round_of.new.trail r.1 c.if-left-eq1.false)

@@ -1,0 +1,7 @@
+pub mod Analysis
+pub mod Answer
+pub mod Round
+pub mod Scan
+pub mod Search
+pub mod Solver
+pub mod Trail

@@ -1,0 +1,82 @@
+// How much each variable was met in what was learnt, and its last value.
+use sk_clause::Lit;
+use std::alloc::{AllocError, Global};
+
+/// Weights and last signs of the variables. No contract speaks of them: they only order the decisions.
+#[derive(Drop)]
+pub struct Activity {
+    weights: Vec<u64>,
+    negative: Vec<bool>,
+    step: u64,
+}
+
+/// Weights are scaled down where the step passes this.
+const LARGEST_STEP: u64 = 1 << 40;
+
+// A sixteenth more, at least 1.
+fn grown(step: u64) -> u64 {
+    step.saturating_add(step / 16).saturating_add(1)
+}
+
+impl Activity {
+    /// No weights.
+    pub fn new(alloc: Global, vars: usize) -> Result<Activity, AllocError> {
+        let weights = vec![in alloc; 0; vars]?;
+        let negative = vec![in alloc; true; vars]?;
+        Ok(Activity {
+            weights,
+            negative,
+            step: 1,
+        })
+    }
+
+    /// The weight of a variable.
+    pub fn weight(&self, v: usize) -> u64 {
+        if v < self.weights.len() {
+            self.weights[v]
+        } else {
+            0
+        }
+    }
+
+    /// Whether a decision makes the variable false.
+    pub fn is_negative(&self, v: usize) -> bool {
+        if v < self.negative.len() {
+            self.negative[v]
+        } else {
+            true
+        }
+    }
+
+    /// Keeps the values as the signs of later decisions.
+    pub fn save(&mut self, values: &[Option<bool>]) {
+        for v in 0..values.len() {
+            if let Some(b) = values[v] {
+                if v < self.negative.len() {
+                    self.negative[v] = !b;
+                }
+            }
+        }
+    }
+
+    // Adds the step to the weight of a variable.
+    fn bump(&mut self, v: usize) {
+        if v < self.weights.len() {
+            self.weights[v] = self.weights[v].saturating_add(self.step);
+        }
+    }
+
+    /// The variables of a clause that was learnt gain weight, and later ones will gain more.
+    pub fn learn(&mut self, clause: &[Lit]) {
+        for l in clause {
+            self.bump(l.var);
+        }
+        self.step = grown(self.step);
+        if self.step > LARGEST_STEP {
+            for w in self.weights.iter_mut() {
+                *w = *w >> 30;
+            }
+            self.step = 1024;
+        }
+    }
+}

@@ -1,0 +1,18 @@
+//! A solver that learns clauses: it answers values that meet the clauses that were added, or a log that refutes them,
+//! or, under a budget, the clauses that it has learnt.
+#![tactic(auto)]
+
+mod activity;
+mod analysis;
+mod propagate;
+mod round;
+mod search;
+mod settle;
+mod solver;
+#[cfg(test)]
+mod tests;
+mod trail;
+mod values;
+mod watches;
+
+pub use solver::{Answer, Solver};

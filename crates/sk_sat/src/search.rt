@@ -1,0 +1,100 @@
+// The search.
+ghost use Rattle.std.specs.Prelude.{◌≡◌, ℕ, ◌+◌, ◌<◌, ◌≤◌, ◌++◌, ◌∷◌, [], List, length, All, map, unwrap_or, true, false, IfOk, OnOk, slice_index_or};
+ghost use Rattle.sk_clause.specs.declared.lit.Lit.{Lit};
+ghost use Rattle.sk_clause.specs.Problem.{AreWithin};
+ghost use Rattle.sk_clause.specs.Meaning.{EachFollows, IsConsistent};
+ghost use Rattle.sk_sat.specs.Search.{IsOutcome};
+
+use crate::activity::Activity;
+use crate::round::{Round, round_of};
+use crate::trail::Trail;
+use crate::watches::Watches;
+use sk_clause::ClauseList;
+use std::alloc::{AllocError, Global};
+
+/// What a search came to.
+#[derive(Debug, Drop)]
+pub enum Outcome {
+    /// A value for each variable, with which each clause is true.
+    Sat(Vec<bool>),
+    /// The empty clause follows.
+    Unsat,
+    /// As many clauses were learnt as the budget allows.
+    Spent,
+}
+
+// The values, where each variable has one.
+fn bits(alloc: Global, values: &[Option<bool>]) -> Result<Vec<bool>, AllocError>
+    ensures { IfOk result (λ b. b.items ≡ map (λ o. unwrap_or o false) values.now) }
+{
+    values.iter().map(|o| o.unwrap_or(false)).collect(alloc)
+}
+
+// Whether there is a budget.
+fn is_limited(budget: u64) -> bool
+    ensures { 0 < budget → result ≡ true }
+{
+    budget > 0
+}
+
+// Watches the last clause, and its variables gain weight.
+fn learn_last(
+    watches: &mut Watches,
+    activity: &mut Activity,
+    known: &ClauseList,
+    level: &[usize],
+) -> Result<(), AllocError> {
+    let n = known.len();
+    if n > 0 {
+        watches.learn(known.get(n - 1), level)?;
+        activity.learn(known.get(n - 1));
+    }
+    Ok(())
+}
+
+/// Searches for values with which the known clauses are true, and adds each clause that it learns to both lists.
+/// With budget 0 it ends only with an answer.
+#[tactic(auto, using(crate::proofs::SearchLemmas::searches))]
+pub fn search(
+    alloc: Global,
+    vars: usize,
+    known: &mut ClauseList,
+    fresh: &mut ClauseList,
+    budget: u64,
+) -> Result<Outcome, AllocError>
+    requires within { AreWithin vars known.old }
+    requires fresh { fresh.old ≡ [] }
+    ensures grown { OnOk result (known.new ≡ known.old ++ fresh.new) }
+    ensures each { OnOk result (EachFollows known.old fresh.new) }
+    ensures consistent { OnOk result (All IsConsistent fresh.new) }
+    ensures within { OnOk result (AreWithin vars known.new) }
+    ensures outcome { IfOk result (IsOutcome vars known.old fresh.new budget) }
+{
+    let mut trail = Trail::new(alloc, vars)?;
+    let mut watches = Watches::new(alloc, vars)?;
+    let mut activity = Activity::new(alloc, vars)?;
+    let strict = is_limited(budget);
+    let mut left = budget;
+    'rounds: loop {
+        match round_of(
+            alloc,
+            &mut trail,
+            known,
+            fresh,
+            &mut watches,
+            &mut activity,
+            strict,
+        )? {
+            Round::Refuted => return Ok(Outcome::Unsat),
+            Round::Full => return Ok(Outcome::Sat(bits(alloc, &trail.values)?)),
+            Round::Moved => continue,
+            Round::Learnt => {
+                if left == 1 {
+                    return Ok(Outcome::Spent);
+                }
+                left = left.saturating_sub(1);
+                learn_last(&mut watches, &mut activity, known, &trail.level)?;
+            }
+        }
+    }
+}
