@@ -11,7 +11,7 @@ use Rattle.sk_types.specs.Types.{Types}
 use Rattle.sk_model.specs.declared.expanded.Expanded.{Expanded}
 use Rattle.sk_model.specs.Expand.{expand}
 use Rattle.sk_model.specs.Nodes.{nodes}
-use Rattle.sk_app.specs.Early.{is_early, early_prog}
+use Rattle.sk_app.specs.Early.{is_early}
 use Rattle.sk_app.specs.Streams.{most_bytes}
 
 -- The bounds that hold where nothing sets them: integers of 16 bits, holes and inputs of 5 bits, 8 turns
@@ -52,7 +52,11 @@ pub record IsTyped (text : List ℕ) (prog : Prog) : Type 0 where
   pub tree : Tree
   pub is_tree : IsTree text tree
   pub types : Types tree default_bounds prog
-  pub early : IsTrue (early_prog prog)
+
+-- the expansion is small enough to try all its fillings on all its inputs
+pub record IsSmall (e : Expanded) : Type 0 where
+  pub nodes_fit : nodes e.prog ≤ most_nodes
+  pub bits_fit : bits_count e default_bounds ≤ most_bits
 
 -- The text is one that the program takes so far, and e is its expansion: it reads as an early tree, which
 -- means a program, and that has at most so many nodes and bits.
@@ -61,8 +65,7 @@ pub record IsBuilt (text : List ℕ) (e : Expanded) : Type 0 where
   pub short : length text ≤ most_bytes
   pub typed : IsTyped text prog
   pub expanded : e ≡ expand prog default_bounds
-  pub nodes_fit : nodes e.prog ≤ most_nodes
-  pub bits_fit : bits_count e default_bounds ≤ most_bits
+  pub small : IsSmall e
 
 -- the expansion of a text that is taken; the text has no other
 pub record IsOnly (text : List ℕ) (e : Expanded) : Type 0 where

@@ -18,8 +18,3 @@ mod typing;
 pub use command::run;
 pub use ending::{Ending, message, status};
 pub use std_streams::{StdSink, StdSource};
-
-#[cfg(test)]
-mod running_tests;
-#[cfg(test)]
-mod search_tests;

@@ -1,0 +1,9 @@
+use Rattle.std.proofs.Common.{◌≡◌, ◌++◌, ℕ, length}
+use Rattle.sk_app.specs.ResultText.{spaced}
+use Rattle.sk_app.proofs.complete.push_spaced.Given as goal
+
+abbrev pub invariant-loop-rest : goal.invariant-loop-rest
+invariant-loop-rest l = l.out.items ++ spaced l.rest ≡ l.fn.out.items ++ spaced l.numbers
+
+abbrev pub decreases-loop-rest : goal.decreases-loop-rest
+decreases-loop-rest l = length l.rest
