@@ -20,3 +20,15 @@ fn words_that_are_given(rt: HostRuntime) -> Result<(), AllocError> {
     assert_eq!(rt; dag.eval_word(sum, &env)?, -32);
     Ok(())
 }
+
+#[test]
+fn chosen_words(rt: HostRuntime) -> Result<(), AllocError> {
+    let mut dag = Dag::new(rt.alloc(), 6);
+    let c = dag.input_bit(1)?;
+    let x = dag.input_word(0)?;
+    let y = dag.word(9)?;
+    let chosen = dag.mux(c, x, y)?;
+    let env = scalars(rt.alloc(), 5, 0)?;
+    assert_eq!(rt; dag.eval_word(chosen, &env)?, 9);
+    Ok(())
+}

@@ -13,6 +13,32 @@ fn root_node(made: &Simplified, root: usize) -> Option<Node> {
     }
 }
 
+// At 6 bits 8 * 8 is 0.
+#[test]
+fn folded_words(rt: HostRuntime) -> Result<(), AllocError> {
+    let mut dag = Dag::new(rt.alloc(), 6);
+    let zero = dag.word(0)?;
+    let eight = dag.word(8)?;
+    let square = dag.mul(eight, eight)?;
+    let root = dag.eq(square, zero)?;
+    let made = simplify(rt.alloc(), &dag, &[root])?;
+    assert!(rt; root_node(&made, 0) == Some(Node::Flag(true)));
+    Ok(())
+}
+
+// `not (xor t a)` is a.
+#[test]
+fn truth_values(rt: HostRuntime) -> Result<(), AllocError> {
+    let mut dag = Dag::new(rt.alloc(), 6);
+    let truth = dag.flag(true)?;
+    let a = dag.input_bit(0)?;
+    let other = dag.xor(truth, a)?;
+    let root = dag.not(other)?;
+    let made = simplify(rt.alloc(), &dag, &[root])?;
+    assert!(rt; root_node(&made, 0) == Some(Node::InputBit(0)));
+    Ok(())
+}
+
 // `lt (mul 1 (add 0 a)) a` is false.
 #[test]
 fn words(rt: HostRuntime) -> Result<(), AllocError> {
@@ -25,5 +51,19 @@ fn words(rt: HostRuntime) -> Result<(), AllocError> {
     let root = dag.lt(product, a)?;
     let made = simplify(rt.alloc(), &dag, &[root])?;
     assert!(rt; root_node(&made, 0) == Some(Node::Flag(false)));
+    Ok(())
+}
+
+// `cost_le (cost_add cost_zero f a) 5` is true.
+#[test]
+fn costs(rt: HostRuntime) -> Result<(), AllocError> {
+    let mut dag = Dag::new(rt.alloc(), 6);
+    let a = dag.input_word(0)?;
+    let zero = dag.cost_zero()?;
+    let never = dag.flag(false)?;
+    let cost = dag.cost_add(zero, never, a)?;
+    let root = dag.cost_le(cost, 5)?;
+    let made = simplify(rt.alloc(), &dag, &[root])?;
+    assert!(rt; root_node(&made, 0) == Some(Node::Flag(true)));
     Ok(())
 }
