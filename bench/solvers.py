@@ -4,7 +4,7 @@
     solvers.py DIMACS FOLDER [SECONDS]
 
 DIMACS is the program of the crate `dimacs`, FOLDER has what formulas.py wrote. Times are user times in seconds, of the
-whole process. Each run is cut off after SECONDS (120 if left out) and then counts as that long. The solvers must agree;
+whole process. Each run is cut off after SECONDS (20 if left out) and then counts as that long. The solvers must agree;
 each log of the proved solver is checked by `DIMACS FILE --check LOG`.
 """
 
@@ -79,7 +79,7 @@ def summary(rows):
 
 def main():
     dimacs, folder = os.path.abspath(sys.argv[1]), Path(sys.argv[2])
-    limit = int(sys.argv[3]) if len(sys.argv) > 3 else 120
+    limit = int(sys.argv[3]) if len(sys.argv) > 3 else 20
     rows = []
     print("load before:", os.getloadavg())
     print(f"{'formula':22} {'answer':6} {'ours s':>8} {'learnt':>8} {'minisat':>8} {'confl.':>8} {'picosat':>8} {'confl.':>8} {'check s':>8}")
