@@ -1,0 +1,4 @@
+pub mod ExtensionLaws
+pub mod GateLaws
+pub mod BitLaws
+pub mod WordLaws

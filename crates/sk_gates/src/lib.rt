@@ -1,0 +1,19 @@
+//! Gates over literals: each adds to a list of clauses new variables that the old ones fix, and answers literals of them
+//! (or, in the layer over bits, constants and literals that were there) that stand for the function named.
+#![tactic(auto)]
+
+mod bit;
+mod bits;
+mod convert;
+mod fold;
+mod gate;
+mod gates;
+#[cfg(test)]
+mod tests;
+mod words;
+
+pub use bit::Bit;
+pub use bits::{and_bits, full_adder, mux_bits, or_bits, sum_bit, xor_bits};
+pub use convert::literal;
+pub use gates::{adder, and, less, mux, xor};
+pub use words::{add_bits, add_carry, less_bits};
