@@ -1,5 +1,6 @@
 // How much each variable was met in what was learnt, and its last value.
-use sk_clause::Lit;
+use crate::trail::Trail;
+use sk_clause::{ClauseList, Lit};
 use std::alloc::{AllocError, Global};
 
 /// Weights and last signs of the variables. No contract speaks of them: they only order the decisions.
@@ -48,8 +49,8 @@ impl Activity {
         }
     }
 
-    /// Keeps the values as the signs of later decisions.
-    pub fn save(&mut self, values: &[Option<bool>]) {
+    // Keeps the values as the signs of later decisions.
+    fn save(&mut self, values: &[Option<bool>]) {
         for v in 0..values.len() {
             if let Some(b) = values[v] {
                 if v < self.negative.len() {
@@ -63,6 +64,34 @@ impl Activity {
     fn bump(&mut self, v: usize) {
         if v < self.weights.len() {
             self.weights[v] = self.weights[v].saturating_add(self.step);
+        }
+    }
+
+    // The variables of a clause gain weight, if there is one of this number.
+    fn bump_all(&mut self, known: &ClauseList, i: usize) {
+        if i < known.len() {
+            for l in known.get(i) {
+                self.bump(l.var);
+            }
+        }
+    }
+
+    // The variables of the reason of a variable gain weight, if it got its value at the last level.
+    fn bump_reason(&mut self, trail: &Trail, known: &ClauseList, v: usize) {
+        if v < trail.level.len() && v < trail.reason.len() && trail.level[v] == trail.lims.len() {
+            self.bump_all(known, trail.reason[v]);
+        }
+    }
+
+    /// The variables of a false clause, and those of the reasons of its last literals, gain weight, and the values are
+    /// kept as the signs of later decisions.
+    pub fn meet(&mut self, trail: &Trail, known: &ClauseList, i: usize) {
+        self.save(&trail.values);
+        self.bump_all(known, i);
+        if i < known.len() {
+            for l in known.get(i) {
+                self.bump_reason(trail, known, l.var);
+            }
         }
     }
 

@@ -125,7 +125,7 @@ pub fn round_of(
     ensures { IfOk result (IsRound strict known.old known.new fresh.old fresh.new trail.old trail.new) }
 {
     if let Some(i) = watches.propagate(trail, known)? {
-        activity.save(&trail.values);
+        activity.meet(trail, known, i);
         let round = resolve_all(alloc, trail, known, fresh, strict, i)?;
         return Ok(round);
     }

@@ -20,12 +20,68 @@ pub struct Watch {
     next: usize,
 }
 
+/// Whether a clause watches.
+#[derive(Clone, Copy, Drop)]
+enum Use {
+    /// It always does.
+    Always,
+    /// It does, and forced a literal or was false when so many clauses had been learnt.
+    Last(u64),
+    /// It does no more. It stays in the list of clauses, and can be a reason.
+    Never,
+}
+
+/// A learnt clause stops watching when so many more were learnt since it was of use.
+const LONGEST_REST: u64 = 2000;
+
+/// How often, in learnt clauses, such clauses are looked for.
+const FORGET_EVERY: u64 = 1000;
+
+/// Learnt clauses of so many literals always watch.
+const SHORT: usize = 3;
+
+impl Use {
+    fn is_never(self) -> bool {
+        match self {
+            Use::Never => true,
+            _ => false,
+        }
+    }
+
+    // The use that is left when so many clauses have been learnt.
+    fn aged(self, now: u64) -> Use {
+        match self {
+            Use::Always => Use::Always,
+            Use::Last(at) => {
+                if at.saturating_add(LONGEST_REST) < now {
+                    Use::Never
+                } else {
+                    Use::Last(at)
+                }
+            }
+            Use::Never => Use::Never,
+        }
+    }
+
+    // The use of a clause that has just been of use.
+    fn renewed(self, now: u64) -> Use {
+        match self {
+            Use::Always => Use::Always,
+            _ => Use::Last(now),
+        }
+    }
+}
+
 /// For each literal the watches of it, in a list that is linked by their numbers. Watches 2i and 2i + 1 are those of
 /// clause i. No contract says that they are right: wrong ones would only make the search slower.
 #[derive(Drop)]
 pub struct Watches {
     heads: Vec<usize>,
     watches: Vec<Watch>,
+    /// Of each clause whether it watches.
+    uses: Vec<Use>,
+    /// How many clauses have been learnt.
+    now: u64,
     /// How many literals of the trail have been followed up.
     done: usize,
 }
@@ -37,6 +93,10 @@ pub enum Visit {
     Stays,
     /// It is to watch this literal in its place.
     Moves(Lit),
+    /// It forced a literal, and goes on watching.
+    Forces,
+    /// It watches no more.
+    Leaves,
     /// Each literal of it is false.
     Falsified,
 }
@@ -84,6 +144,8 @@ impl Watches {
         Ok(Watches {
             heads,
             watches: Vec::new(alloc),
+            uses: Vec::new(alloc),
+            now: 0,
             done: 0,
         })
     }
@@ -146,11 +208,12 @@ impl Watches {
     }
 
     // Makes the watches of the next clause, which watch nothing.
-    fn make(&mut self) -> Result<(), AllocError> {
+    fn make(&mut self, first_use: Use) -> Result<(), AllocError> {
         let idle = Watch {
             lit: Lit { var: 0, neg: false },
             next: NONE,
         };
+        self.uses.push(first_use)?;
         self.watches.push(idle)?;
         self.watches.push(idle)?;
         Ok(())
@@ -164,10 +227,38 @@ impl Watches {
         }
     }
 
+    fn is_forgotten(&self, i: usize) -> bool {
+        i < self.uses.len() && self.uses[i].is_never()
+    }
+
+    // A clause has been of use.
+    fn renew(&mut self, i: usize) {
+        if i < self.uses.len() {
+            self.uses[i] = self.uses[i].renewed(self.now);
+        }
+    }
+
+    // From time to time has clauses stop watching that have long been of no use. Their watches leave the lists when
+    // they are next met.
+    fn forget(&mut self) {
+        if self.now % FORGET_EVERY == 0 {
+            let now = self.now;
+            for u in self.uses.iter_mut() {
+                *u = u.aged(now);
+            }
+        }
+    }
+
     /// Makes the watches of a clause that was learnt: its last literal, which it forces, and a deepest other one.
     pub fn learn(&mut self, clause: &[Lit], level: &[usize]) -> Result<(), AllocError> {
         let i = self.len();
-        self.make()?;
+        self.now = self.now.saturating_add(1);
+        self.forget();
+        self.make(if clause.len() <= SHORT {
+            Use::Always
+        } else {
+            Use::Last(self.now)
+        })?;
         if let [front @ .., turn] = clause {
             self.set(i, *turn, deepest_of(level, front, *turn));
         }
@@ -190,9 +281,9 @@ impl Watches {
         for i in self.len()..known.len() {
             match look_at(trail, known, i)? {
                 Look::Falsified => return Ok(Some(i)),
-                Look::Forced => self.make()?,
+                Look::Forced => self.make(Use::Always)?,
                 Look::Settled(a, b) => {
-                    self.make()?;
+                    self.make(Use::Always)?;
                     self.set(i, a, b);
                 }
             }
@@ -216,13 +307,16 @@ impl Watches {
         ensures falsified { IfOk result (λ seen. seen ≡ Falsified → IsFalsified known.now trail.new.values.items (k / 2)) }
     {
         let i = k / 2;
+        if self.is_forgotten(i) {
+            return Ok(Visit::Leaves);
+        }
         let other = self.lit(k ^ 1, gone);
         if i >= known.len() || is_true(&trail.values, other) {
             return Ok(Visit::Stays);
         }
         match look_at(trail, known, i)? {
             Look::Falsified => Ok(Visit::Falsified),
-            Look::Forced => Ok(Visit::Stays),
+            Look::Forced => Ok(Visit::Forces),
             Look::Settled(a, b) => Ok(Visit::Moves(if a.is(other) { b } else { a })),
         }
     }
@@ -254,7 +348,15 @@ impl Watches {
                     self.unlink(gone, before, next);
                     self.link(k, l);
                 }
-                Visit::Falsified => return Ok(Some(k / 2)),
+                Visit::Forces => {
+                    self.renew(k / 2);
+                    before = k;
+                }
+                Visit::Leaves => self.unlink(gone, before, next),
+                Visit::Falsified => {
+                    self.renew(k / 2);
+                    return Ok(Some(k / 2));
+                }
             }
             k = next;
         }
