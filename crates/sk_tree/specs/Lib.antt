@@ -1,10 +1,15 @@
 pub mod Phrase
-pub mod Spelt
+pub mod Strings
 pub mod Placed
 pub mod Depth
+pub mod Spelt
+pub mod Spell
+pub mod Patterns
 pub mod Reads
 pub mod Spelling
 pub mod Shapes
 pub mod Longest
 pub mod Tokens
 pub mod Names
+pub mod Laws
+pub mod Examples

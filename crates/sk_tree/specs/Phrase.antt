@@ -10,9 +10,17 @@ use Rattle.sk_tree.specs.declared.token.Key.{Key}
 abbrev pub Phrase : Type 1
 Phrase = List Token → Type 0
 
+-- no tokens at all say it
+abbrev pub Never : Phrase
+Never ts = ⊥
+
 -- no token
 abbrev pub Nothing : Phrase
 Nothing ts = ts ≡ []
+
+-- a phrase that may stand only where this holds
+abbrev pub Given : Type 0 → Phrase → Phrase
+Given T P ts = T × P ts
 
 -- one token of this kind, wherever it stands
 abbrev pub One : Kind → Phrase

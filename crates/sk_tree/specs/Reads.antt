@@ -1,14 +1,12 @@
--- Which tree tokens read as.
-use Rattle.std.specs.Prelude.{ℕ, ◌≤◌, IsTrue, List}
+-- Which tree tokens read as, and what can be wrong with the patterns of a tree that reads.
+use Rattle.std.specs.Prelude.{◌≤◌, IsTrue, List, Contains}
 use Rattle.sk_tree.specs.declared.token.Token.{Token}
+use Rattle.sk_tree.specs.declared.pattern.Pattern.{Pattern}
 use Rattle.sk_tree.specs.declared.item.Tree.{Tree}
-use Rattle.sk_tree.specs.Spelt.{SpeltTree}
+use Rattle.sk_tree.specs.Spelt.{SpeltTree, HasTooMany, HasBad}
 use Rattle.sk_tree.specs.Placed.{tree_placed}
-use Rattle.sk_tree.specs.Depth.{tree_depth}
-
--- the greatest depth of a tree that is read
-abbrev pub most_levels : ℕ
-most_levels = 256
+use Rattle.sk_tree.specs.Depth.{tree_depth, most_levels}
+use Rattle.sk_tree.specs.Patterns.{patterns_of}
 
 -- The tokens are those of the tree, its spans are those of its tokens, its operands stand where they
 -- may, and it is not too deep.
@@ -16,3 +14,11 @@ pub record Reads (tokens : List Token) (tree : Tree) : Type 0 where
   pub spelt : SpeltTree tree tokens
   pub placed : IsTrue (tree_placed tree)
   pub within : tree_depth tree ≤ most_levels
+
+-- A pattern of the tree has more than 128 strings.
+abbrev pub HasTooManyStrings : Tree → Type 0
+HasTooManyStrings tree = (pattern : Pattern) × Contains (patterns_of tree) pattern × HasTooMany pattern
+
+-- A pattern of the tree has a string that reads as no expression.
+abbrev pub HasBadAlternative : Tree → Type 0
+HasBadAlternative tree = (pattern : Pattern) × Contains (patterns_of tree) pattern × HasBad pattern

@@ -2,8 +2,10 @@
 //! a meaning.
 #![tactic(auto)]
 
+pub mod examples;
 mod expr;
 mod item;
+pub mod laws;
 mod pattern;
 mod shape;
 mod stmt;

@@ -1,0 +1,6 @@
+pub mod Folds
+pub mod Says
+pub mod Layers
+pub mod KindLaws
+pub mod TextLemmas
+pub mod ExampleLemmas
