@@ -1,1 +1,3 @@
 pub mod Lexed
+mod SameLayout
+mod ExampleTexts

@@ -1,2 +1,4 @@
 pub mod Layout
 pub mod Shows
+pub mod SpansUnseen
+pub mod Examples
