@@ -4,9 +4,13 @@ pub mod Fill
 pub mod Nodes
 pub mod Step
 pub mod Values
+pub mod Operators
+pub mod Heap
 pub mod Eval
 pub mod Exec
 pub mod Run
+pub mod Open
 pub mod Obligations
 pub mod Inputs
 pub mod Meets
+pub mod RunningExamples

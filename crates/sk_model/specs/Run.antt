@@ -14,9 +14,10 @@ use Rattle.sk_prog.specs.declared.prog.Fun.{Fun}
 use Rattle.sk_prog.specs.declared.prog.Prog.{Prog}
 use Rattle.sk_model.specs.declared.outcome.Outcome.{Outcome}
 use Rattle.sk_model.specs.declared.outcome.Outcome.TheVariants as outcome
-use Rattle.sk_model.specs.Step.{Step, Goes, Fails, Skips, Comp, and_then, fail}
+use Rattle.sk_model.specs.Step.{State, Step, Goes, Fails, Skips, Comp, and_then, fail}
 use Rattle.sk_model.specs.Values.{zero_of}
-use Rattle.sk_model.specs.Eval.{Called, Calls, blank}
+use Rattle.sk_model.specs.Heap.{blank}
+use Rattle.sk_model.specs.Eval.{Called, Calls}
 use Rattle.sk_model.specs.Exec.{Flow, Onward, Returns, exec_all}
 
 -- the result of a function with this result type whose body ended so
@@ -40,16 +41,20 @@ abbrev pub in_frame : Fun → List Value → Comp Flow → Comp Called
 in_frame fun args body = λ s. and_then (body (record s { slots = first_slots fun args }))
     (λ flow end. Goes (record { result = result_of fun.result flow; refs = refs_from 0 fun.params end.slots }) (record end { slots = s.slots }))
 
-abbrev pub body_of : Bounds → Calls → Span → Option Fun → List Value → Comp Called
-body_of bounds call span None args = fail span
-body_of bounds call span (Some fun) args = in_frame fun args (exec_all bounds.int_bits call fun.body)
+-- what the body of the function with this number does, where calls do so much
+abbrev pub Bodies : Type 0
+Bodies = Calls → ℕ → Fun → Comp Flow
+
+abbrev pub body_of : (Fun → Comp Flow) → Span → Option Fun → List Value → Comp Called
+body_of body span None args = fail span
+body_of body span (Some fun) args = in_frame fun args (body fun)
 
 -- Calls where calls of these functions are active, and so many more calls may be.
-unfoldable pub calls : Prog → Bounds → ℕ → List ℕ → Calls
-calls prog bounds zero active span f args = fail span
-calls prog bounds (suc left) active span f args =
+unfoldable pub calls : Prog → Bounds → Bodies → ℕ → List ℕ → Calls
+calls prog bounds bodies zero active span f args = fail span
+calls prog bounds bodies (suc left) active span f args =
     if nat_lt (count_by (λ g. g == f) active) bounds.inline_amnt
-    then body_of bounds (calls prog bounds left (active ++ f ∷ [])) span (slice_get prog.funs f) args
+    then body_of (bodies (calls prog bounds bodies left (active ++ f ∷ [])) f) span (slice_get prog.funs f) args
     else fail span
 
 abbrev pub outcome_of : Step Called → Outcome
@@ -65,5 +70,17 @@ most_calls = 128
 abbrev pub nowhere : Span
 nowhere = record { from = 0; to = 0 }
 
+-- the first state: no record, no variable, no cost
+abbrev pub start : State
+start = record { heap = []; slots = []; cost = 0 }
+
+-- a run of a function, by what the bodies do
+abbrev pub run_by : Prog → Bodies → FunId → List Value → Bounds → Outcome
+run_by prog bodies f args bounds = outcome_of (calls prog bounds bodies most_calls [] nowhere f.index args start)
+
+-- a body does its statements
+abbrev pub filled_bodies : Prog → Bounds → Bodies
+filled_bodies prog bounds call f fun = exec_all prog bounds call fun.body
+
 unfoldable pub run : Prog → FunId → List Value → Bounds → Outcome
-run prog f args bounds = outcome_of (calls prog bounds most_calls [] nowhere f.index args (record { heap = []; slots = []; cost = 0 }))
+run prog f args bounds = run_by prog (filled_bodies prog bounds) f args bounds

@@ -4,6 +4,7 @@
 
 mod expanded;
 mod outcome;
+pub mod running_examples;
 
 pub use expanded::{Choice, Expanded, Input, Obligation, Pair, Site};
 pub use outcome::Outcome;
