@@ -2,3 +2,4 @@ pub mod Steps
 pub mod RunningExamples
 pub mod Layers
 pub mod FillingExamples
+pub mod Spanned

@@ -24,7 +24,7 @@ use Rattle.sk_prog.specs.declared.expr.PField.{PField}
 use Rattle.sk_prog.specs.declared.expr.PEForm.{PEForm}
 use Rattle.sk_prog.specs.declared.expr.PEForm.TheVariants as eform
 use Rattle.sk_prog.specs.declared.expr.PEForm.TheOpen as P
-use Rattle.sk_prog.specs.declared.expr.PEForm.TheFolds.{fold-PExpr}
+use Rattle.sk_prog.specs.declared.expr.PEForm.TheFolds.{fold-PExpr, para-PExpr}
 use Rattle.sk_prog.specs.declared.stmt.PStmt.{PStmt}
 use Rattle.sk_prog.specs.declared.stmt.PForm.{PForm}
 use Rattle.sk_prog.specs.declared.stmt.PForm.TheVariants as form
@@ -79,12 +79,19 @@ tight_form (P.Slice e i n) = true
 abbrev pub is_tight : PExpr → Bool
 is_tight = fold-PExpr Bool Bool (Unit {0}) tight_form (λ e. e.form) (λ x. tt)
 
-abbrev pub spanned : Span → PExpr → PExpr
-spanned span e = record { span = span; ty = e.ty; form = e.form }
+-- The form of a coercion, whose operand gets this span too; any other form stays.
+abbrev pub form_spanned : P.PEForm-F (PEForm × (Span → PEForm → PEForm)) (PExpr × (Span → PExpr)) (PField × Unit {0}) → Span → PEForm → PEForm
+form_spanned (P.ToInt e) span whole = eform.ToInt (e.1 span)
+form_spanned (P.Pad e) span whole = eform.Pad (e.1 span)
+form_spanned _ span whole = whole
+
+-- An expression with this span. A coercion has the span of its operand, so both get it.
+unfoldable pub spanned : PExpr → Span → PExpr
+spanned e = para-PExpr (Span → PEForm → PEForm) (Span → PExpr) (Unit {0}) form_spanned (λ x span. record { span = span; ty = x.ty; form = x.form.1 span x.form.0 }) (λ x. tt) e
 
 -- a chosen string in the place of a pattern with this type and span
 abbrev pub chosen : Option Ty → Span → PExpr → PExpr
-chosen t span e = if is_tight e then spanned span e else record { span = span; ty = t; form = eform.Paren (spanned span e) }
+chosen t span e = if is_tight e then spanned e span else record { span = span; ty = t; form = eform.Paren (spanned e span) }
 
 -- what stands for a string that is not there, which no choice in range takes
 abbrev pub no_string : PExpr

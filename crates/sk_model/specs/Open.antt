@@ -30,7 +30,7 @@ use Rattle.sk_prog.specs.declared.prog.Prog.{Prog}
 use Rattle.sk_model.specs.declared.expanded.Choice.{Choice}
 use Rattle.sk_model.specs.declared.expanded.Expanded.{Expanded}
 use Rattle.sk_model.specs.declared.outcome.Outcome.{Outcome}
-use Rattle.sk_model.specs.Fill.{Part, counts, in_turn}
+use Rattle.sk_model.specs.Parts.{Part, counts, in_turn}
 use Rattle.sk_model.specs.Step.{Comp, pure, fail}
 use Rattle.sk_model.specs.Eval.{Calls, Does, number_at, literal, does_form}
 use Rattle.sk_model.specs.Exec.{Flow, one_by_one, declare, assign, drop_value, branch, turns, return, assert, assume, pay, minimize}

@@ -143,22 +143,25 @@ pub record IsPadded (x : Own) (a t : Option Ty) : Type 0 where
   pub result : t ≡ Some to
   pub fit : fit_of from to ≡ Pads
 
--- 0 and 1 become the first element of an array.
+-- 0 and 1, as an integer or a bit, become the first element of an array.
 pub record IsPaddedLiteral (e : EForm) (a t : Option Ty) : Type 0 where
   pub from : Ty
   pub to : Ty
   pub number : ℕ
   pub literal : (e ≡ eform.Number number) × (number < 2)
+  pub single : IsTrue (number_takes number from)
   pub operand : a ≡ Some from
   pub result : t ≡ Some to
   pub element : element_of to ≡ Some from
 
--- Zeros come behind the elements of braces where more are wanted.
+-- Zeros come behind the elements of braces where more are wanted: the operand is the braces themselves, with as
+-- many elements as they name.
 pub record IsPaddedBraces (e : EForm) (a t : Option Ty) : Type 0 where
   pub from : Ty
   pub to : Ty
   pub elements : List Expr
   pub braces : e ≡ eform.Braces elements
+  pub whole : count_of from ≡ length elements
   pub operand : a ≡ Some from
   pub result : t ≡ Some to
   pub element : element_of to ≡ element_of from
