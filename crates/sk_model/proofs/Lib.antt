@@ -1,2 +1,4 @@
 pub mod Steps
 pub mod RunningExamples
+pub mod Layers
+pub mod FillingExamples

@@ -1,7 +1,14 @@
+pub mod Parts
+pub mod Slots
 pub mod Sites
 pub mod Expand
+pub mod Stands
 pub mod Fill
 pub mod Nodes
+pub mod Steps
+pub mod News
+pub mod Limits
+pub mod FillingExamples
 pub mod Step
 pub mod Values
 pub mod Operators

@@ -3,6 +3,7 @@
 #![tactic(auto)]
 
 mod expanded;
+pub mod filling_examples;
 mod outcome;
 pub mod running_examples;
 
