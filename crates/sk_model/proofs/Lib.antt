@@ -2,3 +2,8 @@ pub mod Steps
 pub mod RunningExamples
 pub mod Layers
 pub mod FillingExamples
+pub mod OpenExprs
+pub mod OpenStmts
+pub mod OpenPaid
+pub mod OpenRuns
+pub mod RunningLaws

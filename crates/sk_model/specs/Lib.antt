@@ -17,7 +17,9 @@ pub mod Eval
 pub mod Exec
 pub mod Run
 pub mod Open
+pub mod Filled
 pub mod Obligations
 pub mod Inputs
 pub mod Meets
+pub mod RunningLaws
 pub mod RunningExamples

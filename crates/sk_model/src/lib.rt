@@ -6,6 +6,7 @@ mod expanded;
 pub mod filling_examples;
 mod outcome;
 pub mod running_examples;
+pub mod running_laws;
 
 pub use expanded::{Choice, Expanded, Input, Obligation, Pair, Site};
 pub use outcome::Outcome;
