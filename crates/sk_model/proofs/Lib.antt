@@ -1,4 +1,4 @@
-pub mod Steps
+pub mod Forms
 pub mod RunningExamples
 pub mod Layers
 pub mod FillingExamples

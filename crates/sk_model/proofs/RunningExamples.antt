@@ -26,7 +26,7 @@ use Rattle.sk_model.specs.Eval.{Calls}
 use Rattle.sk_model.specs.Open.{open_body, open_bodies}
 use Rattle.sk_model.specs.RunningExamples.{small, at, outcome_under, repeats_least, NumberExamples, ArrayExamples, BoundExamples, RefExamples, TargetExamples, EndExamples, ChoiceExamples}
 use Rattle.sk_model.proofs.Layers.{all_layers}
-use Rattle.sk_model.proofs.Steps.{expr_steps, stmt_steps}
+use Rattle.sk_model.proofs.Forms.{expr_steps, stmt_steps}
 
 module _ (prog : Prog) (bodies : Bodies) where
   call_0 : (span : Span) (f : ℕ) (args : List Value) (active : List ℕ) (s : State) → calls prog small bodies 0 active span f args s ≡ Fails span
