@@ -1,2 +1,4 @@
 pub mod Layers
+pub mod Principle
+pub mod Bare
 pub mod FillingExamples
