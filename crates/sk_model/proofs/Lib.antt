@@ -1,6 +1,8 @@
 pub mod Forms
 pub mod RunningExamples
 pub mod Layers
+pub mod Principle
+pub mod Bare
 pub mod FillingExamples
 pub mod OpenExprs
 pub mod OpenStmts

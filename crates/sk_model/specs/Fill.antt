@@ -40,7 +40,7 @@ use Rattle.sk_model.specs.declared.expanded.Expanded.{Expanded}
 use Rattle.sk_model.specs.Parts.{Part, counts, in_turn, pick, value, rank}
 use Rattle.sk_model.specs.Slots.{with_body}
 use Rattle.sk_model.specs.Sites.{is_hole}
-use Rattle.sk_model.specs.Stands.{FunStanding, standing, funs_stand, all_paid}
+use Rattle.sk_model.specs.Stands.{Payment, FunStanding, standing, funs_stand, all_paid}
 
 -- one value for each site, and each below its site's size
 abbrev pub Fits : List Site → List ℕ → Type 0
@@ -208,6 +208,10 @@ module _ (values : List ℕ) (number : ℕ → ℕ) where
 
 -- Functions
 
+-- `minimize(v);` for a minrepeat that pays v
+abbrev pub minimize_of : Payment → PStmt
+minimize_of p = record { span = p.span; form = form.Minimize (record { span = p.span; ty = Some (ty.One elem.Int); form = eform.Number p.amount }) }
+
 -- what stands at the start of a body
 abbrev pub before_body : FunKind → List PStmt → List PStmt
 before_body kind.Harness paid = paid
@@ -224,7 +228,7 @@ module _ (values : List ℕ) (number : ℕ → ℕ) (paid : List PStmt) where
   fill_funs _ _ i = []
 
 abbrev pub fill_prog : Prog → List ℕ → List FunStanding → Prog
-fill_prog p values ss = record p { funs = fill_funs values (rank (funs_stand ss)) (all_paid ss) (funs_stand ss) p.funs 0 }
+fill_prog p values ss = record p { funs = fill_funs values (rank (funs_stand ss)) (map minimize_of (all_paid ss)) (funs_stand ss) p.funs 0 }
 
-abbrev pub fill : Expanded → Choice → Prog
+unfoldable pub fill : Expanded → Choice → Prog
 fill e a = fill_prog e.prog a.values (standing e a.values)

@@ -8,6 +8,7 @@ pub mod Nodes
 pub mod Steps
 pub mod News
 pub mod Limits
+pub mod FillingLaws
 pub mod FillingExamples
 pub mod Step
 pub mod Values

@@ -4,6 +4,7 @@
 
 mod expanded;
 pub mod filling_examples;
+pub mod filling_laws;
 mod outcome;
 pub mod running_examples;
 pub mod running_laws;
