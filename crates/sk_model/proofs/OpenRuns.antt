@@ -17,7 +17,7 @@ use Rattle.sk_model.specs.declared.expanded.Expanded.{Expanded}
 use Rattle.sk_model.specs.declared.outcome.Outcome.{Outcome}
 use Rattle.sk_model.specs.Parts.{in_turn}
 use Rattle.sk_model.specs.Stands.{standing, all_paid}
-use Rattle.sk_model.specs.Fill.{before_body}
+use Rattle.sk_model.specs.Fill.{minimize_of, before_body}
 use Rattle.sk_model.specs.Step.{Comp, fail}
 use Rattle.sk_model.specs.Eval.{Called, Calls}
 use Rattle.sk_model.specs.Exec.{Flow, exec_stmt, exec_all, one_by_one}
@@ -64,7 +64,7 @@ before_none kind.Generator = refl
 
 body_filled : (e : Expanded) (a : Choice) (bounds : Bounds) (call : Calls) (f : ℕ) (fun : Fun) → IsTrue (is_filled e.prog) → IsTrue (fun_filled fun) → open_bodies e a bounds call f fun ≡ filled_bodies e.prog bounds call f fun
 body_filled e a bounds call f fun all one =
-    ap (λ paid. open_body e.prog bounds a.values call paid fun (sites_before e.prog bounds a.values call e.prog.funs f)) (none_paid e a.values all)
+    ap (λ paid. open_body e.prog bounds a.values call (map minimize_of paid) fun (sites_before e.prog bounds a.values call e.prog.funs f)) (none_paid e a.values all)
     ∙ ap (λ before. one_by_one (map (exec_stmt e.prog bounds call) before ++ in_turn (map (open_stmt e.prog bounds a.values call) fun.body) (sites_before e.prog bounds a.values call e.prog.funs f))) (before_none fun.kind)
     ∙ ap one_by_one (filled_turn e.prog bounds a.values call fun.body (sites_before e.prog bounds a.values call e.prog.funs f) one)
 

@@ -29,7 +29,7 @@ use Rattle.sk_model.specs.declared.outcome.Outcome.{Outcome}
 use Rattle.sk_model.specs.Parts.{Part, counts, in_turn, pick, value}
 use Rattle.sk_model.specs.Sites.{is_hole}
 use Rattle.sk_model.specs.Stands.{hole_count, standing, all_paid}
-use Rattle.sk_model.specs.Fill.{arrange, before_body}
+use Rattle.sk_model.specs.Fill.{arrange, minimize_of, before_body}
 use Rattle.sk_model.specs.Step.{Comp, pure, fail}
 use Rattle.sk_model.specs.Eval.{Calls, Does, number_at, literal, does_form}
 use Rattle.sk_model.specs.Exec.{Flow, exec_stmt, one_by_one, declare, assign, drop_value, branch, turns, return, assert, assume, minimize}
@@ -176,7 +176,7 @@ module _ (prog : Prog) (bounds : Bounds) (values : List ℕ) (call : Calls) wher
   open_body paid fun i = one_by_one (map (exec_stmt prog bounds call) (before_body fun.kind paid) ++ in_turn (map open_stmt fun.body) i)
 
 abbrev pub open_bodies : Expanded → Choice → Bounds → Bodies
-open_bodies e a bounds call f fun = open_body e.prog bounds a.values call (all_paid (standing e a.values)) fun (sites_before e.prog bounds a.values call e.prog.funs f)
+open_bodies e a bounds call f fun = open_body e.prog bounds a.values call (map minimize_of (all_paid (standing e a.values))) fun (sites_before e.prog bounds a.values call e.prog.funs f)
 
 -- a run of a function of the program under a choice
 unfoldable pub run_open : Expanded → Choice → FunId → List Value → Bounds → Outcome
