@@ -1,7 +1,15 @@
+pub mod Parts
+pub mod Slots
 pub mod Sites
 pub mod Expand
+pub mod Stands
 pub mod Fill
 pub mod Nodes
+pub mod Steps
+pub mod News
+pub mod Limits
+pub mod FillingLaws
+pub mod FillingExamples
 pub mod Step
 pub mod Values
 pub mod Operators
@@ -10,7 +18,9 @@ pub mod Eval
 pub mod Exec
 pub mod Run
 pub mod Open
+pub mod Filled
 pub mod Obligations
 pub mod Inputs
 pub mod Meets
+pub mod RunningLaws
 pub mod RunningExamples
