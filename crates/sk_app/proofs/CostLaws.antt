@@ -1,7 +1,7 @@
 -- The runs of early programs cost nothing: no statement of theirs is a `minimize`.
 use Rattle.std.proofs.Common.{ℕ, zero, suc, ◌≡◌, ◌<◌, ◌≤◌, List, [], ◌∷◌, refl, sym, ap, subst, ◌∙◌, arith, inl}
 use Rattle.std.specs.Prelude.{map, Bool, true, false, nat_lt, ◌&&◌, IsTrue, Option, Some, None, slice_get, if◌then◌else◌, count_by, ◌==◌, ◌++◌}
-use Rattle.std.specs.Prelude.{ℤ}
+use Rattle.std.specs.Prelude.{ℤ, pos, negsuc}
 use Rattle.std.specs.List.{list_all}
 use Rattle.std.proofs.lemmas.Bool.{false≢true, and_parts}
 use Rattle.std.proofs.lemmas.Grind.{common_steps}
@@ -28,9 +28,12 @@ use Rattle.sk_model.specs.declared.expanded.Input.{Input}
 use Rattle.sk_model.specs.declared.expanded.Obligation.{Obligation}
 use Rattle.sk_model.specs.declared.expanded.Obligation.TheVariants as obligation
 use Rattle.sk_model.specs.Step.{State, Step, Goes, Fails, Skips, Comp, and_then, ◌>>=◌, pure, fail}
-use Rattle.sk_model.specs.Eval.{Called, Calls, eval, eval_form, target, read, write, operator, on_numbers, number_operator}
-use Rattle.sk_model.specs.Exec.{Flow, Onward, Returns, exec_stmt, exec_all, one_by_one, unless_returned, choose, onward}
-use Rattle.sk_model.specs.Run.{in_frame, body_of, calls, outcome_of, run, first_slots, most_calls, nowhere}
+use Rattle.sk_model.specs.Heap.{Location, Variable, at_root, read, write, store}
+use Rattle.sk_model.specs.Operators.{Operand, Number, OneBit, Bits, operand, operator, on_operands, number_operator, bit_operator, bits_operator, shift, divided}
+use Rattle.sk_model.specs.Eval.{Called, Calls, eval, target, literal, choose, binary}
+use Rattle.sk_model.specs.Exec.{Flow, Onward, Returns, exec_stmt, exec_all, one_by_one, unless_returned, onward}
+use Rattle.sk_model.specs.Run.{in_frame, body_of, filled_bodies, calls, outcome_of, run, first_slots, most_calls, nowhere, start}
+use Rattle.sk_model.proofs.Steps.{does_number, does_var, does_hole, does_binary, exec_declare, exec_assign, exec_assert}
 use Rattle.sk_model.specs.Obligations.{obligations}
 use Rattle.sk_model.specs.Meets.{cost_of, cost_of_obligation, cost_on, IsGreatestCost}
 use Rattle.sk_app.specs.Early.{prank, is_sum, is_equation, is_variable, is_int_ty, early_pstmt, early_pfun, early_funs, early_prog, is_none, is_absent, is_pharness, early_pparam}
@@ -70,30 +73,66 @@ quiet_read slot = record { keeps = λ s. refl }
 quiet_write : (slot : ℕ) (v : Value) → Quiet (write slot v)
 quiet_write slot v = record { keeps = λ s. refl }
 
-module _ (bits : ℕ) (span : Span) where
-  quiet_number : (o : BinOp) (x y : ℤ) → Quiet (number_operator bits span o x y)
+quiet_divided : (span : Span) (y z : ℤ) → Quiet (divided span y z)
+quiet_divided span (pos zero) z = quiet_fail span
+quiet_divided span (pos (suc n)) z = record { keeps = λ s. refl }
+quiet_divided span (negsuc n) z = record { keeps = λ s. refl }
+
+module _ (width : ℕ) (span : Span) where
+  quiet_number : (o : BinOp) (x y : ℤ) → Quiet (number_operator width span o x y)
   quiet_number op.Add x y = record { keeps = λ s. refl }
   quiet_number op.Sub x y = record { keeps = λ s. refl }
   quiet_number op.Mul x y = record { keeps = λ s. refl }
+  quiet_number op.Div x y = quiet_divided span y _
+  quiet_number op.Rem x y = quiet_divided span y _
   quiet_number op.Lt x y = record { keeps = λ s. refl }
   quiet_number op.Le x y = record { keeps = λ s. refl }
   quiet_number op.Gt x y = record { keeps = λ s. refl }
   quiet_number op.Ge x y = record { keeps = λ s. refl }
   quiet_number _ x y = record { keeps = λ s. tt }
 
-  quiet_numbers : (o : BinOp) (v w : Value) → Quiet (on_numbers bits span o v w)
-  quiet_numbers o (value.Int x) (value.Int y) = quiet_number o x y
-  quiet_numbers o _ _ = record { keeps = λ s. tt }
+  quiet_bit : (o : BinOp) (a b : Bool) → Quiet (bit_operator span o a b)
+  quiet_bit op.And a b = record { keeps = λ s. refl }
+  quiet_bit op.Or a b = record { keeps = λ s. refl }
+  quiet_bit op.Xor a b = record { keeps = λ s. refl }
+  quiet_bit _ a b = record { keeps = λ s. tt }
 
-  quiet_operator : (o : BinOp) (v w : Value) → Quiet (operator bits span o v w)
+  quiet_bits : (o : BinOp) (a b : List Bool) → Quiet (bits_operator span o a b)
+  quiet_bits op.Add a b = record { keeps = λ s. refl }
+  quiet_bits op.And a b = record { keeps = λ s. refl }
+  quiet_bits op.Or a b = record { keeps = λ s. refl }
+  quiet_bits op.Xor a b = record { keeps = λ s. refl }
+  quiet_bits _ a b = record { keeps = λ s. tt }
+
+  quiet_shift : (o : BinOp) (a : List Bool) (n : ℤ) → Quiet (shift span o a n)
+  quiet_shift op.Shl a (pos n) = record { keeps = λ s. refl }
+  quiet_shift op.Shr a (pos n) = record { keeps = λ s. refl }
+  quiet_shift _ a n = record { keeps = λ s. tt }
+
+  quiet_operands : (o : BinOp) (v w : Operand) → Quiet (on_operands width span o v w)
+  quiet_operands o (Number x) (Number y) = quiet_number o x y
+  quiet_operands o (OneBit a) (OneBit b) = quiet_bit o a b
+  quiet_operands o (Bits a) (Bits b) = quiet_bits o a b
+  quiet_operands o (Bits a) (Number n) = quiet_shift o a n
+  quiet_operands o _ _ = record { keeps = λ s. tt }
+
+  quiet_operator : (o : BinOp) (v w : Value) → Quiet (operator width span o v w)
   quiet_operator op.Eq v w = record { keeps = λ s. refl }
   quiet_operator op.Ne v w = record { keeps = λ s. refl }
-  quiet_operator o v w = quiet_numbers o v w
+  quiet_operator o v w = quiet_operands o (operand v) (operand w)
 
-quiet_choose : (span : Span) (a b : Comp Flow) (v : Value) → Quiet a → Quiet b → Quiet (choose span a b v)
+quiet_choose : {A : Type 0} (span : Span) (a b : Comp A) (v : Value) → Quiet a → Quiet b → Quiet (choose span a b v)
 quiet_choose span a b (value.Bit true) qa qb = qa
 quiet_choose span a b (value.Bit false) qa qb = qb
 quiet_choose span a b _ qa qb = record { keeps = λ s. tt }
+
+quiet_binary : (width : ℕ) (span : Span) (o : BinOp) (a b : Comp Value) → Quiet a → Quiet b → Quiet (binary width span o a b)
+quiet_binary width span op.AndThen a b qa qb = quiet_then a (choose span b (pure (value.Bit false))) qa (λ v. quiet_choose span b (pure (value.Bit false)) v qb (quiet_pure (value.Bit false)))
+quiet_binary width span op.OrElse a b qa qb = quiet_then a (choose span (pure (value.Bit true)) b) qa (λ v. quiet_choose span (pure (value.Bit true)) b v (quiet_pure (value.Bit true)) qb)
+quiet_binary width span o a b qa qb = quiet_then a (λ v. b >>= operator width span o v) qa (λ v. quiet_then b (operator width span o v) qb (quiet_operator width span o v))
+
+quiet_by : {A : Type 0} (m n : Comp A) → ((s : State) → m s ≡ n s) → Quiet n → Quiet m
+quiet_by m n is q = record { keeps = λ s. subst (Keeps s) (sym (is s)) (q.keeps s) }
 
 quiet_unless : (m : Comp Flow) (f : Flow) → Quiet m → Quiet (unless_returned m f)
 quiet_unless m Onward q = q
@@ -102,56 +141,37 @@ quiet_unless m (Returns v) q = record { keeps = λ s. refl }
 quiet_onward : (m : Comp (Unit {0})) → Quiet m → Quiet (onward m)
 quiet_onward m q = quiet_then m (λ u. pure Onward) q (λ u. record { keeps = λ s. refl })
 
-module _ (slots bits : ℕ) (call : Calls) where
-  eval_number : (sp span : Span) (t : Option Ty) (n : ℕ) → Quiet (eval bits call sp (record { span = span; ty = t; form = eform.Number n }))
-  eval_number sp span t n = record { keeps = λ s. grind (arith, common_steps, the_lemmas) }
+module _ (slots : ℕ) (prog : Prog) (bounds : Bounds) (call : Calls) where
+  abbrev width : ℕ
+  width = bounds.int_bits
 
-  eval_var : (sp span : Span) (t : Option Ty) (x : ℕ) (name : Name) → Quiet (eval bits call sp (record { span = span; ty = t; form = eform.Var x name }))
-  eval_var sp span t x name = record { keeps = λ s. grind (arith, common_steps, the_lemmas) }
+  quiet_expr : (e : PExpr) → IsTrue (ranked (prank slots e)) → (sp : Span) → Quiet (eval prog width call sp e)
+  quiet_expr = early_expr slots (λ e. (sp : Span) → Quiet (eval prog width call sp e))
+      (λ span t n sp. subst (λ d. Quiet (d.value sp)) (sym (does_number prog width call span t n)) (quiet_pure (literal width t n)))
+      (λ span t x name h sp. subst (λ d. Quiet (d.value sp)) (sym (does_var prog width call span t x name)) (quiet_read x))
+      (λ span t sp. subst (λ d. Quiet (d.value sp)) (sym (does_hole prog width call span t None)) (quiet_fail sp))
+      (λ span t o a b ha hb qa qb sp. subst (λ d. Quiet (d.value sp)) (sym (does_binary prog width call span t o a b)) (quiet_binary width sp o (eval prog width call sp a) (eval prog width call sp b) (qa sp) (qb sp)))
 
-  eval_hole : (sp span : Span) (t : Option Ty) → Quiet (eval bits call sp (record { span = span; ty = t; form = eform.Hole None }))
-  eval_hole sp span t = record { keeps = λ s. grind (arith, common_steps, the_lemmas) }
+  target_is : (e : PExpr) → IsTrue (is_variable slots e) → (sp : Span) → (x : ℕ) × (target prog width call sp e ≡ at_root (Variable x))
+  target_is = variable_expr slots (λ e. (sp : Span) → (x : ℕ) × (target prog width call sp e ≡ at_root (Variable x)))
+      (λ span t x name h sp. (x, ap (λ d. d.target sp) (does_var prog width call span t x name)))
 
-  eval_binary : (sp span : Span) (t : Option Ty) (o : BinOp) (a b : PExpr) → eval bits call sp (record { span = span; ty = t; form = eform.Binary o a b }) ≡ (eval bits call sp a >>= (λ v. eval bits call sp b >>= operator bits sp o v))
-  eval_binary sp span t o a b = subst (λ f. eval bits call sp (record { span = span; ty = t; form = f }) ≡ (eval bits call sp a >>= (λ v. eval bits call sp b >>= operator bits sp o v))) (V.rolls-Binary o a b)
-      (fold-roll-PExpr (Comp Value) (Comp Value) (ℕ × Comp Value) (eval_form bits call sp) (λ x. x.form) (λ x. (x.field, x.value)) (record { span = span; ty = t; form = V.roll-PEForm (P.Binary o a b) })
-      ∙ fold-roll-PEForm (Comp Value) (Comp Value) (ℕ × Comp Value) (eval_form bits call sp) (λ x. x.form) (λ x. (x.field, x.value)) (P.Binary o a b))
+  quiet_store : (span : Span) (x : ℕ) (v : Value) → Quiet (store span (record { root = Variable x; indexes = [] }) v)
+  quiet_store span x v = record { keeps = λ s. refl }
 
-  quiet_expr : (e : PExpr) → IsTrue (ranked (prank slots e)) → (sp : Span) → Quiet (eval bits call sp e)
-  quiet_expr = early_expr slots (λ e. (sp : Span) → Quiet (eval bits call sp e))
-      (λ span t n sp. eval_number sp span t n)
-      (λ span t x name h sp. eval_var sp span t x name)
-      (λ span t sp. eval_hole sp span t)
-      (λ span t o a b ha hb qa qb sp. subst Quiet (sym (eval_binary sp span t o a b)) (quiet_then (eval bits call sp a) _ (qa sp) (λ v. quiet_then (eval bits call sp b) (operator bits sp o v) (qb sp) (quiet_operator bits sp o v))))
+  assign_quiet : (span : Span) (e : PExpr) (m : Comp Location) (x : ℕ) → m ≡ at_root (Variable x) → Quiet (eval prog width call span e) → Quiet (m >>= (λ location. eval prog width call span e >>= store span location))
+  assign_quiet span e m x is q = subst (λ n. Quiet (n >>= (λ location. eval prog width call span e >>= store span location))) (sym is) (quiet_then (eval prog width call span e) (store span (record { root = Variable x; indexes = [] })) q (quiet_store span x))
 
-  target_var : (sp span : Span) (t : Option Ty) (x : ℕ) (name : Name) → target bits call sp (record { span = span; ty = t; form = eform.Var x name }) ≡ pure (write x)
-  target_var sp span t x name = grind (arith, common_steps, the_lemmas)
+  quiet_stmt : (s : PStmt) → IsTrue (early_pstmt slots s) → Quiet (exec_stmt prog bounds call s)
+  quiet_stmt = early_stmt slots (λ s. Quiet (exec_stmt prog bounds call s))
+      (λ span x name t e hx ht he. quiet_by _ _ (exec_declare prog bounds call span x name t (Some e)) (quiet_onward (eval prog width call span e >>= write x) (quiet_then (eval prog width call span e) (write x) (quiet_expr e (sum_ranked (prank slots e) he) span) (quiet_write x))))
+      (λ span place e hp he. quiet_by _ _ (exec_assign prog bounds call span place e) (quiet_onward _ (assign_quiet span e (target prog width call span place) ((target_is place hp span).0) ((target_is place hp span).1) (quiet_expr e (sum_ranked (prank slots e) he) span))))
+      (λ span e he. quiet_by _ _ (exec_assert prog bounds call span e) (quiet_then (eval prog width call span e) (choose span (pure Onward) (fail span)) (quiet_expr e (equation_ranked (prank slots e) he) span) (λ v. quiet_choose span (pure Onward) (fail span) v (quiet_pure Onward) (quiet_fail span))))
 
-  target_is : (e : PExpr) → IsTrue (is_variable slots e) → (sp : Span) → (x : ℕ) × (target bits call sp e ≡ pure (write x))
-  target_is = variable_expr slots (λ e. (sp : Span) → (x : ℕ) × (target bits call sp e ≡ pure (write x))) (λ span t x name h sp. (x, target_var sp span t x name))
-
-  exec_declare : (span : Span) (x : ℕ) (name : Name) (t : Ty) (e : PExpr) → exec_stmt bits call (record { span = span; form = form.Declare x name t (Some e) }) ≡ onward (eval bits call span e >>= write x)
-  exec_declare span x name t e = grind (arith, common_steps, stmt_lemmas)
-
-  exec_assign : (span : Span) (place e : PExpr) → exec_stmt bits call (record { span = span; form = form.Assign place e }) ≡ onward (target bits call span place >>= (λ store. eval bits call span e >>= store))
-  exec_assign span place e = grind (arith, common_steps, stmt_lemmas)
-
-  exec_assert : (span : Span) (e : PExpr) → exec_stmt bits call (record { span = span; form = form.Assert e }) ≡ (eval bits call span e >>= choose span (pure Onward) (fail span))
-  exec_assert span e = grind (arith, common_steps, stmt_lemmas)
-
-  store_quiet : (span : Span) (e : PExpr) (m : Comp (Value → Comp (Unit {0}))) (x : ℕ) → m ≡ pure (write x) → Quiet (eval bits call span e) → Quiet (m >>= (λ store. eval bits call span e >>= store))
-  store_quiet span e m x is q = subst (λ n. Quiet (n >>= (λ store. eval bits call span e >>= store))) (sym is) (quiet_then (eval bits call span e) (write x) q (λ v. record { keeps = λ s. refl }))
-
-  quiet_stmt : (s : PStmt) → IsTrue (early_pstmt slots s) → Quiet (exec_stmt bits call s)
-  quiet_stmt = early_stmt slots (λ s. Quiet (exec_stmt bits call s))
-      (λ span x name t e hx ht he. subst Quiet (sym (exec_declare span x name t e)) (quiet_onward (eval bits call span e >>= write x) (quiet_then (eval bits call span e) (write x) (quiet_expr e (sum_ranked (prank slots e) he) span) (λ v. record { keeps = λ s. refl }))))
-      (λ span place e hp he. subst Quiet (sym (exec_assign span place e)) (quiet_onward _ (store_quiet span e (target bits call span place) ((target_is place hp span).0) ((target_is place hp span).1) (quiet_expr e (sum_ranked (prank slots e) he) span))))
-      (λ span e he. subst Quiet (sym (exec_assert span e)) (quiet_then (eval bits call span e) (choose span (pure Onward) (fail span)) (quiet_expr e (equation_ranked (prank slots e) he) span) (λ v. quiet_choose span (pure Onward) (fail span) v (record { keeps = λ s. refl }) (record { keeps = λ s. tt }))))
-
-  quiet_all : (ss : List PStmt) → IsTrue (list_all (early_pstmt slots) ss) → Quiet (exec_all bits call ss)
+  quiet_all : (ss : List PStmt) → IsTrue (list_all (early_pstmt slots) ss) → Quiet (exec_all prog bounds call ss)
   quiet_all [] h = record { keeps = λ s. refl }
   quiet_all (s ∷ ss) h = let both = and_parts (early_pstmt slots s) (list_all (early_pstmt slots) ss) h in
-      quiet_then (exec_stmt bits call s) (unless_returned (exec_all bits call ss)) (quiet_stmt s both.0) (λ f. quiet_unless (exec_all bits call ss) f (quiet_all ss both.1))
+      quiet_then (exec_stmt prog bounds call s) (unless_returned (exec_all prog bounds call ss)) (quiet_stmt s both.0) (λ f. quiet_unless (exec_all prog bounds call ss) f (quiet_all ss both.1))
 
 quiet_frame : (fun : Fun) (args : List Value) (body : Comp Flow) → Quiet body → Quiet (in_frame fun args body)
 quiet_frame fun args body q = record { keeps = λ s. then_keeps s (body (record s { slots = first_slots fun args })) _ (keeps_from s (record s { slots = first_slots fun args }) (body (record s { slots = first_slots fun args })) refl (q.keeps (record s { slots = first_slots fun args }))) (λ flow. record { keeps = λ end. refl }) }
@@ -159,9 +179,9 @@ quiet_frame fun args body q = record { keeps = λ s. then_keeps s (body (record 
 body_early : (f : Fun) → IsTrue (early_pfun f) → IsTrue (list_all (early_pstmt f.slots) f.body)
 body_early f h = (and_parts _ (list_all (early_pstmt f.slots) f.body) h).1
 
-quiet_body : (bounds : Bounds) (call : Calls) (span : Span) (o : Option Fun) (args : List Value) → ((f : Fun) → o ≡ Some f → IsTrue (early_pfun f)) → Quiet (body_of bounds call span o args)
-quiet_body bounds call span None args h = record { keeps = λ s. tt }
-quiet_body bounds call span (Some f) args h = quiet_frame f args (exec_all bounds.int_bits call f.body) (quiet_all f.slots bounds.int_bits call f.body (body_early f (h f refl)))
+quiet_body : (p : Prog) (bounds : Bounds) (call : Calls) (n : ℕ) (span : Span) (o : Option Fun) (args : List Value) → ((f : Fun) → o ≡ Some f → IsTrue (early_pfun f)) → Quiet (body_of (filled_bodies p bounds call n) span o args)
+quiet_body p bounds call n span None args h = record { keeps = λ s. tt }
+quiet_body p bounds call n span (Some f) args h = quiet_frame f args (exec_all p bounds call f.body) (quiet_all f.slots p bounds call f.body (body_early f (h f refl)))
 
 quiet_if : {A : Type 0} (b : Bool) (m n : Comp A) → Quiet m → Quiet n → Quiet (if b then m else n)
 quiet_if true m n qm qn = qm
@@ -182,23 +202,24 @@ early_fun_at (g ∷ g' ∷ gs) i f h is = absurd (false≢true h)
 pub early_funs_of : (p : Prog) → IsTrue (early_prog p) → IsTrue (early_funs p.funs)
 early_funs_of p h = (and_parts _ (early_funs p.funs) h).1
 
-outcome_costs : (m : Step Called) → Keeps (record { heap = []; slots = []; cost = 0 }) m → cost_of (outcome_of m) ≡ 0
+outcome_costs : (m : Step Called) → Keeps start m → cost_of (outcome_of m) ≡ 0
 outcome_costs (Goes called s) h = h
 outcome_costs (Fails span) h = refl
 outcome_costs (Skips span) h = refl
 
-quiet_calls : (p : Prog) (bounds : Bounds) (left : ℕ) (active : List ℕ) (span : Span) (f : ℕ) (args : List Value) → IsTrue (early_prog p) → Quiet (calls p bounds left active span f args)
+quiet_calls : (p : Prog) (bounds : Bounds) (left : ℕ) (active : List ℕ) (span : Span) (f : ℕ) (args : List Value) → IsTrue (early_prog p) → Quiet (calls p bounds (filled_bodies p bounds) left active span f args)
 unfolding calls
 quiet_calls p bounds zero active span f args h = quiet_fail span
 quiet_calls p bounds (suc left) active span f args h =
-    quiet_if (nat_lt (count_by (λ g. g == f) active) bounds.inline_amnt) (body_of bounds (calls p bounds left (active ++ f ∷ [])) span (slice_get p.funs f) args) (fail span)
-    (quiet_body bounds (calls p bounds left (active ++ f ∷ [])) span (slice_get p.funs f) args (λ g is. early_fun_at p.funs f g (early_funs_of p h) is))
+    let call : Calls = calls p bounds (filled_bodies p bounds) left (active ++ f ∷ []) in
+    quiet_if (nat_lt (count_by (λ g. g == f) active) bounds.inline_amnt) (body_of (filled_bodies p bounds call f) span (slice_get p.funs f) args) (fail span)
+    (quiet_body p bounds call f span (slice_get p.funs f) args (λ g is. early_fun_at p.funs f g (early_funs_of p h) is))
     (quiet_fail span)
 
 -- A run of an early program costs nothing.
 pub run_costs_nothing : (p : Prog) (f : FunId) (args : List Value) (bounds : Bounds) → IsTrue (early_prog p) → cost_of (run p f args bounds) ≡ 0
 unfolding run
-run_costs_nothing p f args bounds h = outcome_costs (calls p bounds most_calls [] nowhere f.index args (record { heap = []; slots = []; cost = 0 })) ((quiet_calls p bounds most_calls [] nowhere f.index args h).keeps (record { heap = []; slots = []; cost = 0 }))
+run_costs_nothing p f args bounds h = outcome_costs (calls p bounds (filled_bodies p bounds) most_calls [] nowhere f.index args start) ((quiet_calls p bounds most_calls [] nowhere f.index args h).keeps start)
 
 obligation_costs : (p : Prog) (bounds : Bounds) (args : List Value) (o : Option Obligation) → IsTrue (early_prog p) → cost_of_obligation p bounds args o ≡ 0
 obligation_costs p bounds args None h = refl

@@ -23,7 +23,8 @@ use Rattle.sk_model.specs.declared.outcome.Outcome.{Outcome}
 use Rattle.sk_model.specs.declared.outcome.Outcome.TheVariants as outcome
 use Rattle.sk_model.specs.declared.expanded.Obligation.TheVariants as obligation
 use Rattle.sk_model.specs.Step.{State, Goes, Fails, Comp, fail}
-use Rattle.sk_model.specs.Eval.{blank, Called}
+use Rattle.sk_model.specs.Heap.{blank}
+use Rattle.sk_model.specs.Eval.{Called}
 use Rattle.sk_model.specs.Exec.{Flow, Onward, exec_all}
 use Rattle.sk_model.specs.Run.{run, calls, in_frame, outcome_of, first_slots, refs_from, nowhere}
 use Rattle.sk_model.specs.Obligations.{obligations, obligations_from}
@@ -98,7 +99,7 @@ if_same true m s = refl
 if_same false m s = refl
 
 module _ (prog : Prog) (f : FunId) (args : List Value) (b : Bounds) where
-  pub run_there : (fun : Fun) → 0 < b.inline_amnt → slice_get prog.funs f.index ≡ Some fun → run prog f args b ≡ outcome_of (in_frame fun args (exec_all b.int_bits (inner_calls prog b f.index) fun.body) (state_of []))
+  pub run_there : (fun : Fun) → 0 < b.inline_amnt → slice_get prog.funs f.index ≡ Some fun → run prog f args b ≡ outcome_of (in_frame fun args (exec_all prog b (inner_calls prog b f.index) fun.body) (state_of []))
   unfolding run calls
   run_there fun h at = rw (lt-ltb 0 b.inline_amnt h, at) refl
 

@@ -1,27 +1,30 @@
-//! Runs early programs.
+//! Runs early programs. Each number in one is an integer's, which typing sees to and no clause says: a
+//! number of another type ends as want of memory does, of which nothing is promised.
 
 ghost use Rattle.std.specs.Prelude.{map, pos, [], ◌≡◌, ◌<◌, ◌≤◌, ◌+ℤ◌, ◌*ℤ◌, ◌++◌, ◌-◌, IsTrue, IfOk, OnOk, ◌↔◌, length, replicate, slice_index_or, slice_set};
 ghost use Rattle.sk_base.specs.Word.{wrapped, IsWord};
 ghost use Rattle.sk_prog.specs.declared.value.Value.TheVariants as value;
 ghost use Rattle.sk_model.specs.Values.{equal};
-ghost use Rattle.sk_model.specs.Eval.{blank, eval};
+ghost use Rattle.sk_model.specs.Heap.{blank};
+ghost use Rattle.sk_model.specs.Eval.{eval};
 ghost use Rattle.sk_model.specs.Exec.{exec_stmt, exec_all};
 ghost use Rattle.sk_model.specs.Run.{run, in_frame, outcome_of};
 ghost use Rattle.sk_model.specs.Meets.{Breaks, HasFailed};
 ghost use Rattle.sk_app.specs.Early.{early_prog, early_pfun, prank, is_operand, is_sum, is_equation, is_variable, early_pstmt};
 ghost use Rattle.std.specs.List.{list_all};
-ghost use Rattle.sk_app.specs.Running.{IsNumber, AreNumbers, AreWidths, state_of, inner_calls, GivesNumber, GivesBit, GoesOn};
+ghost use Rattle.sk_app.specs.Running.{IsNumber, AreNumbers, AreWidths, is_some_int, state_of, inner_calls, GivesNumber, GivesBit, GoesOn};
 
 use sk_base::{Bounds, List, Span, wrap};
 use sk_model::Outcome;
-use sk_prog::{BinOp, Fun, FunId, PEForm, PExpr, PForm, PStmt, Prog, Value};
+use sk_prog::{BinOp, Elem, Fun, FunId, PEForm, PExpr, PForm, PStmt, Prog, Ty, Value};
 use std::alloc::{AllocError, Global};
 use std::marker::Model;
 
-/// The statement at which a run failed.
+/// Why a run stops: it failed at a statement, or it met a number that is no integer's.
 #[derive(Drop)]
-struct Failed {
-    span: Span,
+enum Stop {
+    Failed { span: Span },
+    Foreign,
 }
 
 /// The sum at a width of so many bits.
@@ -77,6 +80,16 @@ fn with_zeros(numbers: Vec<i64>, len: usize) -> Result<Vec<i64>, AllocError>
         all.resize(len, 0)?;
     }
     Ok(all)
+}
+
+/// Whether a type is `int`.
+fn is_int(ty: &Option<Ty>) -> bool
+    ensures { result ≡ is_some_int ty.now }
+{
+    match ty {
+        Some(Ty::One(Elem::Int)) => true,
+        _ => false,
+    }
 }
 
 /// The variables of a function.
@@ -138,31 +151,36 @@ struct Machine<'a> {
 
 impl Machine<'_> {
     /// The value of an operand. A hole has none.
-    fn operand(&self, frame: &Frame, span: Span, e: &PExpr) -> Result<i64, Failed>
+    fn operand(&self, frame: &Frame, span: Span, e: &PExpr) -> Result<i64, Stop>
         requires widths { AreWidths self.now.bounds.now }
         requires slots { self.now.fun.now.slots ≤ length frame.now }
         requires words { AreNumbers self.now.bounds.now.int_bits frame.now }
         requires early { IsTrue (is_operand (prank self.now.fun.now.slots e.now)) }
         ensures gives { GivesNumber result frame.now
-            (eval self.now.bounds.now.int_bits (inner_calls self.now.prog.now self.now.bounds.now self.now.f) span e.now (state_of frame.now)) }
+            (eval self.now.prog.now self.now.bounds.now.int_bits (inner_calls self.now.prog.now self.now.bounds.now self.now.f) span e.now (state_of frame.now)) }
         ensures range { IfOk result (λ n. IsWord self.now.bounds.now.int_bits n) }
     {
         let bits = self.bounds.int_bits;
         match &e.form {
-            PEForm::Number(n) => Ok(wrap(bits, i64::from(*n))),
+            PEForm::Number(n) => {
+                if !is_int(&e.ty) {
+                    return Err(Stop::Foreign);
+                }
+                Ok(wrap(bits, i64::from(*n)))
+            }
             PEForm::Var { slot, name: _ } => Ok(frame.read(bits, *slot)),
-            _ => Err(Failed { span }),
+            _ => Err(Stop::Failed { span }),
         }
     }
 
     /// The value of an operand, a sum or a product.
-    fn number(&self, frame: &Frame, span: Span, e: &PExpr) -> Result<i64, Failed>
+    fn number(&self, frame: &Frame, span: Span, e: &PExpr) -> Result<i64, Stop>
         requires widths { AreWidths self.now.bounds.now }
         requires slots { self.now.fun.now.slots ≤ length frame.now }
         requires words { AreNumbers self.now.bounds.now.int_bits frame.now }
         requires early { IsTrue (is_sum (prank self.now.fun.now.slots e.now)) }
         ensures gives { GivesNumber result frame.now
-            (eval self.now.bounds.now.int_bits (inner_calls self.now.prog.now self.now.bounds.now self.now.f) span e.now (state_of frame.now)) }
+            (eval self.now.prog.now self.now.bounds.now.int_bits (inner_calls self.now.prog.now self.now.bounds.now self.now.f) span e.now (state_of frame.now)) }
         ensures range { IfOk result (λ n. IsWord self.now.bounds.now.int_bits n) }
     {
         let bits = self.bounds.int_bits;
@@ -173,7 +191,7 @@ impl Machine<'_> {
                 match op {
                     BinOp::Add => Ok(add(bits, x, y)),
                     BinOp::Mul => Ok(multiply(bits, x, y)),
-                    _ => Err(Failed { span }),
+                    _ => Err(Stop::Failed { span }),
                 }
             }
             _ => self.operand(frame, span, e),
@@ -181,13 +199,13 @@ impl Machine<'_> {
     }
 
     /// Whether an equation holds.
-    fn holds(&self, frame: &Frame, span: Span, e: &PExpr) -> Result<bool, Failed>
+    fn holds(&self, frame: &Frame, span: Span, e: &PExpr) -> Result<bool, Stop>
         requires widths { AreWidths self.now.bounds.now }
         requires slots { self.now.fun.now.slots ≤ length frame.now }
         requires words { AreNumbers self.now.bounds.now.int_bits frame.now }
         requires early { IsTrue (is_equation (prank self.now.fun.now.slots e.now)) }
         ensures { GivesBit result frame.now
-            (eval self.now.bounds.now.int_bits (inner_calls self.now.prog.now self.now.bounds.now self.now.f) span e.now (state_of frame.now)) }
+            (eval self.now.prog.now self.now.bounds.now.int_bits (inner_calls self.now.prog.now self.now.bounds.now self.now.f) span e.now (state_of frame.now)) }
     {
         match &e.form {
             PEForm::Binary {
@@ -199,18 +217,18 @@ impl Machine<'_> {
                 let y = self.number(frame, span, right.get())?;
                 Ok(same(x, y))
             }
-            _ => Err(Failed { span }),
+            _ => Err(Stop::Failed { span }),
         }
     }
 
     /// Does one statement.
-    fn exec(&self, frame: &mut Frame, stmt: &PStmt) -> Result<(), Failed>
+    fn exec(&self, frame: &mut Frame, stmt: &PStmt) -> Result<(), Stop>
         requires widths { AreWidths self.now.bounds.now }
         requires slots { self.now.fun.now.slots ≤ length frame.old }
         requires words { AreNumbers self.now.bounds.now.int_bits frame.old }
         requires early { IsTrue (early_pstmt self.now.fun.now.slots stmt.now) }
         ensures gives { GoesOn result frame.new
-            (exec_stmt self.now.bounds.now.int_bits (inner_calls self.now.prog.now self.now.bounds.now self.now.f) stmt.now (state_of frame.old)) }
+            (exec_stmt self.now.prog.now self.now.bounds.now (inner_calls self.now.prog.now self.now.bounds.now self.now.f) stmt.now (state_of frame.old)) }
         ensures slots { length frame.new ≡ length frame.old }
         ensures words { AreNumbers self.now.bounds.now.int_bits frame.new }
     {
@@ -229,7 +247,7 @@ impl Machine<'_> {
             }
             PForm::Assign { target, value } => {
                 let PEForm::Var { slot, name: _ } = &target.form else {
-                    return Err(Failed { span });
+                    return Err(Stop::Failed { span });
                 };
                 let number = self.number(frame, span, value)?;
                 frame.write(bits, *slot, number);
@@ -239,20 +257,20 @@ impl Machine<'_> {
                 if self.holds(frame, span, e)? {
                     return Ok(());
                 }
-                Err(Failed { span })
+                Err(Stop::Failed { span })
             }
-            _ => Err(Failed { span }),
+            _ => Err(Stop::Failed { span }),
         }
     }
 
     /// Does statements one after another.
-    fn exec_all(&self, frame: &mut Frame, stmts: &[PStmt]) -> Result<(), Failed>
+    fn exec_all(&self, frame: &mut Frame, stmts: &[PStmt]) -> Result<(), Stop>
         requires widths { AreWidths self.now.bounds.now }
         requires slots { self.now.fun.now.slots ≤ length frame.old }
         requires words { AreNumbers self.now.bounds.now.int_bits frame.old }
         requires early { IsTrue (list_all (early_pstmt self.now.fun.now.slots) stmts.now) }
         ensures { GoesOn result frame.new
-            (exec_all self.now.bounds.now.int_bits (inner_calls self.now.prog.now self.now.bounds.now self.now.f) stmts.now (state_of frame.old)) }
+            (exec_all self.now.prog.now self.now.bounds.now (inner_calls self.now.prog.now self.now.bounds.now self.now.f) stmts.now (state_of frame.old)) }
     {
         for stmt in stmts {
             self.exec(frame, stmt)?;
@@ -286,7 +304,7 @@ fn exec_fun(
     requires widths { AreWidths bounds.now }
     requires args { AreNumbers bounds.now.int_bits args.now }
     ensures { IfOk result (λ outcome. outcome ≡
-        outcome_of (in_frame fun.now args.now (exec_all bounds.now.int_bits (inner_calls prog.now bounds.now f) fun.now.body) (state_of []))) }
+        outcome_of (in_frame fun.now args.now (exec_all prog.now bounds.now (inner_calls prog.now bounds.now f) fun.now.body) (state_of []))) }
 {
     let mut frame = start(alloc, bounds.int_bits, args, fun.slots as usize)?;
     let machine = Machine {
@@ -301,7 +319,8 @@ fn exec_fun(
             refs: List::from_vec(Vec::new(alloc)),
             cost: 0,
         }),
-        Err(failed) => Ok(Outcome::Failed { span: failed.span }),
+        Err(Stop::Failed { span }) => Ok(Outcome::Failed { span }),
+        Err(Stop::Foreign) => Err(AllocError),
     }
 }
 

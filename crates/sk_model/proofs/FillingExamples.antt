@@ -10,8 +10,8 @@ use Rattle.sk_prog.specs.declared.expr.PEForm.TheVariants as eform
 use Rattle.sk_prog.specs.declared.stmt.PStmt.{PStmt}
 use Rattle.sk_prog.specs.declared.prog.FunKind.TheVariants as kind
 use Rattle.sk_prog.specs.declared.prog.Fun.{Fun}
-use Rattle.sk_model.proofs.Spanned.{spanned_var, spanned_binary}
 use Rattle.sk_model.specs.Expand.{calls_walk, call_of, one_less, pure, copy_name, Made, go_on, as_walk, as_made, behind, walked, all_funs, walk_fun, walk_funs, walk_stmts, first_calls, stub}
+use Rattle.sk_model.specs.Fill.{fill}
 use Rattle.sk_model.specs.Steps.{call_work, body_work, Measure}
 use Rattle.sk_model.specs.FillingExamples.{CopiesAndNumbers, PastTheBound, CopiesOfRepeats, SitesOfReorder, FillsReorder, FillsPattern, FillsBits, FillsRepeats, StandsInRepeats, DropsCopies, StepsOfLoops, NodesOfLoops, NewsOfLoop, StepsOfCalls, at_bytes, int, endless, twice, small, nested, int_of, here, fun, call, returns, hole}
 use Rattle.sk_model.proofs.Layers.{all_layers}
@@ -138,21 +138,26 @@ pub sites_of_reorder : SitesOfReorder
 sites_of_reorder = simp all_layers
 
 pub fills_reorder : FillsReorder
+unfolding fill
 fills_reorder = simp all_layers
 
 pub fills_pattern : FillsPattern
-fills_pattern = grind (arith, common_steps, all_layers, spanned_var, spanned_binary)
+unfolding fill
+fills_pattern = grind (arith, common_steps, all_layers)
 
 pub fills_bits : FillsBits
+unfolding fill
 fills_bits = simp all_layers
 
 pub fills_repeats : FillsRepeats
+unfolding fill
 fills_repeats = grind (arith, common_steps, all_layers)
 
 pub stands_in_repeats : StandsInRepeats
 stands_in_repeats = grind (arith, common_steps, all_layers)
 
 pub drops_copies : DropsCopies
+unfolding fill
 drops_copies = grind (arith, common_steps, all_layers)
 
 pub steps_of_loops : StepsOfLoops

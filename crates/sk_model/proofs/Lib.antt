@@ -1,5 +1,11 @@
-pub mod Steps
+pub mod Forms
 pub mod RunningExamples
 pub mod Layers
+pub mod Principle
+pub mod Bare
 pub mod FillingExamples
-pub mod Spanned
+pub mod OpenExprs
+pub mod OpenStmts
+pub mod OpenPaid
+pub mod OpenRuns
+pub mod RunningLaws

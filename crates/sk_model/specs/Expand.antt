@@ -253,5 +253,5 @@ all_funs m = m.made ++ m.copies
 abbrev pub expand_prog : Prog → Bounds → Prog
 expand_prog p bounds = record p { funs = all_funs (walk_funs bounds p.funs p.funs 0) }
 
-abbrev pub expand : Prog → Bounds → Expanded
+unfoldable pub expand : Prog → Bounds → Expanded
 expand p bounds = record { prog = expand_prog p bounds; ordinary = ordinary_count p.funs; sites = sites bounds (expand_prog p bounds) }

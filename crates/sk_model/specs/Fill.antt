@@ -24,7 +24,7 @@ use Rattle.sk_prog.specs.declared.expr.PField.{PField}
 use Rattle.sk_prog.specs.declared.expr.PEForm.{PEForm}
 use Rattle.sk_prog.specs.declared.expr.PEForm.TheVariants as eform
 use Rattle.sk_prog.specs.declared.expr.PEForm.TheOpen as P
-use Rattle.sk_prog.specs.declared.expr.PEForm.TheFolds.{fold-PExpr, para-PExpr}
+use Rattle.sk_prog.specs.declared.expr.PEForm.TheFolds.{fold-PExpr}
 use Rattle.sk_prog.specs.declared.stmt.PStmt.{PStmt}
 use Rattle.sk_prog.specs.declared.stmt.PForm.{PForm}
 use Rattle.sk_prog.specs.declared.stmt.PForm.TheVariants as form
@@ -40,7 +40,7 @@ use Rattle.sk_model.specs.declared.expanded.Expanded.{Expanded}
 use Rattle.sk_model.specs.Parts.{Part, counts, in_turn, pick, value, rank}
 use Rattle.sk_model.specs.Slots.{with_body}
 use Rattle.sk_model.specs.Sites.{is_hole}
-use Rattle.sk_model.specs.Stands.{FunStanding, standing, funs_stand, all_paid}
+use Rattle.sk_model.specs.Stands.{Payment, FunStanding, standing, funs_stand, all_paid}
 
 -- one value for each site, and each below its site's size
 abbrev pub Fits : List Site → List ℕ → Type 0
@@ -79,19 +79,12 @@ tight_form (P.Slice e i n) = true
 abbrev pub is_tight : PExpr → Bool
 is_tight = fold-PExpr Bool Bool (Unit {0}) tight_form (λ e. e.form) (λ x. tt)
 
--- The form of a coercion, whose operand gets this span too; any other form stays.
-abbrev pub form_spanned : P.PEForm-F (PEForm × (Span → PEForm → PEForm)) (PExpr × (Span → PExpr)) (PField × Unit {0}) → Span → PEForm → PEForm
-form_spanned (P.ToInt e) span whole = eform.ToInt (e.1 span)
-form_spanned (P.Pad e) span whole = eform.Pad (e.1 span)
-form_spanned _ span whole = whole
-
--- An expression with this span. A coercion has the span of its operand, so both get it.
-unfoldable pub spanned : PExpr → Span → PExpr
-spanned e = para-PExpr (Span → PEForm → PEForm) (Span → PExpr) (Unit {0}) form_spanned (λ x span. record { span = span; ty = x.ty; form = x.form.1 span x.form.0 }) (λ x. tt) e
+abbrev pub spanned : Span → PExpr → PExpr
+spanned span e = record { span = span; ty = e.ty; form = e.form }
 
 -- a chosen string in the place of a pattern with this type and span
 abbrev pub chosen : Option Ty → Span → PExpr → PExpr
-chosen t span e = if is_tight e then spanned e span else record { span = span; ty = t; form = eform.Paren (spanned e span) }
+chosen t span e = if is_tight e then spanned span e else record { span = span; ty = t; form = eform.Paren (spanned span e) }
 
 -- what stands for a string that is not there, which no choice in range takes
 abbrev pub no_string : PExpr
@@ -215,6 +208,10 @@ module _ (values : List ℕ) (number : ℕ → ℕ) where
 
 -- Functions
 
+-- `minimize(v);` for a minrepeat that pays v
+abbrev pub minimize_of : Payment → PStmt
+minimize_of p = record { span = p.span; form = form.Minimize (record { span = p.span; ty = Some (ty.One elem.Int); form = eform.Number p.amount }) }
+
 -- what stands at the start of a body
 abbrev pub before_body : FunKind → List PStmt → List PStmt
 before_body kind.Harness paid = paid
@@ -231,7 +228,7 @@ module _ (values : List ℕ) (number : ℕ → ℕ) (paid : List PStmt) where
   fill_funs _ _ i = []
 
 abbrev pub fill_prog : Prog → List ℕ → List FunStanding → Prog
-fill_prog p values ss = record p { funs = fill_funs values (rank (funs_stand ss)) (all_paid ss) (funs_stand ss) p.funs 0 }
+fill_prog p values ss = record p { funs = fill_funs values (rank (funs_stand ss)) (map minimize_of (all_paid ss)) (funs_stand ss) p.funs 0 }
 
-abbrev pub fill : Expanded → Choice → Prog
+unfoldable pub fill : Expanded → Choice → Prog
 fill e a = fill_prog e.prog a.values (standing e a.values)

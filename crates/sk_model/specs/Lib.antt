@@ -8,6 +8,7 @@ pub mod Nodes
 pub mod Steps
 pub mod News
 pub mod Limits
+pub mod FillingLaws
 pub mod FillingExamples
 pub mod Step
 pub mod Values
@@ -17,7 +18,9 @@ pub mod Eval
 pub mod Exec
 pub mod Run
 pub mod Open
+pub mod Filled
 pub mod Obligations
 pub mod Inputs
 pub mod Meets
+pub mod RunningLaws
 pub mod RunningExamples

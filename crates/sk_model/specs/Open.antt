@@ -1,12 +1,12 @@
 -- What a program does under a choice before it is filled: by the same steps as a run, and these besides. A
 -- hole has the value of its site; a pattern does what its chosen string does; a repeat by a hole and a
 -- `minrepeat` do as many copies as the value of their site says, a repeat by a constant all; a `reorder`
--- does its statements in the order of its digits; and a harness first pays what its program owes for the
--- `minrepeat`s that stand.
+-- does its statements in the order of its digits; and a harness first does what the `minrepeat`s that
+-- stand pay.
 --
 -- It is said by one layer, as filling is: a part knows how many sites it has, and what it does where its
 -- first site has a given place. The sites of a construct stand before those inside it.
-use Rattle.std.specs.Prelude.{ℕ, zero, suc, ◌+◌, ◌-◌, pos, Bool, true, false, if◌then◌else◌, List, [], ◌∷◌, ◌++◌, map, length, take, insert, slice_index_or, Option, Some, None}
+use Rattle.std.specs.Prelude.{ℕ, zero, suc, ◌+◌, ◌-◌, if◌then◌else◌, List, [], ◌∷◌, ◌++◌, map, length, take, Option, Some, None}
 use Rattle.sk_base.specs.declared.span.Span.{Span}
 use Rattle.sk_base.specs.declared.bounds.Bounds.{Bounds}
 use Rattle.sk_prog.specs.declared.ids.FunId.{FunId}
@@ -16,33 +16,26 @@ use Rattle.sk_prog.specs.declared.ty.Ty.TheVariants as ty
 use Rattle.sk_prog.specs.declared.value.Value.{Value}
 use Rattle.sk_prog.specs.declared.value.Value.TheVariants as value
 use Rattle.sk_prog.specs.declared.expr.PExpr.{PExpr}
-use Rattle.sk_prog.specs.declared.expr.PEForm.{PEForm}
-use Rattle.sk_prog.specs.declared.expr.PEForm.TheVariants as eform
 use Rattle.sk_prog.specs.declared.expr.PEForm.TheOpen as P
 use Rattle.sk_prog.specs.declared.expr.PEForm.TheFolds.{fold-PExpr}
 use Rattle.sk_prog.specs.declared.stmt.PStmt.{PStmt}
 use Rattle.sk_prog.specs.declared.stmt.PForm.TheOpen as S
 use Rattle.sk_prog.specs.declared.stmt.PForm.TheFolds.{fold-PStmt}
-use Rattle.sk_prog.specs.declared.prog.FunKind.{FunKind}
-use Rattle.sk_prog.specs.declared.prog.FunKind.TheVariants as kind
 use Rattle.sk_prog.specs.declared.prog.Fun.{Fun}
 use Rattle.sk_prog.specs.declared.prog.Prog.{Prog}
 use Rattle.sk_model.specs.declared.expanded.Choice.{Choice}
 use Rattle.sk_model.specs.declared.expanded.Expanded.{Expanded}
 use Rattle.sk_model.specs.declared.outcome.Outcome.{Outcome}
-use Rattle.sk_model.specs.Parts.{Part, counts, in_turn}
+use Rattle.sk_model.specs.Parts.{Part, counts, in_turn, pick, value}
+use Rattle.sk_model.specs.Sites.{is_hole}
+use Rattle.sk_model.specs.Stands.{hole_count, standing, all_paid}
+use Rattle.sk_model.specs.Fill.{arrange, minimize_of, before_body}
 use Rattle.sk_model.specs.Step.{Comp, pure, fail}
 use Rattle.sk_model.specs.Eval.{Calls, Does, number_at, literal, does_form}
-use Rattle.sk_model.specs.Exec.{Flow, one_by_one, declare, assign, drop_value, branch, turns, return, assert, assume, pay, minimize}
-use Rattle.sk_model.specs.Run.{Bodies, run_by, nowhere}
+use Rattle.sk_model.specs.Exec.{Flow, exec_stmt, one_by_one, declare, assign, drop_value, branch, turns, return, assert, assume, minimize}
+use Rattle.sk_model.specs.Run.{Bodies, run_by}
 
 -- Places
-
--- the part with this number, where there is one; the parts before it have their sites before its own
-abbrev pub pick : {A : Type 0} → A → List (Part A) → ℕ → ℕ → A
-pick other [] v i = other
-pick other (p ∷ ps) zero i = p.at i
-pick other (p ∷ ps) (suc v) i = pick other ps v (i + p.count)
 
 abbrev pub any_part : {A : Type 0} → Option (Part A) → Part (Option A)
 any_part None = record { count = 0; at = λ i. None }
@@ -96,43 +89,26 @@ placed (P.Pad a) i = P.Pad (a.at i)
 
 -- Holes, strings, copies and orders
 
--- a hole has a site, but one of bits has one for each bit
-abbrev pub hole_count : Option Ty → ℕ
-hole_count (Some (ty.Array elem.Bit n)) = n
-hole_count _ = 1
-
 -- what a string that is not there does
 abbrev pub nothing_done : Does
 nothing_done = record { value = λ span. fail span; target = λ span. fail span }
 
-abbrev pub is_hole : PEForm → Bool
-is_hole (eform.Hole bits) = true
-is_hole _ = false
-
-abbrev pub is_harness : FunKind → Bool
-is_harness kind.Harness = true
-is_harness _ = false
-
 module _ (values : List ℕ) where
-  -- the value of the site with this place
-  abbrev pub value_at : ℕ → ℕ
-  value_at i = slice_index_or values i 0
-
   -- the bits of so many sites, of which the first has place i
   abbrev pub bits_at : ℕ → ℕ → ℕ → List Value
   bits_at width zero i = []
-  bits_at width (suc n) i = number_at width elem.Bit (value_at i) ∷ bits_at width n (i + 1)
+  bits_at width (suc n) i = number_at width elem.Bit (value values i) ∷ bits_at width n (i + 1)
 
   abbrev pub hole_value : ℕ → Option Ty → ℕ → Value
   hole_value width (Some (ty.Array elem.Bit n)) i = value.Array (bits_at width n i)
-  hole_value width t i = literal width t (value_at i)
+  hole_value width t i = literal width t (value values i)
 
   abbrev pub hole_part : ℕ → Option Ty → Part Does
   hole_part width t = record { count = hole_count t; at = λ i. record { value = λ span. pure (hole_value width t i); target = λ span. fail span } }
 
   -- what the site's string does
   abbrev pub string_part : List (Part Does) → Part Does
-  string_part strings = record { count = suc (counts strings); at = λ i. pick nothing_done strings (value_at i) (suc i) }
+  string_part strings = record { count = suc (counts strings); at = λ i. pick nothing_done strings (value values i) (suc i) }
 
   -- all of these, one after another
   abbrev pub block_part : List (Part (Comp Flow)) → Part (Span → Comp Flow)
@@ -140,21 +116,11 @@ module _ (values : List ℕ) where
 
   -- as many of the copies as the site says
   abbrev pub copies_part : List (Part (Comp Flow)) → Part (Span → Comp Flow)
-  copies_part copies = record { count = suc (counts copies); at = λ i span. one_by_one (take (value_at i) (in_turn copies (suc i))) }
+  copies_part copies = record { count = suc (counts copies); at = λ i span. one_by_one (take (value values i) (in_turn copies (suc i))) }
 
-  -- Each is put in among those placed so far, so that as many of them stand after it as its digit says. The
-  -- digit of the first of them has place i.
-  abbrev pub put_in : {A : Type 0} → ℕ → List A → List A → List A
-  put_in i so_far [] = so_far
-  put_in i so_far (m ∷ ms) = put_in (suc i) (insert so_far (length so_far - value_at i) m) ms
-
-  -- in the order of the digits: the first of these has no digit
-  abbrev pub ordered : {A : Type 0} → ℕ → List A → List A
-  ordered i [] = []
-  ordered i (m ∷ ms) = put_in i (m ∷ []) ms
-
+  -- in the order of the digits, which are the values of the first sites
   abbrev pub reorder_part : List (Part (Comp Flow)) → Part (Span → Comp Flow)
-  reorder_part ms = record { count = (length ms - 1) + counts ms; at = λ i span. one_by_one (ordered i (in_turn ms (i + (length ms - 1)))) }
+  reorder_part ms = record { count = (length ms - 1) + counts ms; at = λ i span. one_by_one (arrange values i [] (in_turn ms (i + (length ms - 1)))) }
 
 -- Expressions and statements
 
@@ -203,4 +169,15 @@ module _ (prog : Prog) (bounds : Bounds) (values : List ℕ) (call : Calls) wher
   abbrev pub sites_before : List Fun → ℕ → ℕ
   sites_before funs zero = 0
   sites_before [] (suc f) = 0
-  sites_before (fun ∷ funs) (suc f) = (open_all fun.body).count + sites_before funs f
+  sites_before (fun ∷ funs) (suc f) = counts (map open_stmt fun.body) + sites_before funs f
+
+  -- a body whose first site has place i, where the minrepeats that stand pay so
+  abbrev pub open_body : List PStmt → Fun → ℕ → Comp Flow
+  open_body paid fun i = one_by_one (map (exec_stmt prog bounds call) (before_body fun.kind paid) ++ in_turn (map open_stmt fun.body) i)
+
+abbrev pub open_bodies : Expanded → Choice → Bounds → Bodies
+open_bodies e a bounds call f fun = open_body e.prog bounds a.values call (map minimize_of (all_paid (standing e a.values))) fun (sites_before e.prog bounds a.values call e.prog.funs f)
+
+-- a run of a function of the program under a choice
+unfoldable pub run_open : Expanded → Choice → FunId → List Value → Bounds → Outcome
+run_open e a f args bounds = run_by e.prog (open_bodies e a bounds) f args bounds

@@ -24,6 +24,7 @@ use Rattle.sk_prog.specs.declared.prog.Fun.{Fun}
 use Rattle.sk_prog.specs.declared.prog.Prog.{Prog}
 use Rattle.sk_model.specs.declared.outcome.Outcome.{Outcome}
 use Rattle.sk_model.specs.declared.outcome.Outcome.TheVariants as outcome
+use Rattle.sk_model.specs.Open.{open_bodies}
 use Rattle.sk_model.specs.Run.{calls, outcome_of, start, nowhere, filled_bodies}
 
 -- Programs are written as their trees, without names and without most spans. A text beside each says what
@@ -239,3 +240,43 @@ pub record EndExamples : Type 0 where
   pub skipped : outcome_in assumes (value.Int (pos 1) ∷ []) ≡ outcome.Skipped (at 1)
   pub cost : outcome_in pays (value.Int (pos 3) ∷ []) ≡ outcome.Done None [] 3
   pub negative : outcome_in pays (value.Int (negsuc 0) ∷ []) ≡ outcome.Failed (at 1)
+
+-- Runs under a choice
+
+-- a run of the first function under a choice, of a program whose functions are ordinary
+abbrev pub outcome_under : List ℕ → Prog → Outcome
+outcome_under values prog = outcome_of (calls prog small (open_bodies (record { prog = prog; ordinary = 1; sites = [] }) (record { values = values }) small) 2 [] nowhere 0 [] start)
+
+abbrev pub hole : PEForm
+hole = eform.Hole None
+
+-- `int f() { return e; }`
+abbrev pub returning : PExpr → Prog
+returning e = program (fun (Some int_type) [] 0 (stmt 1 (form.Return (Some e)) ∷ []) ∷ [])
+
+abbrev pub x_becomes : PExpr → PStmt
+x_becomes e = stmt 2 (form.Assign (variable 0) e)
+
+-- `int f() { int x = 1; s return x; }`
+abbrev pub from_one : PForm → Prog
+from_one s = program (fun (Some int_type) [] 1 (stmt 1 (form.Declare 0 [] int_type (Some (number 1))) ∷ stmt 3 s ∷ stmt 4 (form.Return (Some (variable 0))) ∷ []) ∷ [])
+
+-- `harness void f() { minrepeat ; }`
+abbrev pub repeats_least : Prog
+repeats_least = program (record { name = []; kind = kind.Harness; result = None; params = []; slots = 0; implements = None; body = stmt 1 (form.MinRepeat (block [] ∷ block [] ∷ [])) ∷ [] } ∷ [])
+
+pub record ChoiceExamples : Type 0 where
+  -- `??`, at `int` and at `bit[3]`
+  pub a_number : outcome_under (3 ∷ []) (returning (int hole)) ≡ outcome.Done (Some (value.Int (pos 3))) [] 0
+  pub bits : outcome_under (1 ∷ 0 ∷ 1 ∷ []) (returning (of_type (bits_type 3) hole)) ≡ outcome.Done (Some (three true false true)) [] 0
+  -- `{| 1 | ?? |}`: the pattern's site stands before the hole's
+  pub first_string : outcome_under (0 ∷ 2 ∷ []) (returning (int (eform.Pattern (number 1 ∷ int hole ∷ [])))) ≡ outcome.Done (Some (value.Int (pos 1))) [] 0
+  pub second_string : outcome_under (1 ∷ 2 ∷ []) (returning (int (eform.Pattern (number 1 ∷ int hole ∷ [])))) ≡ outcome.Done (Some (value.Int (pos 2))) [] 0
+  -- `reorder { x = x + 1; x = x + x; }`: as many stand after the second as its digit says
+  pub written_order : outcome_under (0 ∷ []) (from_one (form.Reorder (x_becomes (sum (variable 0) (number 1)) ∷ x_becomes (sum (variable 0) (variable 0)) ∷ []))) ≡ outcome.Done (Some (value.Int (pos 4))) [] 0
+  pub other_order : outcome_under (1 ∷ []) (from_one (form.Reorder (x_becomes (sum (variable 0) (number 1)) ∷ x_becomes (sum (variable 0) (variable 0)) ∷ []))) ≡ outcome.Done (Some (value.Int (pos 3))) [] 0
+  -- `repeat (??) x = x + ??;` with two copies, of which one is kept
+  pub one_copy : outcome_under (1 ∷ 5 ∷ 7 ∷ []) (from_one (form.Repeat (int hole) (x_becomes (sum (variable 0) (int hole)) ∷ x_becomes (sum (variable 0) (int hole)) ∷ []))) ≡ outcome.Done (Some (value.Int (pos 6))) [] 0
+  pub two_copies : outcome_under (2 ∷ 5 ∷ 7 ∷ []) (from_one (form.Repeat (int hole) (x_becomes (sum (variable 0) (int hole)) ∷ x_becomes (sum (variable 0) (int hole)) ∷ []))) ≡ outcome.Done (Some (value.Int (pos 13))) [] 0
+  -- a harness pays the number of copies
+  pub pays : outcome_under (2 ∷ []) repeats_least ≡ outcome.Done None [] 2

@@ -12,11 +12,9 @@ use Rattle.sk_prog.specs.declared.ty.Ty.{Ty}
 use Rattle.sk_prog.specs.declared.ty.Ty.TheVariants as ty
 use Rattle.sk_prog.specs.declared.ty.Elem.TheVariants as elem
 use Rattle.sk_prog.specs.declared.expr.PExpr.{PExpr}
-use Rattle.sk_prog.specs.declared.expr.PEForm.TheVariants as eform
 use Rattle.sk_prog.specs.declared.expr.PEForm.TheOpen as P
 use Rattle.sk_prog.specs.declared.expr.PEForm.TheFolds.{fold-PExpr}
 use Rattle.sk_prog.specs.declared.stmt.PStmt.{PStmt}
-use Rattle.sk_prog.specs.declared.stmt.PForm.TheVariants as form
 use Rattle.sk_prog.specs.declared.stmt.PForm.TheOpen as S
 use Rattle.sk_prog.specs.declared.stmt.PForm.TheFolds.{fold-PStmt}
 use Rattle.sk_prog.specs.declared.prog.Fun.{Fun}
@@ -24,12 +22,17 @@ use Rattle.sk_model.specs.declared.expanded.Expanded.{Expanded}
 use Rattle.sk_model.specs.Parts.{Part, counts, value, joined}
 use Rattle.sk_model.specs.Sites.{is_hole}
 
+-- what a minrepeat with this span pays, its value
+pub record Payment : Type 0 where
+  pub span : Span
+  pub amount : ℕ
+
 -- For each site of a part whether it stands, the functions that what stands in the part calls, and
--- what the minrepeats that stand in it pay: a statement `minimize(v);` each, in order.
+-- what the minrepeats that stand in it pay, in order.
 pub record Standing : Type 0 where
   pub marks : List Bool
   pub called : List ℕ
-  pub paid : List PStmt
+  pub paid : List Payment
 
 abbrev pub nothing : Standing
 nothing = record { marks = []; called = []; paid = [] }
@@ -67,10 +70,6 @@ abbrev pub only : ℕ → List (Part Standing) → List (Part Standing)
 only v [] = []
 only zero (p ∷ ps) = p ∷ first_of zero ps
 only (suc v) (p ∷ ps) = absent p ∷ only v ps
-
--- `minimize(v);` for a minrepeat with this span
-abbrev pub minimize_of : Span → ℕ → PStmt
-minimize_of span v = record { span = span; form = form.Minimize (record { span = span; ty = Some (ty.One elem.Int); form = eform.Number v }) }
 
 -- how many sites a hole of this type has
 abbrev pub hole_count : Option Ty → ℕ
@@ -116,7 +115,7 @@ module _ (values : List ℕ) where
 
   -- a minrepeat pays its value
   abbrev pub with_paid : Span → Part Standing → Part Standing
-  with_paid span p = record { count = p.count; at = λ i. together (record nothing { paid = minimize_of span (value values i) ∷ [] }) (p.at i) }
+  with_paid span p = record { count = p.count; at = λ i. together (record nothing { paid = record { span = span; amount = value values i } ∷ [] }) (p.at i) }
 
   -- all copies of a repeat by a constant stand, and of a repeat by a hole as many as its value says
   abbrev pub repeat_standing : PExpr → List (Part Standing) → Part Standing
@@ -178,7 +177,7 @@ abbrev pub sites_stand : List FunStanding → List Bool
 sites_stand ss = joined (map (λ s. s.within.marks) ss)
 
 -- what all minrepeats that stand pay, in order of their sites
-abbrev pub all_paid : List FunStanding → List PStmt
+abbrev pub all_paid : List FunStanding → List Payment
 all_paid ss = joined (map (λ s. s.within.paid) ss)
 
 -- The site with this place stands under a choice.

@@ -4,8 +4,10 @@
 
 mod expanded;
 pub mod filling_examples;
+pub mod filling_laws;
 mod outcome;
 pub mod running_examples;
+pub mod running_laws;
 
 pub use expanded::{Choice, Expanded, Input, Obligation, Pair, Site};
 pub use outcome::Outcome;

@@ -1,6 +1,6 @@
 //! What small programs do when they are run. Each fact is computed by the checker.
 
-ghost use Rattle.sk_model.specs.RunningExamples.{NumberExamples, ArrayExamples, BoundExamples, RefExamples, TargetExamples, EndExamples};
+ghost use Rattle.sk_model.specs.RunningExamples.{NumberExamples, ArrayExamples, BoundExamples, RefExamples, TargetExamples, EndExamples, ChoiceExamples};
 
 /// Sums wrap, quotients truncate toward zero, and what is not needed is not evaluated.
 pub fn numbers()
@@ -30,4 +30,9 @@ pub fn targets()
 /// A run is done, failed or skipped.
 pub fn ends()
     ensures { EndExamples }
+{}
+
+/// What open programs do under a choice.
+pub fn choices()
+    ensures { ChoiceExamples }
 {}

@@ -1,0 +1,19 @@
+//! Laws of runs.
+
+ghost use Rattle.std.specs.Prelude.{List};
+ghost use Rattle.sk_base.specs.declared.bounds.Bounds.{Bounds};
+ghost use Rattle.sk_prog.specs.declared.ids.FunId.{FunId};
+ghost use Rattle.sk_prog.specs.declared.prog.Prog.{Prog};
+ghost use Rattle.sk_prog.specs.declared.value.Value.{Value};
+ghost use Rattle.sk_model.specs.Run.{run};
+ghost use Rattle.sk_model.specs.RunningLaws.{EndsInOneWay, OpenRunIsRun};
+
+/// A run is done, or it fails, or it is skipped, and only one of these.
+pub fn runs_end_in_one_way()
+    ensures { (prog : Prog) (f : FunId) (args : List Value) (bounds : Bounds) → EndsInOneWay (run prog f args bounds) }
+{}
+
+/// A program that is filled does under any choice what it does in a run.
+pub fn filled_runs_are_runs()
+    ensures { OpenRunIsRun }
+{}
