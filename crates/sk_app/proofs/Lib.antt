@@ -31,6 +31,10 @@ pub mod RunningEqual
 pub mod RunningRuns
 pub mod TypingFuns
 pub mod TypingEarly
+pub mod BridgeRules
+pub mod BridgeExprs
+pub mod BridgeStmts
+pub mod Bridge
 pub mod TypingChecks
 pub mod ShownFilled
 pub mod ShownFilling

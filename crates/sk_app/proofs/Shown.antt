@@ -1,7 +1,7 @@
 -- The layout of an early program shows it.
 use Rattle.std.proofs.Common.{◌≡◌, ℕ, suc, max, ◌≤◌, Bool, true, false, ◌&&◌, not, List, [], ◌∷◌, ◌++◌, Option, Some, None, map, refl, sym, ap, ◌∙◌, subst, append_assoc, append-nil}
 use Rattle.std.specs.Prelude.{IsTrue}
-use Rattle.std.specs.List.{flat_map, list_all}
+use Rattle.std.specs.List.{flat_map, list_all, list_any}
 use Rattle.std.proofs.lemmas.Bool.{and_parts, and_from, false≢true}
 use Rattle.sk_base.specs.declared.bounds.Bounds.{Bounds}
 use Rattle.sk_tree.specs.declared.token.Token.{Token}
@@ -33,12 +33,15 @@ use Rattle.sk_prog.specs.declared.prog.Fun.{Fun}
 use Rattle.sk_prog.specs.declared.prog.Prog.{Prog}
 use Rattle.sk_prog.specs.Spanless.{spanless_const, spanless_stmt, spanless_fun}
 use Rattle.sk_types.specs.declared.scope.Variable.{Variable}
-use Rattle.sk_types.specs.Types.{after, most_within, most, AllMean, ParamMeans, ParamsMean, parameters, kind_of, ResultMeans, FunMeans, ItemsMean, all_distinct, Types}
+use Rattle.sk_types.specs.Types.{after, parameters, kind_of}
+use Rattle.sk_types.specs.Scope.{all_distinct}
+use Rattle.sk_app.specs.EarlyTypes.{most_within, most, AllMean, ParamMeans, ParamsMean, ResultMeans, FunMeans, ItemsMean, Types}
 use Rattle.sk_print.specs.Layout.{layout}
 use Rattle.sk_print.specs.Shows.{Shows}
 use Rattle.sk_print.proofs.Lexed.{kinds}
 use Rattle.sk_app.specs.Early.{early_pstmt, is_int_ty, early_pparam, is_pharness, is_absent, early_pfun, early_funs, is_none, early_prog}
 use Rattle.sk_app.proofs.ShownSpell.{is_name, stmt_spell, param_spell, params_spell, ty_spell, fun_spell, item_spell}
+use Rattle.sk_app.proofs.Bridge.{makes_copies, early_harness, copies_same, to_whole}
 use Rattle.sk_app.proofs.ShownLines.{int_base, early_fun_parts, items_told}
 use Rattle.sk_app.proofs.ShownExprs.{first_of_kinds}
 use Rattle.sk_app.proofs.ShownStmts.{int_spelt, stmt_again}
@@ -340,6 +343,8 @@ shown prog bounds tree narrow early types placed within names =
       tree = read;
       reads = record { spelt = subst (SpeltTree read) whole again.spelt; placed = again.places ∙ placed; within = subst (λ n. suc n ≤ most_levels) (sym again.depth) within };
       typed = record { structs = prog.structs; consts = prog.consts; funs = again.progs };
-      types = record { structs = types.structs; consts = types.consts; funs = again.means; distinct = subst (λ xs. IsTrue (all_distinct xs)) (sym again.named) types.distinct };
+      types = to_whole read bounds (record { structs = prog.structs; consts = prog.consts; funs = again.progs })
+          (sym (copies_same again.progs) ∙ ap (list_any makes_copies) again.same ∙ copies_same prog.funs ∙ early_harness prog early)
+          (record { structs = types.structs; consts = types.consts; funs = again.means; distinct = subst (λ xs. IsTrue (all_distinct xs)) (sym again.named) types.distinct });
       same = λ i. record { structs = prog.structs; consts = map spanless_const prog.consts; funs = again.same i };
     }

@@ -30,9 +30,11 @@ use Rattle.sk_prog.specs.declared.expr.PEForm.TheViews.{roll-PEForm}
 use Rattle.sk_prog.specs.Spanless.{no_span, without_span, field_again, spanless_expr}
 use Rattle.sk_types.specs.declared.rules.Own.{Own}
 use Rattle.sk_types.specs.declared.scope.Variable.{Variable}
-use Rattle.sk_types.specs.Rules.{operator_of, class_of, number_takes, hole_takes, in_range}
+use Rattle.sk_types.specs.Rules.{operator_of, number_takes, in_range}
+use Rattle.sk_app.specs.EarlyRules.{class_of, hole_takes}
 use Rattle.sk_types.specs.Scope.{Nearest}
-use Rattle.sk_types.specs.Types.{eform_own, operation_own, own, HasType, MeansOperation, Means, TargetForm}
+use Rattle.sk_types.specs.Types.{HasType}
+use Rattle.sk_app.specs.EarlyTypes.{eform_own, operation_own, own, MeansOperation, Means, TargetForm}
 use Rattle.sk_print.proofs.Lexed.{kinds}
 use Rattle.sk_app.proofs.ShownSpell.{eform_spell, expr_spell}
 use Rattle.sk_app.proofs.ShownMeans.{expr, pexpr, IsOperation, means_number, means_variable, means_hole, means_binary, by_means}

@@ -21,12 +21,14 @@ use Rattle.sk_prog.specs.declared.expr.PEForm.{PEForm}
 use Rattle.sk_prog.specs.declared.expr.PEForm.TheVariants as peform
 use Rattle.sk_types.specs.declared.rules.Own.{Own}
 use Rattle.sk_types.specs.declared.rules.Own.TheVariants.{Wrong, Loose, Firm}
-use Rattle.sk_types.specs.declared.rules.Class.{Class}
-use Rattle.sk_types.specs.declared.rules.Class.TheVariants.{Plus, Arithmetic, Order, Equality, Bitwise, Special}
+use Rattle.sk_app.specs.declared.early_rules.Class.{Class}
+use Rattle.sk_app.specs.declared.early_rules.Class.TheVariants.{Plus, Arithmetic, Order, Equality, Bitwise, Special}
 use Rattle.sk_types.specs.declared.scope.Variable.{Variable}
-use Rattle.sk_types.specs.Rules.{int, operator_of, class_of, operand, result_of, result_own, loose_takes, number_own, number_takes, hole_takes, in_range, join, joined_as, taken_as}
+use Rattle.sk_types.specs.Rules.{int, operator_of, number_own, number_takes, in_range}
+use Rattle.sk_app.specs.EarlyRules.{class_of, operand, result_of, result_own, loose_takes, hole_takes, join, joined_as, taken_as}
 use Rattle.sk_types.specs.Scope.{lookup, Nearest}
-use Rattle.sk_types.specs.Types.{name_own, eform_own, operation_own, own, HasType, Wanted, MeansOperation, Means, TargetForm}
+use Rattle.sk_types.specs.Types.{HasType, Wanted}
+use Rattle.sk_app.specs.EarlyTypes.{name_own, eform_own, operation_own, own, MeansOperation, Means, TargetForm}
 use Rattle.sk_types.proofs.Nearest.{nearest_lookup}
 use Rattle.sk_model.specs.Fill.{Part, value, eform_part, expr_step, expr_part, fill_expr}
 use Rattle.sk_app.specs.Early.{Rank, Operand, Sum, Equation, Other, is_sum, is_equation, of_operands, poperator_rank, peform_rank, prank, variable_form, is_variable, is_int_ty}

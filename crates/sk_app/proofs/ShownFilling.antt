@@ -32,7 +32,9 @@ use Rattle.sk_prog.specs.declared.prog.Fun.{Fun}
 use Rattle.sk_prog.specs.declared.prog.Prog.{Prog}
 use Rattle.sk_types.specs.declared.scope.Variable.{Variable}
 use Rattle.sk_types.specs.Rules.{int, bit, in_range}
-use Rattle.sk_types.specs.Types.{IsAt, AnyAt, MeansDeclare, MeansAssign, Grows, form_after, after, form_most, most_within, most, StmtMeans, AllMean, parameters, FunMeans, ItemsMean, all_distinct, Types}
+use Rattle.sk_types.specs.Types.{Grows, form_after, after, parameters}
+use Rattle.sk_types.specs.Scope.{all_distinct}
+use Rattle.sk_app.specs.EarlyTypes.{IsAt, AnyAt, MeansDeclare, MeansAssign, form_most, most_within, most, StmtMeans, AllMean, FunMeans, ItemsMean, Types}
 use Rattle.sk_model.specs.declared.expanded.Choice.{Choice}
 use Rattle.sk_model.specs.Sites.{sites}
 use Rattle.sk_model.specs.Expand.{expand}

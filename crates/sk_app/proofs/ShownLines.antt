@@ -34,7 +34,8 @@ use Rattle.sk_prog.specs.declared.prog.Fun.{Fun}
 use Rattle.sk_prog.specs.declared.prog.Prog.{Prog}
 use Rattle.sk_types.specs.declared.scope.Variable.{Variable}
 use Rattle.sk_types.specs.Rules.{int, bit}
-use Rattle.sk_types.specs.Types.{BaseMeans, TyMeans, AnyAt, IsAt, MeansDeclare, MeansAssign, StmtMeans, AllMean, after, ParamMeans, ParamsMean, FunMeans, ItemsMean, parameters}
+use Rattle.sk_types.specs.Types.{after, parameters}
+use Rattle.sk_app.specs.EarlyTypes.{BaseMeans, TyMeans, AnyAt, IsAt, MeansDeclare, MeansAssign, StmtMeans, AllMean, ParamMeans, ParamsMean, FunMeans, ItemsMean}
 use Rattle.sk_print.specs.Layout.{expr_layout, ty_layout, line, initial_layout, pform_layout, stmt_layout, ref_layout, param_layout, kind_layout, result_layout, fun_layout}
 use Rattle.sk_print.proofs.Lexed.{Lexes, stops, lex_end, lex_blank, lex_word, lex_one}
 use Rattle.sk_app.specs.Early.{early_pform, early_pstmt, is_int_ty, is_sum_pvalue, early_pparam, is_pharness, is_absent, early_pfun}

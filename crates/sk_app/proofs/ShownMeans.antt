@@ -28,9 +28,11 @@ use Rattle.sk_prog.specs.declared.stmt.PForm.TheOpen as S
 use Rattle.sk_prog.specs.declared.stmt.PForm.TheViews.{roll-PForm, out-PForm, roll-out-PForm}
 use Rattle.sk_prog.specs.declared.stmt.PForm.TheFolds.{map-PForm, rec-PForm, rec-roll-PForm, rec-roll-PStmt}
 use Rattle.sk_types.specs.declared.scope.Variable.{Variable}
-use Rattle.sk_types.specs.Rules.{operator_of, class_of, number_takes, hole_takes, in_range}
+use Rattle.sk_types.specs.Rules.{operator_of, number_takes, in_range}
+use Rattle.sk_app.specs.EarlyRules.{class_of, hole_takes}
 use Rattle.sk_types.specs.Scope.{Nearest}
-use Rattle.sk_types.specs.Types.{own, ExprRule, EFormRule, FieldRule, HasType, MeansOperation, eform_means, expr_means, field_means, Means, StmtRule, FormRule, MeansDeclare, MeansAssign, IsAt, form_means, stmt_means, StmtMeans}
+use Rattle.sk_types.specs.Types.{HasType}
+use Rattle.sk_app.specs.EarlyTypes.{own, ExprRule, EFormRule, FieldRule, MeansOperation, eform_means, expr_means, field_means, Means, StmtRule, FormRule, MeansDeclare, MeansAssign, IsAt, form_means, stmt_means, StmtMeans}
 use Rattle.sk_types.specs.Rules.{bit}
 
 abbrev pub pexpr : Span → Option Ty → PEForm → PExpr

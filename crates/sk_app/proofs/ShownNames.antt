@@ -45,9 +45,12 @@ use Rattle.sk_prog.specs.declared.stmt.PForm.TheVariants as pform
 use Rattle.sk_prog.specs.declared.prog.Fun.{Fun}
 use Rattle.sk_prog.specs.declared.prog.Prog.{Prog}
 use Rattle.sk_types.specs.declared.scope.Variable.{Variable}
-use Rattle.sk_types.specs.Rules.{bit, number_takes, hole_takes, in_range}
+use Rattle.sk_types.specs.Rules.{bit, number_takes, in_range}
+use Rattle.sk_app.specs.EarlyRules.{hole_takes}
 use Rattle.sk_types.specs.Scope.{Nearest}
-use Rattle.sk_types.specs.Types.{HasType, Means, AnyAt, IsAt, MeansDeclare, MeansAssign, StmtMeans, AllMean, after, parameters, FunMeans, ItemsMean, Types}
+use Rattle.sk_types.specs.Types.{after, parameters}
+use Rattle.sk_types.specs.Types.{HasType}
+use Rattle.sk_app.specs.EarlyTypes.{Means, AnyAt, IsAt, MeansDeclare, MeansAssign, StmtMeans, AllMean, FunMeans, ItemsMean, Types}
 use Rattle.sk_print.proofs.Lexed.{is_word, if_all_is}
 use Rattle.sk_app.proofs.ReadingLayers.{open_spelt, open_stmt}
 use Rattle.sk_app.proofs.ShownSpell.{is_name}

@@ -34,7 +34,8 @@ use Rattle.sk_prog.specs.declared.stmt.PForm.TheViews.{roll-PForm}
 use Rattle.sk_prog.specs.Spanless.{no_span, any_spanless, spanless_form, stmt_without_span, spanless_stmt}
 use Rattle.sk_types.specs.declared.scope.Variable.{Variable}
 use Rattle.sk_types.specs.Rules.{bit}
-use Rattle.sk_types.specs.Types.{IsAt, AnyAt, BaseMeans, MeansDeclare, MeansAssign, Grows, form_after, after, form_most, most_within, StmtMeans}
+use Rattle.sk_types.specs.Types.{Grows, form_after, after}
+use Rattle.sk_app.specs.EarlyTypes.{IsAt, AnyAt, BaseMeans, MeansDeclare, MeansAssign, form_most, most_within, StmtMeans}
 use Rattle.sk_print.proofs.Lexed.{kinds}
 use Rattle.sk_app.specs.Early.{early_pform, early_pstmt, is_int_ty, is_sum_pvalue}
 use Rattle.sk_app.proofs.ShownSpell.{expr_spell, ty_spell, initial_spell, form_spell, stmt_spell}

@@ -25,9 +25,11 @@ use Rattle.sk_prog.specs.declared.expr.PExpr.{PExpr}
 use Rattle.sk_prog.specs.declared.expr.PEForm.TheVariants as peform
 use Rattle.sk_prog.specs.declared.prog.Prog.{Prog}
 use Rattle.sk_types.specs.declared.scope.Variable.{Variable}
-use Rattle.sk_types.specs.Rules.{operator_of, number_takes, hole_takes, in_range}
+use Rattle.sk_types.specs.Rules.{operator_of, number_takes, in_range}
+use Rattle.sk_app.specs.EarlyRules.{hole_takes}
 use Rattle.sk_types.specs.Scope.{Nearest}
-use Rattle.sk_types.specs.Types.{HasType, Means}
+use Rattle.sk_types.specs.Types.{HasType}
+use Rattle.sk_app.specs.EarlyTypes.{Means}
 use Rattle.sk_print.specs.Layout.{op_layout, eform_layout, expr_layout}
 use Rattle.sk_print.proofs.Lexed.{Lexes, stops, is_word, lex_blank, lex_word, lex_number, lex_one, lex_two, lex_slash}
 use Rattle.sk_app.proofs.ShownSpell.{is_name, eform_spell, expr_spell}

@@ -52,7 +52,8 @@ use Rattle.sk_prog.specs.declared.prog.Fun.{Fun}
 use Rattle.sk_prog.specs.declared.prog.Prog.{Prog}
 use Rattle.sk_types.specs.declared.scope.Variable.{Variable}
 use Rattle.sk_types.specs.Rules.{int, operator_of}
-use Rattle.sk_types.specs.Types.{EFormRule, ExprRule, Means, IsAt, AnyAt, IsTarget, TargetForm, BaseMeans, TyMeans, FormRule, StmtRule, Grows, form_after, after, after_all, form_means, StmtMeans, AllMean, ParamsMean, ParamMeans, ResultMeans, parameters, kind_of, FunMeans, ItemsMean, Types, most}
+use Rattle.sk_types.specs.Types.{Grows, form_after, after, parameters, kind_of}
+use Rattle.sk_app.specs.EarlyTypes.{EFormRule, ExprRule, Means, IsAt, AnyAt, IsTarget, TargetForm, BaseMeans, TyMeans, FormRule, StmtRule, after_all, form_means, StmtMeans, AllMean, ParamsMean, ParamMeans, ResultMeans, FunMeans, ItemsMean, Types, most}
 use Rattle.sk_app.specs.Early.{Rank, Operand, Sum, Equation, Other, is_sum, is_equation, operator_rank, eform_rank, rank, is_name, is_int_base, is_int, is_sum_value, is_one_value, early_form, early_stmt, early_param, is_harness, is_absent, early_fun, early_items, is_early, poperator_rank, peform_rank, prank, is_int_ty, variable_form, is_variable, is_sum_pvalue, early_pform, early_pstmt, early_pparam, is_pharness, early_pfun, early_funs, early_prog, is_none}
 use Rattle.sk_app.proofs.TypingLaws.{pexpr_law, both_true, both, rule, FormMeans, form_means_are, means_parts}
 use Rattle.sk_app.proofs.TypingScopes.{pstmt_law, after_form, after_form_is, after_is, adds_all, most_is}
@@ -60,35 +61,35 @@ use Rattle.sk_app.proofs.TypingSteps.{act_rule, ActMeans, act_means_are, stmt_me
 
 -- Ranks of trees and of programs
 
-abbrev form_rank : EForm → Rank
+abbrev pub form_rank : EForm → Rank
 form_rank = fold-EForm Rank Rank (Unit {0}) eform_rank (λ x. x.form) (λ x. tt)
 
-abbrev field_rank : NewField → Unit {0}
+abbrev pub field_rank : NewField → Unit {0}
 field_rank = fold-NewField Rank Rank (Unit {0}) eform_rank (λ x. x.form) (λ x. tt)
 
-form_rank_is : (l : E.EForm-F EForm Expr NewField) → form_rank (roll-EForm l) ≡ eform_rank (map-EForm EForm Expr NewField Rank Rank (Unit {0}) form_rank rank field_rank l)
+pub form_rank_is : (l : E.EForm-F EForm Expr NewField) → form_rank (roll-EForm l) ≡ eform_rank (map-EForm EForm Expr NewField Rank Rank (Unit {0}) form_rank rank field_rank l)
 form_rank_is l = fold-roll-EForm Rank Rank (Unit {0}) eform_rank (λ x. x.form) (λ x. tt) l
 
-rank_is : (e : Expr) → rank e ≡ form_rank e.form
+pub rank_is : (e : Expr) → rank e ≡ form_rank e.form
 rank_is e = fold-roll-Expr Rank Rank (Unit {0}) eform_rank (λ x. x.form) (λ x. tt) (record { span = e.span; form = e.form })
 
-rank_number : (n : ℕ) → form_rank (eform.Number n) ≡ Operand
+pub rank_number : (n : ℕ) → form_rank (eform.Number n) ≡ Operand
 rank_number n = ap form_rank (sym (eform.rolls-Number n)) ∙ form_rank_is (E.Number n)
 
-rank_word : (x : List ℕ) → form_rank (eform.Word x) ≡ Operand
+pub rank_word : (x : List ℕ) → form_rank (eform.Word x) ≡ Operand
 rank_word x = ap form_rank (sym (eform.rolls-Word x)) ∙ form_rank_is (E.Word x)
 
-rank_hole : form_rank (eform.Hole None) ≡ Operand
+pub rank_hole : form_rank (eform.Hole None) ≡ Operand
 rank_hole = ap form_rank (sym (eform.rolls-Hole None)) ∙ form_rank_is (E.Hole None)
 
-rank_binary : (m : Mark) (a b : Expr) → form_rank (eform.Binary m a b) ≡ operator_rank m (rank a) (rank b)
+pub rank_binary : (m : Mark) (a b : Expr) → form_rank (eform.Binary m a b) ≡ operator_rank m (rank a) (rank b)
 rank_binary m a b = ap form_rank (sym (eform.rolls-Binary m a b)) ∙ form_rank_is (E.Binary m a b)
 
-abbrev rank_by : Option BinOp → Rank → Rank → Rank
+abbrev pub rank_by : Option BinOp → Rank → Rank → Rank
 rank_by None a b = Other
 rank_by (Some op) a b = poperator_rank op a b
 
-rank_operator : (m : Mark) (a b : Rank) → operator_rank m a b ≡ rank_by (operator_of m) a b
+pub rank_operator : (m : Mark) (a b : Rank) → operator_rank m a b ≡ rank_by (operator_of m) a b
 rank_operator mark.Plus a b = refl
 rank_operator mark.Star a b = refl
 rank_operator mark.Equal a b = refl
@@ -177,22 +178,22 @@ module _ (n : ℕ) where
 
 -- Statements
 
-abbrev early_in : Form → Bool
+abbrev pub early_in : Form → Bool
 early_in = fold-Form Bool Bool early_form (λ s. s.form)
 
-early_in_is : (l : F.Form-F Form Stmt) → early_in (roll-Form l) ≡ early_form (map-Form Form Stmt Bool Bool early_in early_stmt l)
+pub early_in_is : (l : F.Form-F Form Stmt) → early_in (roll-Form l) ≡ early_form (map-Form Form Stmt Bool Bool early_in early_stmt l)
 early_in_is l = fold-roll-Form Bool Bool early_form (λ s. s.form) l
 
-early_stmt_is : (e : Stmt) → early_stmt e ≡ early_in e.form
+pub early_stmt_is : (e : Stmt) → early_stmt e ≡ early_in e.form
 early_stmt_is e = fold-roll-Stmt Bool Bool early_form (λ s. s.form) (record { span = e.span; form = e.form })
 
-early_declare : (y : TyTree) (ds : List Declared) → early_in (form.Declare y ds) ≡ (is_int y && is_one_value ds)
+pub early_declare : (y : TyTree) (ds : List Declared) → early_in (form.Declare y ds) ≡ (is_int y && is_one_value ds)
 early_declare y ds = ap early_in (sym (form.rolls-Declare y ds)) ∙ early_in_is (F.Declare y ds)
 
-early_assign : (d e : Expr) → early_in (form.Assign d e) ≡ (is_name d.form && is_sum (rank e))
+pub early_assign : (d e : Expr) → early_in (form.Assign d e) ≡ (is_name d.form && is_sum (rank e))
 early_assign d e = ap early_in (sym (form.rolls-Assign d e)) ∙ early_in_is (F.Assign d e)
 
-early_assert : (e : Expr) → early_in (form.Assert e) ≡ is_equation (rank e)
+pub early_assert : (e : Expr) → early_in (form.Assert e) ≡ is_equation (rank e)
 early_assert e = ap early_in (sym (form.rolls-Assert e)) ∙ early_in_is (F.Assert e)
 
 int_means : (b : Base) (ls : List Expr) (t : Ty) → is_int_base b ls ≡ true → BaseMeans b ls t → is_int_ty t ≡ true
@@ -202,14 +203,14 @@ int_means base.Bit [] t h m = cc
 int_means base.Bit (l ∷ ls) t h m = absurd m
 int_means (base.Named x) ls t h m = absurd m
 
-longer : (s t : List Variable) → (more : List Variable) × (t ≡ s ++ more) → length s ≤ length t
+pub longer : (s t : List Variable) → (more : List Variable) × (t ≡ s ++ more) → length s ≤ length t
 longer s t h = subst (λ t. length s ≤ length t) (sym h.1) (at_least s h.0)
   where
     at_least : (s more : List Variable) → length s ≤ length (s ++ more)
     at_least [] more = omega arith
     at_least (v ∷ vs) more = let h = at_least vs more in omega arith
 
-one_longer : (s : List Variable) (v : Variable) → length s < length (s ++ v ∷ [])
+pub one_longer : (s : List Variable) (v : Variable) → length s < length (s ++ v ∷ [])
 one_longer [] v = omega arith
 one_longer (w ∷ s) v = let h = one_longer s v in omega arith
 

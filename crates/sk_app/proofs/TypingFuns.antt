@@ -12,7 +12,9 @@ use Rattle.sk_prog.specs.declared.ty.Ty.{Ty}
 use Rattle.sk_prog.specs.declared.prog.ParamDef.{ParamDef}
 use Rattle.sk_prog.specs.declared.prog.Fun.{Fun}
 use Rattle.sk_prog.specs.declared.prog.Prog.{Prog}
-use Rattle.sk_types.specs.Types.{ParamMeans, ParamsMean, ResultMeans, parameters, kind_of, may_be, all_distinct, most, after_all, FunMeans, ItemsMean, Types}
+use Rattle.sk_types.specs.Types.{parameters, kind_of}
+use Rattle.sk_types.specs.Scope.{all_distinct}
+use Rattle.sk_app.specs.EarlyTypes.{ParamMeans, ParamsMean, ResultMeans, may_be, most, after_all, FunMeans, ItemsMean, Types}
 use Rattle.sk_app.specs.Early.{early_items, is_early}
 use Rattle.sk_app.specs.Typing.{◌>>=◌, ty_of, any_ty, make_all, makes, param_of, params_of, function, body_of, fun_with, fun_of, items_of, prog_of}
 use Rattle.sk_app.proofs.TypingLaws.{bind_some, some_same, if_some}

@@ -26,13 +26,15 @@ use Rattle.sk_prog.specs.declared.expr.PEForm.TheViews.{roll-PEForm, roll-PExpr,
 use Rattle.sk_prog.specs.declared.expr.PEForm.TheFolds.{map-PEForm, map-PExpr, rec-PEForm, rec-PField, rec-roll-PEForm, rec-roll-PExpr, ind-PExpr}
 use Rattle.sk_types.specs.declared.rules.Own.{Own}
 use Rattle.sk_types.specs.declared.rules.Own.TheVariants.{Wrong, Loose, Firm}
-use Rattle.sk_types.specs.declared.rules.Class.{Class}
-use Rattle.sk_types.specs.declared.rules.Class.TheVariants.{Plus, Arithmetic, Order, Equality, Bitwise, Special}
+use Rattle.sk_app.specs.declared.early_rules.Class.{Class}
+use Rattle.sk_app.specs.declared.early_rules.Class.TheVariants.{Plus, Arithmetic, Order, Equality, Bitwise, Special}
 use Rattle.sk_types.specs.declared.scope.Variable.{Variable}
 use Rattle.sk_types.specs.declared.scope.Place.{Place}
-use Rattle.sk_types.specs.Rules.{int, bit, elem_eq, ty_eq, fits, operator_of, class_of, operand, result_of, result_own, loose_takes, is_integer, is_bit, number_takes, hole_takes, in_range}
+use Rattle.sk_types.specs.Rules.{int, bit, elem_eq, ty_eq, operator_of, number_takes, in_range}
+use Rattle.sk_app.specs.EarlyRules.{fits, class_of, operand, result_of, result_own, loose_takes, is_integer, is_bit, hole_takes}
 use Rattle.sk_types.specs.Scope.{lookup, Nearest}
-use Rattle.sk_types.specs.Types.{ExprRule, EFormRule, FieldRule, HasType, Wanted, MeansOperation, eform_means, expr_means, field_means, Means, IsAt, own, eform_own, operation_own}
+use Rattle.sk_types.specs.Types.{HasType, Wanted}
+use Rattle.sk_app.specs.EarlyTypes.{ExprRule, EFormRule, FieldRule, MeansOperation, eform_means, expr_means, field_means, Means, IsAt, own, eform_own, operation_own}
 use Rattle.sk_types.proofs.Nearest.{nearest_lookup, lookup_nearest}
 use Rattle.sk_app.specs.Typing.{◌>>=◌, Part, FormPart, typed, number_at, hole_at, name_at, wanted, operands_at, operation_at, eform_part, expr_part, form_part, part}
 

@@ -7,7 +7,8 @@ use Rattle.sk_prog.specs.declared.stmt.PForm.TheOpen as S
 use Rattle.sk_prog.specs.declared.stmt.PForm.TheViews.{roll-PForm, roll-PStmt}
 use Rattle.sk_prog.specs.declared.stmt.PForm.TheFolds.{map-PForm, fold-PForm, fold-roll-PForm, fold-roll-PStmt, ind-PStmt}
 use Rattle.sk_types.specs.declared.scope.Variable.{Variable}
-use Rattle.sk_types.specs.Types.{Grows, form_after, after, after_all, form_most, most_within, most}
+use Rattle.sk_types.specs.Types.{Grows, form_after, after}
+use Rattle.sk_app.specs.EarlyTypes.{after_all, form_most, most_within, most}
 
 -- what holds of each layer whose parts have it holds of all
 pub pstmt_law : (P : PForm → Type 0) (Q : PStmt → Type 0)

@@ -24,9 +24,11 @@ use Rattle.sk_prog.specs.declared.stmt.PForm.TheViews.{roll-PForm, roll-PStmt}
 use Rattle.sk_prog.specs.declared.stmt.PForm.TheFolds.{map-PForm, rec-PForm, rec-roll-PForm, rec-roll-PStmt}
 use Rattle.sk_types.specs.declared.scope.Variable.{Variable}
 use Rattle.sk_types.specs.declared.scope.Place.{Place}
-use Rattle.sk_types.specs.Rules.{int, bit, fits, ty_eq}
+use Rattle.sk_types.specs.Rules.{int, bit, ty_eq}
+use Rattle.sk_app.specs.EarlyRules.{fits}
 use Rattle.sk_types.specs.Scope.{lookup, is_taken, Nearest}
-use Rattle.sk_types.specs.Types.{IsAt, AnyAt, TargetForm, IsTarget, BaseMeans, TyMeans, Grows, form_after, after, after_all, StmtRule, FormRule, MeansDeclare, MeansAssign, form_means, stmt_means, StmtMeans, AllMean}
+use Rattle.sk_types.specs.Types.{Grows, form_after, after}
+use Rattle.sk_app.specs.EarlyTypes.{IsAt, AnyAt, TargetForm, IsTarget, BaseMeans, TyMeans, after_all, StmtRule, FormRule, MeansDeclare, MeansAssign, form_means, stmt_means, StmtMeans, AllMean}
 use Rattle.sk_app.specs.Typing.{◌>>=◌, Part, FormPart, typed, name_at, part, form_part, value_at, any_at, base_ty, ty_of, Made, makes, declare, declare_names, assign_to, assign, make_form, make, make_all}
 use Rattle.sk_app.proofs.TypingLaws.{bind_some, some_same, if_some, ty_same, ty_self, sound, complete, part_is, form_word, FormMeans, FormGood, sound_name, means_from}
 use Rattle.sk_app.proofs.TypingScopes.{pstmt_law, after_form, after_form_is, after_is}

@@ -1,4 +1,6 @@
 pub mod Early
+pub mod EarlyRules
+pub mod EarlyTypes
 pub mod Ending
 pub mod Streams
 pub mod ReadStep

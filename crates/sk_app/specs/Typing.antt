@@ -34,12 +34,15 @@ use Rattle.sk_prog.specs.declared.prog.Fun.{Fun}
 use Rattle.sk_prog.specs.declared.prog.Prog.{Prog}
 use Rattle.sk_types.specs.declared.rules.Own.{Own}
 use Rattle.sk_types.specs.declared.rules.Own.TheVariants.{Wrong, Loose, Firm}
-use Rattle.sk_types.specs.declared.rules.Class.{Class}
+use Rattle.sk_app.specs.declared.early_rules.Class.{Class}
 use Rattle.sk_types.specs.declared.scope.Variable.{Variable}
 use Rattle.sk_types.specs.declared.scope.Place.{Place}
-use Rattle.sk_types.specs.Rules.{int, bit, fits, operator_of, class_of, operand, result_of, loose_takes, number_own, number_takes, hole_takes, in_range}
+use Rattle.sk_types.specs.Rules.{int, bit, operator_of, number_own, number_takes, in_range}
+use Rattle.sk_app.specs.EarlyRules.{fits, class_of, operand, result_of, loose_takes, hole_takes}
 use Rattle.sk_types.specs.Scope.{lookup, is_taken}
-use Rattle.sk_types.specs.Types.{name_own, operation_own, kind_of, may_be, all_distinct, parameters}
+use Rattle.sk_types.specs.Types.{kind_of, parameters}
+use Rattle.sk_types.specs.Scope.{all_distinct}
+use Rattle.sk_app.specs.EarlyTypes.{name_own, operation_own, may_be}
 use Rattle.sk_app.specs.declared.typing.Fault.{Fault}
 use Rattle.sk_app.specs.declared.typing.Fault.TheVariants.{Memory, Refused}
 

@@ -3,6 +3,7 @@
 
 mod command;
 mod complete;
+mod early_rules;
 mod ending;
 mod filling;
 mod output;

@@ -6,11 +6,13 @@ ghost use Rattle.sk_app.specs.Typing.{value_at, form_part, part, typed, number_a
 ghost use Rattle.sk_prog.specs.declared.prog.Prog.{Prog};
 ghost use Rattle.sk_types.specs.Types.{Types};
 ghost use Rattle.sk_app.specs.Early.{is_early, early_prog};
-ghost use Rattle.sk_types.specs.Rules.{class_of, result_of};
+ghost use Rattle.sk_app.specs.EarlyRules.{class_of, result_of};
 ghost use Rattle.sk_types.specs.Scope.{lookup};
 ghost use Rattle.std.specs.List.{list_any};
 ghost use Rattle.std.specs.Str.{bytes_eq};
-ghost use Rattle.sk_types.specs.Types.{name_own, operation_own, parameters, kind_of, may_be, all_distinct};
+ghost use Rattle.sk_types.specs.Types.{parameters, kind_of};
+ghost use Rattle.sk_types.specs.Scope.{all_distinct};
+ghost use Rattle.sk_app.specs.EarlyTypes.{name_own, operation_own, may_be};
 ghost use Rattle.sk_prog.specs.declared.expr.PEForm.TheVariants.{Var, Binary};
 
 use sk_base::{Bounds, Boxed, List, Name, Span};
@@ -20,9 +22,11 @@ use sk_prog::{
 use sk_tree::{
     Base, Declared, EForm, Expr, Form, FunItem, FunKind, Item, Param, Stmt, Tree, TyTree,
 };
+use crate::early_rules::{
+    Class, class_of, hole_takes, loose_takes, operand, result_of, result_own,
+};
 use sk_types::{
-    Class, Own, Place, Variable, class_of, fits, hole_takes, in_range, is_taken, lookup,
-    loose_takes, number_own, number_takes, operand, operator_of, result_of, result_own,
+    Own, Place, Variable, in_range, is_taken, lookup, number_own, number_takes, operator_of, ty_eq,
 };
 use std::alloc::{AllocError, AllocFailed, Global};
 
@@ -168,7 +172,7 @@ fn name_at(
     let Some(place) = place else {
         return Err(Fault::Refused);
     };
-    if !fits(place.ty, ty) {
+    if !ty_eq(place.ty, ty) {
         return Err(Fault::Refused);
     }
     let e = variable(alloc, place, span, name)?;
@@ -189,7 +193,7 @@ fn wanted(class: Class, operand: Own, ty: Ty) -> Result<Ty, Fault>
             }
         }
         Own::Firm(wanted) => {
-            if fits(result_of(class, wanted), ty) {
+            if ty_eq(result_of(class, wanted), ty) {
                 Ok(wanted)
             } else {
                 Err(Fault::Refused)

@@ -12,7 +12,8 @@ use Rattle.sk_tree.specs.declared.expr.NewField.{NewField}
 use Rattle.sk_types.specs.declared.scope.Variable.{Variable}
 use Rattle.sk_types.specs.Rules.{operator_of}
 use Rattle.sk_types.specs.Scope.{Context}
-use Rattle.sk_types.specs.Sorts.{Sort, eform_sort, sort, any_binary}
+use Rattle.sk_prog.specs.declared.ty.Ty.{Ty}
+use Rattle.sk_types.specs.Sorts.{Sort, eform_sort, sort, any_binary, variable_type, eform_target, target_type}
 
 module _ (context : Context) (scope : List Variable) where
   abbrev pub form_sort : EForm → Sort
@@ -38,3 +39,13 @@ module _ (context : Context) (scope : List Variable) where
 
   pub sort_binary : (s : Span) (m : Mark) (a b : Expr) → sort context scope (record { span = s; form = eform.Binary m a b }) ≡ any_binary (operator_of m) (sort context scope a) (sort context scope b)
   sort_binary s m a b = sort_is (record { span = s; form = eform.Binary m a b }) ∙ ap form_sort (sym (eform.rolls-Binary m a b)) ∙ form_sort_is (E.Binary m a b)
+
+  abbrev form_target : EForm → Option Ty
+  form_target = para-EForm (Option Ty) (Option Ty) (Unit {0}) (eform_target context scope) (λ x. x.form.1) (λ x. tt)
+
+  -- the type of a variable as a target
+  pub target_word : (e : Expr) (x : List ℕ) → e.form ≡ eform.Word x → target_type context scope e ≡ variable_type scope (eform.Word x)
+  target_word e x is =
+      para-roll-Expr (Option Ty) (Option Ty) (Unit {0}) (eform_target context scope) (λ x. x.form.1) (λ x. tt) (record { span = e.span; form = e.form })
+      ∙ ap form_target (is ∙ sym (eform.rolls-Word x))
+      ∙ para-roll-EForm (Option Ty) (Option Ty) (Unit {0}) (eform_target context scope) (λ x. x.form.1) (λ x. tt) (E.Word x)

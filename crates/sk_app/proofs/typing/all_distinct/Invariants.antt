@@ -1,7 +1,7 @@
 use Rattle.std.proofs.Common.{◌≡◌, drop}
 use Rattle.std.specs.Prelude.{map}
 use Rattle.sk_prog.specs.declared.prog.ParamDef.{ParamDef}
-use Rattle.sk_types.specs.Types.{all_distinct}
+use Rattle.sk_types.specs.Scope.{all_distinct}
 use Rattle.sk_app.proofs.typing.all_distinct.Given as goal
 
 -- the parameters to come decide
