@@ -30,7 +30,7 @@ use Rattle.sk_types.specs.declared.rules.Class.TheVariants as whole_class
 use Rattle.sk_types.specs.declared.scope.Variable.{Variable}
 use Rattle.sk_types.specs.declared.scope.Place.{Place}
 use Rattle.sk_types.specs.Rules as whole
-use Rattle.sk_types.specs.Rules.{int, bit, operator_of}
+use Rattle.sk_types.specs.Rules.{int, bit, operator_of, number_takes}
 use Rattle.sk_types.specs.Scope.{lookup, Context, Top, Meaning, AVariable, AStruct, AConstant, AFunction, Nothing, variable_or, struct_or, constant_or, function_or, place_of, meaning_of, top_meaning}
 use Rattle.sk_types.specs.Sorts as sorts
 use Rattle.sk_types.specs.Sorts.{Sort}
@@ -45,7 +45,7 @@ use Rattle.sk_app.specs.EarlyTypes.{EFormRule, ExprRule, MeansOperation, Means, 
 use Rattle.sk_app.specs.Early.{Rank, Operand, Sum, Equation, Other, is_operand, is_sum, of_operands, of_sums, operator_rank, eform_rank, rank, poperator_rank}
 use Rattle.sk_app.proofs.TypingLaws.{expr_law, pexpr_law, some_same, FormMeans, form_means_are, rule, means_parts, means_from}
 use Rattle.sk_app.proofs.TypingEarly.{form_rank, field_rank, form_rank_is, rank_is, rank_by, rank_operator, rank_binary}
-use Rattle.sk_app.proofs.BridgeRules.{Fine, class, operand_same, fine_left, fine_right, fine_result, result_of_same, loose_same, hole_same}
+use Rattle.sk_app.proofs.BridgeRules.{Fine, class, operand_same, fine_left, fine_right, fine_result, result_of_same, loose_same, hole_same, number_same}
 
 result_own_same : (k : EarlyClass) (o : Own) → whole.result_own (class k) o ≡ result_own k o
 result_own_same k Wrong = refl
@@ -420,9 +420,6 @@ wants_one Other t s w is = absurd w
 pads_not : (r : Rank) (x : Own) (a t : Option Ty) → Wants r t → whole_types.IsPadded x a t → ⊥
 pads_not r x a t w m = let one = wants_one r t m.to w m.result in no_pad m.from one.0 (subst (λ s. whole.fit_of m.from s ≡ Pads) one.1 m.fit)
 
-literal_not : (r : Rank) (e : EForm) (a t : Option Ty) → Wants r t → whole_types.IsPaddedLiteral e a t → ⊥
-literal_not r e a t w m = let one = wants_one r t m.to w m.result in let no : ◌≡◌ {A = Option Ty} None (Some m.from) = subst (λ s. whole.element_of s ≡ Some m.from) one.1 m.element in cc
-
 module _ (context : Context) (scope : List Variable) where
   abbrev early_own : EForm → Own
   early_own = fold-EForm Own Own (Unit {0}) (eform_own scope) (λ x. x.form) (λ x. tt)
@@ -494,7 +491,7 @@ module _ (context : Context) (scope : List Variable) where
   expr_forth = pexpr_law FormForth ExprForth form_layer (λ p h e m. let r = means_parts context.bounds scope p e m in whole_layers.means_from context scope p e r.0 (h p.ty e r.1))
     where
       form_layer : (y : PE.PEForm-F ((f : PEForm) × FormForth f) ((p : PExpr) × ExprForth p) (PField × Unit {0})) → FormForth (roll-PEForm (forth_parts y))
-      form_layer (PE.Number i) t e m = close_whole (PE.Number i) t e (open_early (PE.Number i) t e.form m)
+      form_layer (PE.Number i) t e m = let r = open_early (PE.Number i) t e.form m in close_whole (PE.Number i) t e (r.0, r.1, number_same i t r.2)
       form_layer (PE.Var slot x) t e m = close_whole (PE.Var slot x) t e (open_early (PE.Var slot x) t e.form m)
       form_layer (PE.Hole None) t e m = let r = open_early (PE.Hole None) t e.form m in close_whole (PE.Hole None) t e (r.0, refl, hole_same t r.1)
       form_layer (PE.Binary op a b) t e m =
@@ -572,7 +569,10 @@ module _ (context : Context) (scope : List Variable) where
     expr_back = pexpr_law FormBack ExprBack form_layer (λ p h e m w. let r = whole_layers.means_parts context scope p e m in means_from context.bounds scope p e r.0 (h p.ty e r.1 w))
       where
         form_layer : (y : PE.PEForm-F ((f : PEForm) × FormBack f) ((p : PExpr) × ExprBack p) (PField × Unit {0})) → FormBack (roll-PEForm (back_parts y))
-        form_layer (PE.Number i) t e m w = close_early (PE.Number i) t e.form (open_whole (PE.Number i) t e m)
+        form_layer (PE.Number i) t e m w =
+            let r = open_whole (PE.Number i) t e m in
+            let is : t ≡ Some int = subst (λ r. Wants r t) (rank_as e (eform.Number i) (E.Number i) r.0 (eform.rolls-Number i)) w in
+            close_early (PE.Number i) t e.form (r.0, r.1, subst (HasType (number_takes i)) (sym is) refl)
         form_layer (PE.Var slot x) t e m w = close_early (PE.Var slot x) t e.form (open_whole (PE.Var slot x) t e m)
         form_layer (PE.Hole None) t e m w =
             let r = open_whole (PE.Hole None) t e m in
@@ -601,9 +601,4 @@ module _ (context : Context) (scope : List Variable) where
         form_layer (PE.Unary o q) t e m w = let r = open_whole (PE.Unary o q.0) t e m in absurd (refuse e (eform.Unary r.0 r.1) (E.Unary r.0 r.1) t r.2 (eform.rolls-Unary r.0 r.1) refl w)
         form_layer (PE.Cond c q j) t e m w = let r = open_whole (PE.Cond c.0 q.0 j.0) t e m in absurd (refuse e (eform.Cond r.0 r.1 r.2) (E.Cond r.0 r.1 r.2) t r.3 (eform.rolls-Cond r.0 r.1 r.2) refl w)
         form_layer (PE.ToInt q) t e m w = let r = open_whole (PE.ToInt q.0) t e m in absurd (widens_not (rank e) (sorts.own context scope e) (own scope e) q.0.ty t (agrees e) w r.2)
-        form_layer (PE.Pad q) t e m w = let r = open_whole (PE.Pad q.0) t e m in absurd (pad_not q.0.ty r.1)
-          where
-            pad_not : (a : Option Ty) → ((IsTrue (whole_types.is_bare e) × whole_types.IsPadded (sorts.own context scope e) a t) ⊎ (whole_types.IsPaddedLiteral e.form a t ⊎ whole_types.IsPaddedBraces e.form a t)) → ⊥
-            pad_not a (inl h) = pads_not (rank e) (sorts.own context scope e) a t w h.1
-            pad_not a (inr (inl h)) = literal_not (rank e) e.form a t w h
-            pad_not a (inr (inr h)) = refuse e (eform.Braces h.elements) (E.Braces h.elements) t h.braces (eform.rolls-Braces h.elements) refl w
+        form_layer (PE.Pad q) t e m w = let r = open_whole (PE.Pad q.0) t e m in absurd (pads_not (rank e) (sorts.own context scope e) q.0.ty t w r.2)

@@ -1,6 +1,6 @@
 -- The early rules of types and the whole ones: what an early rule gives is what the whole one gives.
 use Rattle.std.proofs.Common.{◌≡◌, ℕ, Bool, true, false, List, Option, Some, None, refl, sym, ap, subst, ◌∙◌}
-use Rattle.std.specs.Prelude.{◌||◌, IsTrue, if◌then◌else◌}
+use Rattle.std.specs.Prelude.{◌||◌, ◌&&◌, nat_lt, IsTrue, if◌then◌else◌}
 use Rattle.sk_prog.specs.declared.ty.Ty.{Ty}
 use Rattle.sk_prog.specs.declared.ty.Ty.TheVariants as ty
 use Rattle.sk_prog.specs.declared.ty.Elem.TheVariants as elem
@@ -131,3 +131,11 @@ hole_same None h = h
 hole_same (Some (ty.One elem.Int)) h = refl
 hole_same (Some (ty.One elem.Bit)) h = refl
 hole_same (Some _) h = cc
+
+yes_or : (a b : Bool) → IsTrue a → IsTrue (a || b)
+yes_or true b h = refl
+yes_or false b h = cc
+
+pub number_same : (n : ℕ) (t : Option Ty) → HasType (whole.number_takes n) t → HasType (whole.number_stands n) t
+number_same n None h = h
+number_same n (Some t) h = yes_or (whole.number_takes n t) (nat_lt n 2 && whole.element_takes n (whole.element_of t)) h

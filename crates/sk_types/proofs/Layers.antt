@@ -1,7 +1,7 @@
 -- The layers of the relation between programs and trees: what an expression and a statement mean is what their
 -- forms do, with the parts' meanings.
 use Rattle.std.proofs.Common.{◌≡◌, ℕ, Bool, true, false, List, [], ◌∷◌, length, Option, Some, None, refl, sym, ap, subst, ◌∙◌}
-use Rattle.std.specs.Prelude.{map, IsTrue}
+use Rattle.std.specs.Prelude.{map, IsTrue, ◌≤◌}
 use Rattle.std.proofs.lemmas.List.{length-map}
 use Rattle.sk_tree.specs.declared.expr.Expr.{Expr}
 use Rattle.sk_tree.specs.declared.expr.EForm.{EForm}
@@ -26,7 +26,7 @@ use Rattle.sk_prog.specs.declared.stmt.PForm.TheFolds.{map-PForm, rec-PForm, rec
 use Rattle.sk_prog.specs.declared.prog.StructDef.{StructDef}
 use Rattle.sk_prog.specs.declared.prog.ParamDef.{ParamDef}
 use Rattle.sk_types.specs.declared.scope.Variable.{Variable}
-use Rattle.sk_types.specs.Rules.{bit, array_of}
+use Rattle.sk_types.specs.Rules.{bit, element_of, count_of}
 use Rattle.sk_types.specs.Scope.{Context, Signature, all_distinct}
 use Rattle.sk_types.specs.Sorts.{kept, reference_to}
 use Rattle.sk_types.specs.Types.{ExprRule, EFormRule, FieldRule, EachMeans, MayBeRef, ArgumentsMean, FieldsMean, IsMore, IsCallee, IsStruct, eform_means, expr_means, field_means, Means, StmtRule, FormRule, BlockMeans, AnyMeans, OneMeans, after, may_reorder, IsAt, CountMeans, form_means, stmt_means, StmtMeans}
@@ -75,7 +75,7 @@ module _ (context : Context) (scope : List Variable) where
       same X Y Z u v w f k n (P.Pattern ps) = λ i t e. (g : Pattern) × (es : List Expr) × (e.form ≡ eform.Pattern g es) × (s : Ty) × (t ≡ Some s) × more_same v ps i × each_same v k s ps (kept context scope s es) i
       same X Y Z u v w f k n (P.Call g args) = λ i t e. (x : List ℕ) × (es : List Expr) × (e.form ≡ eform.Call x es) × (s : Signature) × IsCallee context.top scope x g s × arguments_same v k scope s.params args es i × (t ≡ s.result)
       same X Y Z u v w f k n (P.New s fields) = λ i t e. (x : List ℕ) × (es : List NewField) × (e.form ≡ eform.New x es) × (d : StructDef) × IsStruct context.top scope x s d × fields_same w n d fields es i × IsTrue (all_distinct (map (λ (y : NewField). y.name) es)) × (t ≡ Some (reference_to s))
-      same X Y Z u v w f k n (P.Braces ps) = λ i t e. (es : List Expr) × (e.form ≡ eform.Braces es) × (s : Ty) × each_same v k s ps es i × (r : Ty) × (array_of s (sym (length-map ps v) i) ≡ Some r) × (t ≡ Some r)
+      same X Y Z u v w f k n (P.Braces ps) = λ i t e. (es : List Expr) × (e.form ≡ eform.Braces es) × (s : Ty) × each_same v k s ps es i × (r : Ty) × (element_of r ≡ Some s) × (sym (length-map ps v) i ≤ count_of r) × (t ≡ Some r)
       same X Y Z u v w f k n _ = refl
 
   pub means_is : (p : PExpr) → Means context scope p ≡ (λ e. (p.span ≡ e.span) × FormMeans p.form p.ty e)

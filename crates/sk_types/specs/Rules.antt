@@ -310,6 +310,11 @@ element_takes n (Some u) = number_takes n u
 abbrev pub number_fits : ℕ → Ty → Bool
 number_fits n t = number_takes n t || element_takes n (element_of t)
 
+-- Whether a number is of this type as it is written: 0 and 1 may be the first element of an array, and zeros
+-- follow.
+abbrev pub number_stands : ℕ → Ty → Bool
+number_stands n t = number_takes n t || (nat_lt n 2 && element_takes n (element_of t))
+
 -- A number is at most the greatest integer: it is below 2^(W - 1).
 abbrev pub in_range : Bounds → ℕ → Bool
 in_range bounds n = nat_lt n (2 ^ (bounds.int_bits - 1))

@@ -54,7 +54,7 @@ use Rattle.sk_types.specs.declared.rules.Fit.TheVariants.{Pads}
 use Rattle.sk_types.specs.declared.rules.Class.{Class}
 use Rattle.sk_types.specs.declared.rules.Class.TheVariants.{Plus, Arithmetic, Order, Equality, Bitwise, Shift, Logic}
 use Rattle.sk_types.specs.declared.scope.Variable.{Variable}
-use Rattle.sk_types.specs.Rules.{int, bit, ty_eq, fit_of, is_reference, is_bits, element_of, count_of, array_of, holds_references, operator_of, unary_of, class_of, operand, result_of, loose_takes, shifted, flipped, number_takes, hole_takes, width_fits, in_range}
+use Rattle.sk_types.specs.Rules.{int, bit, ty_eq, fit_of, is_reference, is_bits, element_of, count_of, holds_references, operator_of, unary_of, class_of, operand, result_of, loose_takes, shifted, flipped, number_stands, hole_takes, width_fits, in_range}
 use Rattle.sk_types.specs.Scope.{lookup, Nearest, is_taken, all_distinct, Signature, signature_of, Top, top_of, top_names, Known, Context, AStruct, AConstant, AFunction, meaning_of}
 use Rattle.sk_types.specs.Constants.{constant_number}
 use Rattle.sk_types.specs.Sorts.{own, kept, kept_targets, first_target, target_type, variable_type, reference_to, sliced, is_harness, written_type}
@@ -143,30 +143,6 @@ pub record IsPadded (x : Own) (a t : Option Ty) : Type 0 where
   pub result : t ≡ Some to
   pub fit : fit_of from to ≡ Pads
 
--- 0 and 1, as an integer or a bit, become the first element of an array.
-pub record IsPaddedLiteral (e : EForm) (a t : Option Ty) : Type 0 where
-  pub from : Ty
-  pub to : Ty
-  pub number : ℕ
-  pub literal : (e ≡ eform.Number number) × (number < 2)
-  pub single : IsTrue (number_takes number from)
-  pub operand : a ≡ Some from
-  pub result : t ≡ Some to
-  pub element : element_of to ≡ Some from
-
--- Zeros come behind the elements of braces where more are wanted: the operand is the braces themselves, with as
--- many elements as they name.
-pub record IsPaddedBraces (e : EForm) (a t : Option Ty) : Type 0 where
-  pub from : Ty
-  pub to : Ty
-  pub elements : List Expr
-  pub braces : e ≡ eform.Braces elements
-  pub whole : count_of from ≡ length elements
-  pub operand : a ≡ Some from
-  pub result : t ≡ Some to
-  pub element : element_of to ≡ element_of from
-  pub fewer : count_of from < count_of to
-
 -- Parts that mean expressions at this type.
 abbrev pub EachMeans : {Y : Type 0} → (Y → PExpr) → (Y → ExprRule) → Ty → List Y → List Expr → Type 0
 EachMeans v k t [] [] = Unit {0}
@@ -211,7 +187,7 @@ pub record IsField (d : StructDef) (i : ℕ) (x : List ℕ) (t : Ty) : Type 0 wh
 
 module _ (context : Context) (scope : List Variable) where
   abbrev pub eform_means : (X Y Z : Type 0) → (X → PEForm) → (Y → PExpr) → (Z → PField) → (X → EFormRule) → (Y → ExprRule) → (Z → FieldRule) → P.PEForm-F X Y Z → EFormRule
-  eform_means X Y Z u v w f k n (P.Number i) t e = (e.form ≡ eform.Number i) × IsTrue (in_range context.bounds i) × HasType (number_takes i) t
+  eform_means X Y Z u v w f k n (P.Number i) t e = (e.form ≡ eform.Number i) × IsTrue (in_range context.bounds i) × HasType (number_stands i) t
   eform_means X Y Z u v w f k n P.True t e = (e.form ≡ eform.True) × (t ≡ Some bit)
   eform_means X Y Z u v w f k n P.False t e = (e.form ≡ eform.False) × (t ≡ Some bit)
   eform_means X Y Z u v w f k n P.Null t e = (e.form ≡ eform.Null) × HasType is_reference t
@@ -222,7 +198,7 @@ module _ (context : Context) (scope : List Variable) where
   eform_means X Y Z u v w f k n (P.Paren a) t e = (x : Expr) × (e.form ≡ eform.Paren x) × k a x × (s : Ty) × ((v a).ty ≡ Some s) × (t ≡ Some s)
   eform_means X Y Z u v w f k n (P.Call g args) t e = (x : List ℕ) × (es : List Expr) × (e.form ≡ eform.Call x es) × (s : Signature) × IsCallee context.top scope x g s × ArgumentsMean v k scope s.params args es × (t ≡ s.result)
   eform_means X Y Z u v w f k n (P.New s fields) t e = (x : List ℕ) × (es : List NewField) × (e.form ≡ eform.New x es) × (d : StructDef) × IsStruct context.top scope x s d × FieldsMean n d fields es × IsTrue (all_distinct (map (λ (y : NewField). y.name) es)) × (t ≡ Some (reference_to s))
-  eform_means X Y Z u v w f k n (P.Braces ps) t e = (es : List Expr) × (e.form ≡ eform.Braces es) × (s : Ty) × EachMeans v k s ps es × (r : Ty) × (array_of s (length ps) ≡ Some r) × (t ≡ Some r)
+  eform_means X Y Z u v w f k n (P.Braces ps) t e = (es : List Expr) × (e.form ≡ eform.Braces es) × (s : Ty) × EachMeans v k s ps es × (r : Ty) × (element_of r ≡ Some s) × (length ps ≤ count_of r) × (t ≡ Some r)
   eform_means X Y Z u v w f k n (P.Member a s i) t e = (x : Expr) × (y : List ℕ) × (e.form ≡ eform.Member x y) × k a x × (own context scope x ≡ Firm (reference_to s)) × ((v a).ty ≡ Some (reference_to s)) × (d : StructDef) × (slice_get context.top.structs s.index ≡ Some d) × (r : Ty) × IsField d i y r × (t ≡ Some r)
   eform_means X Y Z u v w f k n (P.Index a i) t e = (x y : Expr) × (e.form ≡ eform.Index x y) × k a x × k i y × (s : Ty) × (own context scope x ≡ Firm s) × ((v a).ty ≡ Some s) × ((v i).ty ≡ Some int) × (r : Ty) × (element_of s ≡ Some r) × (t ≡ Some r)
   eform_means X Y Z u v w f k n (P.Slice a i m) t e = (x y z : Expr) × (e.form ≡ eform.Slice x y z) × k a x × k i y × (s : Ty) × (own context scope x ≡ Firm s) × ((v a).ty ≡ Some s) × ((v i).ty ≡ Some int) × (constant_number context scope z ≡ Some m) × (r : Ty) × (sliced s m ≡ Some r) × (t ≡ Some r)
@@ -230,7 +206,7 @@ module _ (context : Context) (scope : List Variable) where
   eform_means X Y Z u v w f k n (P.Binary op a b) t e = (m : Mark) × (x y : Expr) × (e.form ≡ eform.Binary m x y) × (operator_of m ≡ Some op) × k a x × k b y × (s : Ty) × MeansBinary (class_of op) (own context scope x) (own context scope y) s (v a).ty (v b).ty t
   eform_means X Y Z u v w f k n (P.Cond c a b) t e = (z x y : Expr) × (e.form ≡ eform.Cond z x y) × k c z × k a x × k b y × ((v c).ty ≡ Some bit) × (s : Ty) × ((v a).ty ≡ Some s) × ((v b).ty ≡ Some s) × (t ≡ Some s)
   eform_means X Y Z u v w f k n (P.ToInt a) t e = k a e × IsTrue (is_bare e) × IsWidened (own context scope e) (v a).ty t
-  eform_means X Y Z u v w f k n (P.Pad a) t e = k a e × ((IsTrue (is_bare e) × IsPadded (own context scope e) (v a).ty t) ⊎ (IsPaddedLiteral e.form (v a).ty t ⊎ IsPaddedBraces e.form (v a).ty t))
+  eform_means X Y Z u v w f k n (P.Pad a) t e = k a e × IsTrue (is_bare e) × IsPadded (own context scope e) (v a).ty t
 
   abbrev pub expr_means : (X Y Z : Type 0) → (X → PEForm) → (Y → PExpr) → (Z → PField) → (X → EFormRule) → (Y → ExprRule) → (Z → FieldRule) → P.PExpr-F X Y Z → ExprRule
   expr_means X Y Z u v w f k n p e = (p.span ≡ e.span) × f p.form p.ty e
