@@ -33,7 +33,7 @@ use Rattle.sk_model.specs.Operators.{Operand, Number, OneBit, Bits, operand, ope
 use Rattle.sk_model.specs.Eval.{Called, Calls, eval, target, literal, choose, binary}
 use Rattle.sk_model.specs.Exec.{Flow, Onward, Returns, exec_stmt, exec_all, one_by_one, unless_returned, onward}
 use Rattle.sk_model.specs.Run.{in_frame, body_of, filled_bodies, calls, outcome_of, run, first_slots, most_calls, nowhere, start}
-use Rattle.sk_model.proofs.Steps.{does_number, does_var, does_hole, does_binary, exec_declare, exec_assign, exec_assert}
+use Rattle.sk_model.proofs.Forms.{does_number, does_var, does_hole, does_binary, exec_declare, exec_assign, exec_assert}
 use Rattle.sk_model.specs.Obligations.{obligations}
 use Rattle.sk_model.specs.Meets.{cost_of, cost_of_obligation, cost_on, IsGreatestCost}
 use Rattle.sk_app.specs.Early.{prank, is_sum, is_equation, is_variable, is_int_ty, early_pstmt, early_pfun, early_funs, early_prog, is_none, is_absent, is_pharness, early_pparam}

@@ -9,3 +9,4 @@ pub mod OpenStmts
 pub mod OpenPaid
 pub mod OpenRuns
 pub mod RunningLaws
+pub mod Complete

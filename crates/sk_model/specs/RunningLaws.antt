@@ -9,6 +9,7 @@ use Rattle.sk_model.specs.declared.outcome.Outcome.{Outcome}
 use Rattle.sk_model.specs.declared.outcome.Outcome.TheVariants as outcome
 use Rattle.sk_model.specs.Run.{run}
 use Rattle.sk_model.specs.Filled.{is_filled}
+use Rattle.sk_model.specs.Fill.{fill}
 use Rattle.sk_model.specs.Open.{run_open}
 use Rattle.sk_model.specs.Meets.{HasFailed}
 
@@ -30,3 +31,7 @@ pub record EndsInOneWay (o : Outcome) : Type 0 where
 -- Where nothing is open, a run under any choice is the run.
 abbrev pub OpenRunIsRun : Type 0
 OpenRunIsRun = (e : Expanded) (a : Choice) (f : FunId) (args : List Value) (bounds : Bounds) → IsTrue (is_filled e.prog) → run_open e a f args bounds ≡ run e.prog f args bounds
+
+-- A filling leaves nothing open.
+abbrev pub FillingIsFilled : Type 0
+FillingIsFilled = (e : Expanded) (a : Choice) → IsTrue (is_filled (fill e a))

@@ -6,7 +6,7 @@ ghost use Rattle.sk_prog.specs.declared.ids.FunId.{FunId};
 ghost use Rattle.sk_prog.specs.declared.prog.Prog.{Prog};
 ghost use Rattle.sk_prog.specs.declared.value.Value.{Value};
 ghost use Rattle.sk_model.specs.Run.{run};
-ghost use Rattle.sk_model.specs.RunningLaws.{EndsInOneWay, OpenRunIsRun};
+ghost use Rattle.sk_model.specs.RunningLaws.{EndsInOneWay, FillingIsFilled, OpenRunIsRun};
 
 /// A run is done, or it fails, or it is skipped, and only one of these.
 pub fn runs_end_in_one_way()
@@ -16,4 +16,9 @@ pub fn runs_end_in_one_way()
 /// A program that is filled does under any choice what it does in a run.
 pub fn filled_runs_are_runs()
     ensures { OpenRunIsRun }
+{}
+
+/// A filling leaves nothing open: its runs meet no hole, pattern, repeat, `minrepeat` or `reorder`.
+pub fn fillings_are_filled()
+    ensures { FillingIsFilled }
 {}
