@@ -1,6 +1,10 @@
 pub mod Early
 pub mod EarlyRules
 pub mod EarlyTypes
+pub mod EarlySpelt
+pub mod EarlyPlaced
+pub mod EarlyDepth
+pub mod EarlyReads
 pub mod Ending
 pub mod Streams
 pub mod ReadStep
