@@ -39,5 +39,7 @@ pub mod Bridge
 pub mod TypingChecks
 pub mod ShownFilled
 pub mod ShownFilling
+pub mod FillingWhole
+pub mod FillingPlain
 pub mod ShownNames
 pub mod CompleteLaws

@@ -39,9 +39,9 @@ use Rattle.sk_types.specs.Types.{Grows, form_after, after, parameters}
 use Rattle.sk_types.specs.Scope.{all_distinct}
 use Rattle.sk_app.specs.EarlyTypes.{IsAt, AnyAt, MeansDeclare, MeansAssign, form_most, most_within, most, StmtMeans, AllMean, FunMeans, ItemsMean, Types}
 use Rattle.sk_model.specs.declared.expanded.Choice.{Choice}
-use Rattle.sk_model.specs.Sites.{sites}
-use Rattle.sk_model.specs.Expand.{expand}
-use Rattle.sk_model.specs.Fill.{InRange, Part, value, fill_expr, value_part, expr_part, form_part, stmt_step, stmt_part, fill_stmts, stmts_count, fill_funs, fill}
+use Rattle.sk_model.specs.Parts.{Part, value}
+use Rattle.sk_model.specs.Fill.{InRange}
+use Rattle.sk_app.specs.EarlyFilling.{early_sites, early_expand, fill_expr, value_part, expr_part, form_part, stmt_step, stmt_part, fill_stmts, stmts_count, fill_funs, early_fill}
 use Rattle.sk_print.specs.Layout.{layout}
 use Rattle.sk_print.specs.Shows.{Shows}
 use Rattle.sk_app.specs.Early.{is_sum, is_equation, is_int, is_sum_value, early_form, early_stmt, early_param, is_harness, is_absent, is_early, prank, is_variable, is_int_ty, is_sum_pvalue, early_pform, early_pstmt, early_pparam, early_pfun, early_funs, is_none, early_prog}
@@ -194,7 +194,7 @@ stmts_fill bounds values slots from scope ints small (p ∷ ps) [] means early i
 
 -- Functions
 
-params_int : (ds : List ParamDef) → IsTrue (list_all early_pparam ds) → AllInt (parameters ds)
+pub params_int : (ds : List ParamDef) → IsTrue (list_all early_pparam ds) → AllInt (parameters ds)
 params_int [] h = tt
 params_int (d ∷ ds) h =
     let both = and_parts (early_pparam d) (list_all early_pparam ds) h in
@@ -256,7 +256,7 @@ below_at n (v ∷ vs) (suc i) some h = below_at n vs i some h.1
 pub shown_filling : (text : List ℕ) (ts : List Token) (tree : Tree) (bounds : Bounds) (prog : Prog) (a : Choice) → AreTokens text ts → Reads ts tree → IsTrue (is_early tree) → Types tree bounds prog → IsTrue (early_prog prog) → bounds.cbits < bounds.int_bits → bounds.int_bits ≤ 32 → InRange (expand prog bounds) a → Shows (layout (fill (expand prog bounds) a)) bounds (fill (expand prog bounds) a)
 shown_filling text ts tree bounds prog a lexed reads_whole early_tree types early low narrow fits =
     let reads = reads_early ts tree early_tree reads_whole in
-    let below : Below (2 ^ bounds.cbits) a.values = fits_below (2 ^ bounds.cbits) (sites bounds prog) a.values (sites_sized bounds prog early) fits.fits in
+    let below : Below (2 ^ bounds.cbits) a.values = fits_below (2 ^ bounds.cbits) (early_sites bounds prog) a.values (sites_sized bounds prog early) fits.fits in
     let at_most : bounds.cbits ≤ bounds.int_bits - 1 = omega arith in
     let grows : 2 ^ bounds.cbits ≤ 2 ^ (bounds.int_bits - 1) = pow_mono {i = bounds.cbits} {j = bounds.int_bits - 1} at_most in
     let some : 0 < 2 ^ bounds.cbits = pow_pos bounds.cbits in
@@ -264,8 +264,8 @@ shown_filling text ts tree bounds prog a lexed reads_whole early_tree types earl
     let are = early_all prog.funs (and_parts (is_none prog.structs && is_none prog.consts) (early_funs prog.funs) early).1 in
     let f = funs_fill bounds a.values small tree.items prog.funs types.funs are 0 in
     let filled : Tree = record { items = f.trees } in
-    let filled_types : Types filled bounds (fill (expand prog bounds) a) = record { structs = types.structs; consts = types.consts; funs = f.means; distinct = subst (λ xs. IsTrue (all_distinct xs)) (sym f.named) types.distinct } in
-    shown (fill (expand prog bounds) a) bounds filled narrow (early_filled (expand prog bounds) a early) filled_types
+    let filled_types : Types filled bounds (early_fill (early_expand prog bounds) a) = record { structs = types.structs; consts = types.consts; funs = f.means; distinct = subst (λ xs. IsTrue (all_distinct xs)) (sym f.named) types.distinct } in
+    shown (early_fill (early_expand prog bounds) a) bounds filled narrow (early_filled (early_expand prog bounds) a early) filled_types
     (same_early f.trees tree.items f.count f.early early_tree)
     (f.places ∙ reads.placed)
     (subst (λ n. suc n ≤ most_levels) (sym f.depth) reads.within)

@@ -5,6 +5,7 @@ pub mod EarlySpelt
 pub mod EarlyPlaced
 pub mod EarlyDepth
 pub mod EarlyReads
+pub mod EarlyFilling
 pub mod Ending
 pub mod Streams
 pub mod ReadStep
