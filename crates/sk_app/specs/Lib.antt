@@ -11,6 +11,8 @@ pub mod Streams
 pub mod ReadStep
 pub mod Built
 pub mod ResultText
+pub mod SpentText
+pub mod Within
 pub mod Prepared
 pub mod Ends
 pub mod Typing

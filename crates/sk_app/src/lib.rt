@@ -8,7 +8,6 @@ mod ending;
 mod filling;
 mod output;
 mod prepare;
-mod printing;
 mod reader;
 mod running;
 mod search;

@@ -1,5 +1,5 @@
 -- The examples of the layout.
-use Rattle.std.proofs.Common.{◌≡◌, ℕ, List, [], ◌∷◌, ◌++◌, Option, Some, None, map, sym, ap, ◌∙◌}
+use Rattle.std.proofs.Common.{◌≡◌, ℕ, true, false, List, [], ◌∷◌, ◌++◌, Option, Some, None, map, sym, ap, ◌∙◌}
 use Rattle.std.specs.Prelude.{codes}
 use Rattle.std.specs.List.{flat_map}
 use Rattle.sk_prog.specs.declared.ids.StructId.{StructId}
@@ -18,7 +18,7 @@ use Rattle.sk_prog.specs.declared.stmt.PForm.TheViews.{roll-PForm}
 use Rattle.sk_prog.specs.declared.stmt.PForm.TheFolds.{map-PForm, fold-PForm, fold-roll-PForm, fold-roll-PStmt}
 use Rattle.sk_prog.specs.declared.prog.FunKind.TheVariants as funkind
 use Rattle.sk_prog.specs.declared.prog.Prog.{Prog}
-use Rattle.sk_print.specs.Layout.{eform_layout, pfield_layout, expr_layout, line, Lines, plain, all_alone, pform_layout, stmt_lines, stmt_layout, struct_layout}
+use Rattle.sk_print.specs.Layout.{eform_layout, pfield_layout, expr_layout, line, Lines, plain, each_line, pform_layout, stmt_lines, stmt_layout, struct_layout}
 use Rattle.sk_print.specs.Examples.{expr, variable, stmt, block, nothing, function, node, reference, made, DoubleMinus, NestedChoice, IfElse, IfInElse, StructWithNew}
 
 module _ (prog : Prog) where
@@ -81,22 +81,22 @@ return_it = stmt (pform.Return None)
 
 pub if_else : IfElse
 if_else =
-    ap (λ l. l.alone 1) (of_if nothing (variable (codes "c")) (block (set_x ∷ [])) (Some (block (return_it ∷ []))))
-    ∙ (λ i. line 1 (codes "if (" ++ of_variable nothing (codes "c") i ++ codes ") {") ++ (of_block nothing (set_x ∷ []) i).inside 2 ++ (line 1 (codes "} else {") ++ (of_block nothing (return_it ∷ []) i).inside 2) ++ line 1 (codes "}"))
-    ∙ (λ i. line 1 (codes "if (c) {") ++ all_alone 2 (set_x_lines i ∷ []) ++ (line 1 (codes "} else {") ++ all_alone 2 (of_return nothing None i ∷ [])) ++ line 1 (codes "}"))
+    ap (λ l. l false 1) (of_if nothing (variable (codes "c")) (block (set_x ∷ [])) (Some (block (return_it ∷ []))))
+    ∙ (λ i. line 1 (codes "if (" ++ of_variable nothing (codes "c") i ++ codes ") {") ++ of_block nothing (set_x ∷ []) i true 2 ++ (line 1 (codes "} else {") ++ of_block nothing (return_it ∷ []) i true 2) ++ line 1 (codes "}"))
+    ∙ (λ i. line 1 (codes "if (c) {") ++ each_line false 2 (set_x_lines i ∷ []) ++ (line 1 (codes "} else {") ++ each_line false 2 (of_return nothing None i ∷ [])) ++ line 1 (codes "}"))
 
 abbrev if_d : PStmt
 if_d = stmt (pform.If (variable (codes "d")) (block []) None)
 
 if_d_text : stmt_layout nothing if_d 1 ≡ codes "    if (d) {\n    }\n"
 if_d_text =
-    ap (λ l. l.alone 1) (of_if nothing (variable (codes "d")) (block []) None)
-    ∙ (λ i. line 1 (codes "if (" ++ of_variable nothing (codes "d") i ++ codes ") {") ++ (of_block nothing [] i).inside 2 ++ [] ++ line 1 (codes "}"))
+    ap (λ l. l false 1) (of_if nothing (variable (codes "d")) (block []) None)
+    ∙ (λ i. line 1 (codes "if (" ++ of_variable nothing (codes "d") i ++ codes ") {") ++ of_block nothing [] i true 2 ++ [] ++ line 1 (codes "}"))
 
 pub if_in_else : IfInElse
 if_in_else =
-    ap (λ l. l.alone 0) (of_if nothing (variable (codes "c")) (block []) (Some (block (if_d ∷ []))))
-    ∙ (λ i. line 0 (codes "if (" ++ of_variable nothing (codes "c") i ++ codes ") {") ++ (of_block nothing [] i).inside 1 ++ (line 0 (codes "} else {") ++ (of_block nothing (if_d ∷ []) i).inside 1) ++ line 0 (codes "}"))
+    ap (λ l. l false 0) (of_if nothing (variable (codes "c")) (block []) (Some (block (if_d ∷ []))))
+    ∙ (λ i. line 0 (codes "if (" ++ of_variable nothing (codes "c") i ++ codes ") {") ++ of_block nothing [] i true 1 ++ (line 0 (codes "} else {") ++ of_block nothing (if_d ∷ []) i true 1) ++ line 0 (codes "}"))
     ∙ (λ i. line 0 (codes "if (c) {") ++ (line 0 (codes "} else {") ++ (if_d_text i ++ [])) ++ line 0 (codes "}"))
 
 abbrev linked : Prog
@@ -113,5 +113,5 @@ made_text =
 
 pub struct_with_new : StructWithNew
 struct_with_new =
-    (λ i. flat_map (struct_layout linked) linked.structs ++ ((line 0 (codes "void f() {") ++ all_alone 1 (of_declare linked 0 (codes "n") reference (Some made) i ∷ []) ++ line 0 (codes "}")) ++ []))
-    ∙ (λ i. flat_map (struct_layout linked) linked.structs ++ ((line 0 (codes "void f() {") ++ all_alone 1 (plain (λ depth. line depth (codes "Node n = " ++ made_text i ++ codes ";")) ∷ []) ++ line 0 (codes "}")) ++ []))
+    (λ i. flat_map (struct_layout linked) linked.structs ++ ((line 0 (codes "void f() {") ++ each_line false 1 (of_declare linked 0 (codes "n") reference (Some made) i ∷ []) ++ line 0 (codes "}")) ++ []))
+    ∙ (λ i. flat_map (struct_layout linked) linked.structs ++ ((line 0 (codes "void f() {") ++ each_line false 1 (plain (λ depth. line depth (codes "Node n = " ++ made_text i ++ codes ";")) ∷ []) ++ line 0 (codes "}")) ++ []))

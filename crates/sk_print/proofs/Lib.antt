@@ -1,3 +1,5 @@
 pub mod Lexed
+mod Mapped
 mod SameLayout
 mod ExampleTexts
+mod Texts

@@ -1,5 +1,5 @@
 -- The layout of a program is that of the program without its spans.
-use Rattle.std.proofs.Common.{◌≡◌, ℕ, List, [], ◌∷◌, ◌++◌, map, Option, Some, None, option_map, refl, sym, ap, ◌∙◌}
+use Rattle.std.proofs.Common.{◌≡◌, ℕ, true, false, List, [], ◌∷◌, ◌++◌, map, Option, Some, None, option_map, refl, sym, ap, ◌∙◌}
 use Rattle.std.specs.Prelude.{slice_get, codes}
 use Rattle.std.specs.List.{flat_map, join_by}
 use Rattle.std.proofs.lemmas.Option.{slice_get-map}
@@ -17,7 +17,7 @@ use Rattle.sk_prog.specs.declared.prog.Fun.{Fun}
 use Rattle.sk_prog.specs.declared.prog.Prog.{Prog}
 use Rattle.sk_prog.specs.Spanless.{spanless_expr, any_spanless, spanless_stmt, spanless_const, spanless_fun, spanless}
 use Rattle.sk_prog.proofs.Unseen.{bare_layer, expr_unseen, stmt_unseen}
-use Rattle.sk_print.specs.Layout.{looked_up, const_name, ty_layout, commas, kind_layout, result_layout, param_layout, fun_name, eform_layout, pfield_layout, expr_layout, initial_layout, returned_layout, Lines, plain, braced, if_layout, all_inside, pform_layout, stmt_lines, stmt_layout, line, struct_layout, const_layout, implements_layout, head_layout, fun_layout, layout}
+use Rattle.sk_print.specs.Layout.{looked_up, const_name, ty_layout, commas, kind_layout, result_layout, param_layout, fun_name, eform_layout, pfield_layout, expr_layout, initial_layout, returned_layout, Lines, plain, braced, if_layout, each_line, pform_layout, stmt_lines, stmt_layout, line, struct_layout, const_layout, implements_layout, head_layout, fun_layout, layout}
 use Rattle.sk_print.specs.SpansUnseen.{SpansUnseen}
 
 -- Names
@@ -76,12 +76,12 @@ module _ (prog : Prog) where
   form_here (S.Assign target value) = λ i. plain (λ depth. line depth (same_here target i ++ codes " = " ++ same_here value i ++ codes ";"))
   form_here (S.Call e) = λ i. plain (λ depth. line depth (same_here e i ++ codes ";"))
   form_here (S.If c a b) = λ i. if_layout (same_here c i) a b
-  form_here (S.While c a) = λ i. braced (codes "while (" ++ same_here c i ++ codes ") ") a.inside
+  form_here (S.While c a) = λ i. braced (codes "while (" ++ same_here c i ++ codes ") {") (a true)
   form_here (S.Return value) = λ i. plain (λ depth. line depth (codes "return" ++ returned_here value i ++ codes ";"))
   form_here (S.Assert e) = λ i. plain (λ depth. line depth (codes "assert " ++ same_here e i ++ codes ";"))
   form_here (S.Assume e) = λ i. plain (λ depth. line depth (codes "assume " ++ same_here e i ++ codes ";"))
   form_here (S.Minimize e) = λ i. plain (λ depth. line depth (codes "minimize(" ++ same_here e i ++ codes ");"))
-  form_here (S.Repeat c copies) = λ i. braced (codes "repeat (" ++ same_here c i ++ codes ") ") (λ depth. all_inside depth copies)
+  form_here (S.Repeat c copies) = λ i. braced (codes "repeat (" ++ same_here c i ++ codes ") {") (λ depth. each_line true depth copies)
   form_here (S.Block ss) = refl
   form_here (S.MinRepeat ss) = refl
   form_here (S.Reorder ss) = refl
@@ -91,12 +91,12 @@ module _ (prog : Prog) where
   form_there (S.Assign target value) = λ i. plain (λ depth. line depth (same_there target i ++ codes " = " ++ same_there value i ++ codes ";"))
   form_there (S.Call e) = λ i. plain (λ depth. line depth (same_there e i ++ codes ";"))
   form_there (S.If c a b) = λ i. if_layout (same_there c i) a b
-  form_there (S.While c a) = λ i. braced (codes "while (" ++ same_there c i ++ codes ") ") a.inside
+  form_there (S.While c a) = λ i. braced (codes "while (" ++ same_there c i ++ codes ") {") (a true)
   form_there (S.Return value) = λ i. plain (λ depth. line depth (codes "return" ++ returned_there value i ++ codes ";"))
   form_there (S.Assert e) = λ i. plain (λ depth. line depth (codes "assert " ++ same_there e i ++ codes ";"))
   form_there (S.Assume e) = λ i. plain (λ depth. line depth (codes "assume " ++ same_there e i ++ codes ";"))
   form_there (S.Minimize e) = λ i. plain (λ depth. line depth (codes "minimize(" ++ same_there e i ++ codes ");"))
-  form_there (S.Repeat c copies) = λ i. braced (codes "repeat (" ++ same_there c i ++ codes ") ") (λ depth. all_inside depth copies)
+  form_there (S.Repeat c copies) = λ i. braced (codes "repeat (" ++ same_there c i ++ codes ") {") (λ depth. each_line true depth copies)
   form_there (S.Block ss) = refl
   form_there (S.MinRepeat ss) = refl
   form_there (S.Reorder ss) = refl
@@ -114,7 +114,7 @@ module _ (prog : Prog) where
 
   same_stmts : (ss : List PStmt) → flat_map (λ s. stmt_layout (spanless prog) s 1) (map spanless_stmt ss) ≡ flat_map (λ s. stmt_layout prog s 1) ss
   same_stmts [] = refl
-  same_stmts (s ∷ ss) = λ i. (same_lines s i).alone 1 ++ same_stmts ss i
+  same_stmts (s ∷ ss) = λ i. same_lines s i false 1 ++ same_stmts ss i
 
   same_implements : (o : Option FunId) → implements_layout (spanless prog) o ≡ implements_layout prog o
   same_implements None = refl

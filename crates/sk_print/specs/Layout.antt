@@ -16,8 +16,9 @@ use Rattle.sk_prog.specs.declared.expr.UnOp.TheVariants as unop
 use Rattle.sk_prog.specs.declared.expr.BinOp.{BinOp}
 use Rattle.sk_prog.specs.declared.expr.BinOp.TheVariants as op
 use Rattle.sk_prog.specs.declared.expr.PExpr.{PExpr}
+use Rattle.sk_prog.specs.declared.expr.PField.{PField}
 use Rattle.sk_prog.specs.declared.expr.PEForm.TheOpen as P
-use Rattle.sk_prog.specs.declared.expr.PEForm.TheFolds.{fold-PExpr}
+use Rattle.sk_prog.specs.declared.expr.PEForm.TheFolds.{fold-PExpr, fold-PField}
 use Rattle.sk_prog.specs.declared.stmt.PStmt.{PStmt}
 use Rattle.sk_prog.specs.declared.stmt.PForm.TheOpen as S
 use Rattle.sk_prog.specs.declared.stmt.PForm.TheFolds.{fold-PStmt}
@@ -70,7 +71,7 @@ ty_layout prog (ty.Grid t n m) = elem_layout prog t ++ length_layout n ++ length
 
 -- Expressions
 
-abbrev pub op_layout : BinOp → List ℕ
+unfoldable pub op_layout : BinOp → List ℕ
 op_layout op.Mul = codes "*"
 op_layout op.Div = codes "/"
 op_layout op.Rem = codes "%"
@@ -136,6 +137,10 @@ pfield_layout prog f s = field_name prog s f.field ++ codes " = " ++ f.value
 abbrev pub expr_layout : Prog → PExpr → List ℕ
 expr_layout prog = fold-PExpr (List ℕ) (List ℕ) (StructId → List ℕ) (eform_layout prog) (λ x. x.form) (pfield_layout prog)
 
+-- the text of a field that `new` sets, in that struct
+abbrev pub set_layout : Prog → PField → StructId → List ℕ
+set_layout prog = fold-PField (List ℕ) (List ℕ) (StructId → List ℕ) (eform_layout prog) (λ x. x.form) (pfield_layout prog)
+
 -- Statements
 
 -- a line of its own, so many blocks deep
@@ -150,50 +155,49 @@ abbrev pub returned_layout : Prog → Option PExpr → List ℕ
 returned_layout prog None = []
 returned_layout prog (Some e) = codes " " ++ expr_layout prog e
 
--- The lines of a statement, from how many blocks deep it stands: by itself, and as the body of another
--- form, whose braces stand round it. A block that is a body has no braces of its own.
-pub record Lines : Type 0 where
-  pub alone : ℕ → List ℕ
-  pub inside : ℕ → List ℕ
+-- The lines of a statement, from whether it is the body of another form, whose braces stand round it, and
+-- how many blocks deep it stands. A block that is a body has no braces of its own.
+abbrev pub Lines : Type 0
+Lines = Bool → ℕ → List ℕ
+
+abbrev pub each_line : Bool → ℕ → List Lines → List ℕ
+each_line is_body depth ss = flat_map (λ s. s is_body depth) ss
 
 -- the same lines in both places
 abbrev pub plain : (ℕ → List ℕ) → Lines
-plain lines = record { alone = lines; inside = lines }
-
-abbrev pub all_alone : ℕ → List Lines → List ℕ
-all_alone depth ss = flat_map (λ s. s.alone depth) ss
-
-abbrev pub all_inside : ℕ → List Lines → List ℕ
-all_inside depth ss = flat_map (λ s. s.inside depth) ss
+plain lines is_body depth = lines depth
 
 -- a first line, lines one block deeper, and a closing brace
 abbrev pub braced : List ℕ → (ℕ → List ℕ) → Lines
-braced head body = plain (λ depth. line depth (head ++ codes "{") ++ body (suc depth) ++ line depth (codes "}"))
+braced head body = plain (λ depth. line depth head ++ body (suc depth) ++ line depth (codes "}"))
+
+abbrev pub block_layout : List Lines → Lines
+block_layout ss is_body depth = if is_body then each_line false depth ss else braced (codes "{") (λ d. each_line false d ss) false depth
 
 -- what stands behind the body of an `if`
 abbrev pub else_layout : ℕ → Option Lines → List ℕ
 else_layout depth None = []
-else_layout depth (Some b) = line depth (codes "} else {") ++ b.inside (suc depth)
+else_layout depth (Some b) = line depth (codes "} else {") ++ b true (suc depth)
 
 abbrev pub if_layout : List ℕ → Lines → Option Lines → Lines
-if_layout c a b = plain (λ depth. line depth (codes "if (" ++ c ++ codes ") {") ++ a.inside (suc depth) ++ else_layout depth b ++ line depth (codes "}"))
+if_layout c a b = plain (λ depth. line depth (codes "if (" ++ c ++ codes ") {") ++ a true (suc depth) ++ else_layout depth b ++ line depth (codes "}"))
 
 -- A repeat holds one statement before expansion. Where it holds more copies, what is in them stands in
 -- order between its braces.
 abbrev pub pform_layout : Prog → S.PForm-F Lines Lines → Lines
-pform_layout prog (S.Block ss) = record { alone = (braced [] (λ depth. all_alone depth ss)).alone; inside = λ depth. all_alone depth ss }
+pform_layout prog (S.Block ss) = block_layout ss
 pform_layout prog (S.Declare slot x t value) = plain (λ depth. line depth (ty_layout prog t ++ codes " " ++ x ++ initial_layout prog value ++ codes ";"))
 pform_layout prog (S.Assign target value) = plain (λ depth. line depth (expr_layout prog target ++ codes " = " ++ expr_layout prog value ++ codes ";"))
 pform_layout prog (S.Call e) = plain (λ depth. line depth (expr_layout prog e ++ codes ";"))
 pform_layout prog (S.If c a b) = if_layout (expr_layout prog c) a b
-pform_layout prog (S.While c a) = braced (codes "while (" ++ expr_layout prog c ++ codes ") ") a.inside
+pform_layout prog (S.While c a) = braced (codes "while (" ++ expr_layout prog c ++ codes ") {") (a true)
 pform_layout prog (S.Return value) = plain (λ depth. line depth (codes "return" ++ returned_layout prog value ++ codes ";"))
 pform_layout prog (S.Assert e) = plain (λ depth. line depth (codes "assert " ++ expr_layout prog e ++ codes ";"))
 pform_layout prog (S.Assume e) = plain (λ depth. line depth (codes "assume " ++ expr_layout prog e ++ codes ";"))
 pform_layout prog (S.Minimize e) = plain (λ depth. line depth (codes "minimize(" ++ expr_layout prog e ++ codes ");"))
-pform_layout prog (S.Repeat c copies) = braced (codes "repeat (" ++ expr_layout prog c ++ codes ") ") (λ depth. all_inside depth copies)
-pform_layout prog (S.MinRepeat copies) = braced (codes "minrepeat ") (λ depth. all_inside depth copies)
-pform_layout prog (S.Reorder ss) = braced (codes "reorder ") (λ depth. all_alone depth ss)
+pform_layout prog (S.Repeat c copies) = braced (codes "repeat (" ++ expr_layout prog c ++ codes ") {") (λ depth. each_line true depth copies)
+pform_layout prog (S.MinRepeat copies) = braced (codes "minrepeat {") (λ depth. each_line true depth copies)
+pform_layout prog (S.Reorder ss) = braced (codes "reorder {") (λ depth. each_line false depth ss)
 
 -- the lines of a statement
 abbrev pub stmt_lines : Prog → PStmt → Lines
@@ -201,7 +205,7 @@ stmt_lines prog = fold-PStmt Lines Lines (pform_layout prog) (λ s. s.form)
 
 -- the text of a statement that stands so many blocks deep
 abbrev pub stmt_layout : Prog → PStmt → ℕ → List ℕ
-stmt_layout prog s = (stmt_lines prog s).alone
+stmt_layout prog s = stmt_lines prog s false
 
 -- Structs, constants and functions
 

@@ -1,4 +1,5 @@
 pub mod Layout
+pub mod Joined
 pub mod Shows
 pub mod SpansUnseen
 pub mod Examples

@@ -2,4 +2,10 @@
 #![tactic(auto)]
 
 pub mod examples;
+mod expr;
+mod item;
 pub mod laws;
+mod name;
+mod stmt;
+
+pub use item::print;

@@ -1,1 +1,3 @@
+mod ExampleFits
+mod SameFits
 pub mod Unseen

@@ -1,8 +1,10 @@
 //! Typed programs: every name is a number of what it means, every coercion is written out.
 #![tactic(auto)]
 
+pub mod examples;
 mod expr;
 mod ids;
+pub mod laws;
 mod prog;
 mod stmt;
 mod ty;

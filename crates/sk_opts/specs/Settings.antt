@@ -1,0 +1,100 @@
+-- The options of the command line, how they are spelt and which values they take.
+use Rattle.std.specs.Prelude.{ℕ, nat_le, Bool, true, false, ◌&&◌, List, [], ◌∷◌, length, Option, Some, None, if◌then◌else◌, codes}
+use Rattle.std.specs.List.{list_all, list_any}
+use Rattle.std.specs.Str.{bytes_eq}
+use Rattle.sk_tree.specs.Shapes.{is_digit}
+use Rattle.sk_tree.specs.Tokens.{number_of}
+
+pub data Setting : Type 0 where
+  HoleBits InputBits Turns Calls IntBits Rounds Conflicts Certificate : Setting
+
+abbrev pub setting_bytes : Setting → List ℕ
+setting_bytes HoleBits = codes "--bnd-cbits"
+setting_bytes InputBits = codes "--bnd-inbits"
+setting_bytes Turns = codes "--bnd-unroll-amnt"
+setting_bytes Calls = codes "--bnd-inline-amnt"
+setting_bytes IntBits = codes "--int-bits"
+setting_bytes Rounds = codes "--rounds"
+setting_bytes Conflicts = codes "--conflicts"
+setting_bytes Certificate = codes "--cert"
+
+abbrev pub lowest : Setting → ℕ
+lowest HoleBits = 1
+lowest InputBits = 1
+lowest Turns = 0
+lowest Calls = 1
+lowest IntBits = 6
+lowest Rounds = 0
+lowest Conflicts = 0
+lowest Certificate = 0
+
+abbrev pub highest : Setting → ℕ
+highest HoleBits = 16
+highest InputBits = 16
+highest Turns = 64
+highest Calls = 16
+highest IntBits = 32
+highest Rounds = 1000000
+highest Conflicts = 1000000000
+highest Certificate = 0
+
+-- whether it stands without a value
+abbrev pub is_flag : Setting → Bool
+is_flag Certificate = true
+is_flag HoleBits = false
+is_flag InputBits = false
+is_flag Turns = false
+is_flag Calls = false
+is_flag IntBits = false
+is_flag Rounds = false
+is_flag Conflicts = false
+
+-- those that a pragma may set
+abbrev pub of_pragmas : List Setting
+of_pragmas = HoleBits ∷ InputBits ∷ Turns ∷ Calls ∷ []
+
+abbrev pub of_bounds : List Setting
+of_bounds = IntBits ∷ of_pragmas
+
+abbrev pub of_synth : List Setting
+of_synth = Rounds ∷ Conflicts ∷ Certificate ∷ of_bounds
+
+-- the one of these that is spelt so
+abbrev pub setting_among : List Setting → List ℕ → Option Setting
+setting_among [] word = None
+setting_among (s ∷ ss) word = if bytes_eq word (setting_bytes s) then Some s else setting_among ss word
+
+-- Numbers
+
+-- 1 to 10 digits
+abbrev pub is_number : List ℕ → Bool
+is_number word = nat_le 1 (length word) && (nat_le (length word) 10 && list_all is_digit word)
+
+-- the number that is spelt so, where it lies between these two
+abbrev pub number_in : ℕ → ℕ → List ℕ → Option ℕ
+number_in low high word = if is_number word && (nat_le low (number_of word) && nat_le (number_of word) high) then Some (number_of word) else None
+
+abbrev pub value_in : Setting → List ℕ → Option ℕ
+value_in s word = if is_flag s then None else number_in (lowest s) (highest s) word
+
+-- Settings with their values
+
+pub record Given : Type 0 where
+  pub setting : Setting
+  pub value : ℕ
+
+abbrev pub is_of : Setting → Given → Bool
+is_of s g = bytes_eq (setting_bytes s) (setting_bytes g.setting)
+
+-- no setting stands twice
+abbrev pub all_once : List Given → Bool
+all_once [] = true
+all_once (g ∷ gs) = if list_any (is_of g.setting) gs then false else all_once gs
+
+-- the value of the last that is of this setting, or what was found before
+abbrev pub last_from : Option ℕ → Setting → List Given → Option ℕ
+last_from found s [] = found
+last_from found s (g ∷ gs) = last_from (if is_of s g then Some g.value else found) s gs
+
+abbrev pub last_of : Setting → List Given → Option ℕ
+last_of s gs = last_from None s gs

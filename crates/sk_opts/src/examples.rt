@@ -1,0 +1,34 @@
+//! Command lines, bounds and values, each computed by the check.
+ghost use Rattle.sk_opts.specs.Examples.{SynthAlone, SynthWithOptions, ExecBeforeOption, ExecOfNegative, SelfOfSeven, ValuePastRange, OptionTwice, OptionForValue, PositionalOfSynth, ValueMissing, BoundsOfPragmas, GridOfBits, TooFewScalars, NegativeInt};
+
+/// Five lines that are taken.
+pub fn lines_that_are_taken()
+    ensures synth { SynthAlone }
+    ensures options { SynthWithOptions }
+    ensures exec { ExecBeforeOption }
+    ensures negative { ExecOfNegative }
+    ensures itself { SelfOfSeven }
+{}
+
+/// Five that are refused: a value past its range, an option twice, an unknown option, a positional where
+/// there is none, and an option without its value.
+pub fn lines_that_are_refused()
+    ensures range { ValuePastRange }
+    ensures twice { OptionTwice }
+    ensures unknown { OptionForValue }
+    ensures positional { PositionalOfSynth }
+    ensures missing { ValueMissing }
+{}
+
+/// The later of two pragmas wins, numbers out of range are passed over, and a narrow `int` narrows
+/// holes.
+pub fn bounds_of_two_pragmas()
+    ensures { BoundsOfPragmas }
+{}
+
+/// Values of arrays and of `int`.
+pub fn spelt_values()
+    ensures grid { GridOfBits }
+    ensures few { TooFewScalars }
+    ensures negative { NegativeInt }
+{}
