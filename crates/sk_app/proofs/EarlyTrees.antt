@@ -423,9 +423,9 @@ items_same items h = let one = one_item items h in subst ItemsSame (sym one.is) 
 pub reads_early : (tokens : List Token) (tree : Tree) → is_early tree ≡ true → Reads tokens tree → EarlyReads tokens tree
 reads_early tokens tree early r =
     let are = items_same tree.items early in
-    record { spelt = are.spelt.to tokens r.spelt; placed = sym are.placed ∙ r.placed; within = subst (λ n. suc n ≤ depth.most_levels) are.levels r.within }
+    record { spelt = are.spelt.to tokens r.spelt; placed = sym are.placed ∙ r.placed }
 
 pub early_reads : (tokens : List Token) (tree : Tree) → is_early tree ≡ true → EarlyReads tokens tree → Reads tokens tree
 early_reads tokens tree early r =
     let are = items_same tree.items early in
-    record { spelt = are.spelt.from tokens r.spelt; placed = are.placed ∙ r.placed; within = subst (λ n. suc n ≤ depth.most_levels) (sym are.levels) r.within }
+    record { spelt = are.spelt.from tokens r.spelt; placed = are.placed ∙ r.placed }

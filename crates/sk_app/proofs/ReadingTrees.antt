@@ -116,10 +116,6 @@ sound_body ts body rest h =
       each = g.each;
     })
 
-deepest_within : {A : Type 0} (Q : A → Type 0) (depth : A → ℕ) (n : ℕ) → ((a : A) → Q a → depth a ≤ n) → (xs : List A) → EachIs Q xs → deepest (map depth xs) ≤ n
-deepest_within Q depth n law [] h = omega arith
-deepest_within Q depth n law (x ∷ xs) h = omega (arith, law x h.0, deepest_within Q depth n law xs h.1)
-
 -- the tokens of a harness
 harness_spelt : (a b c d e f g : Span) (name : List ℕ) (params : List Param) (body : List Stmt) (ps bs : List Token) → Between (Sign mark.Comma) SpeltParam params ps → Each SpeltStmt body bs → SpeltTree (harness name params body) (token (kind.Key key.Harness) a ∷ token (kind.Key key.Void) b ∷ token (kind.Word name) c ∷ token (kind.Mark mark.OpenParen) d ∷ (ps ++ (token (kind.Mark mark.CloseParen) e ∷ token (kind.Mark mark.OpenBrace) f ∷ (bs ++ (token (kind.Mark mark.CloseBrace) g ∷ [])))))
 harness_spelt a b c d e f g name params body ps bs hp hb =
@@ -190,9 +186,6 @@ harness_early name params body hp hb = rw (each_passes IsParam early_param (λ p
 harness_placed : (name : List ℕ) (params : List Param) (body : List Stmt) → EachIs IsStmt body → IsTrue (tree_placed (harness name params body))
 harness_placed name params body hb = rw (each_passes IsStmt stmt_placed (λ s h. h.placed) body hb) refl
 
-harness_within : (name : List ℕ) (params : List Param) (body : List Stmt) → EachIs IsParam params → EachIs IsStmt body → tree_depth (harness name params body) ≤ 256
-harness_within name params body hp hb = omega (arith, deepest_within IsParam param_depth 2 (λ p h. h.depth) params hp, deepest_within IsStmt stmt_depth 4 (λ s h. h.depth) body hb)
-
 ended : {A : Type 0} (a : A) (ts : List Token) (b : A) → if_ended a ts ≡ Some b → (ts ≡ []) × (a ≡ b)
 ended a [] b h = (refl, cc)
 ended a (t ∷ ts) b h = cc
@@ -217,7 +210,6 @@ early_found tokens tree h =
       record {
         spelt = subst (SpeltTree (harness name.0.0 params.0.0 body.0.0)) (sym split) (harness_spelt f.first f.void f.word f.opening p.at b.opening b.at name.0.0 params.0.0 body.0.0 p.front b.front p.spelt b.spelt);
         placed = harness_placed name.0.0 params.0.0 body.0.0 b.each;
-        within = harness_within name.0.0 params.0.0 body.0.0 p.each b.each;
       },
       harness_early name.0.0 params.0.0 body.0.0 p.each b.each,
     )

@@ -363,10 +363,10 @@ none_left ts front (t ∷ rest) split left = cc
 only_functions : (prog : Prog) → prog.structs ≡ [] → prog.consts ≡ [] → layout prog ≡ flat_map (fun_layout prog) prog.funs
 only_functions prog structs consts = λ i. flat_map (struct_layout prog) (structs i) ++ flat_map (const_layout prog) (consts i) ++ flat_map (fun_layout prog) prog.funs
 
--- A tree that the program is the meaning of, that is placed and not too deep, and whose names are words and no
+-- A tree that the program is the meaning of, that is placed, and whose names are words and no
 -- keywords: then the layout of the program reads as that tree, spans aside, and so shows the program.
-pub shown : (prog : Prog) (bounds : Bounds) (tree : Tree) → bounds.int_bits ≤ 32 → IsTrue (early_prog prog) → Types tree bounds prog → IsTrue (is_early tree) → IsTrue (tree_placed tree) → tree_depth tree ≤ most_levels → IsTrue (all_names is_name tree) → Shows (layout prog) bounds prog
-shown prog bounds tree narrow early types early_tree placed within names =
+pub shown : (prog : Prog) (bounds : Bounds) (tree : Tree) → bounds.int_bits ≤ 32 → IsTrue (early_prog prog) → Types tree bounds prog → IsTrue (is_early tree) → IsTrue (tree_placed tree) → IsTrue (all_names is_name tree) → Shows (layout prog) bounds prog
+shown prog bounds tree narrow early types early_tree placed names =
     let are = early_all prog.funs (and_parts (is_none prog.structs && is_none prog.consts) (early_funs prog.funs) early).1 in
     let lexed = subst (λ text. Lexes text (flat_map item_spell tree.items)) (sym (only_functions prog types.structs types.consts)) (items_told prog bounds narrow tree.items prog.funs types.funs names are) in
     let tokens : List Token = tokens_of 0 lexed.pieces in
@@ -377,7 +377,7 @@ shown prog bounds tree narrow early types early_tree placed within names =
       tokens = tokens;
       lexed = record { pieces = lexed.pieces; whole = lexed.whole; same = refl };
       tree = read;
-      reads = early_reads tokens read (same_early again.trees tree.items again.count again.early early_tree) (record { spelt = subst (SpeltTree read) whole again.spelt; placed = again.places ∙ placed; within = subst (λ n. suc n ≤ most_levels) (sym again.depth) within });
+      reads = early_reads tokens read (same_early again.trees tree.items again.count again.early early_tree) (record { spelt = subst (SpeltTree read) whole again.spelt; placed = again.places ∙ placed });
       typed = record { structs = prog.structs; consts = prog.consts; funs = again.progs };
       types = to_whole read bounds (record { structs = prog.structs; consts = prog.consts; funs = again.progs })
           (sym (copies_same again.progs) ∙ ap (list_any makes_copies) again.same ∙ copies_same prog.funs ∙ early_harness prog early)

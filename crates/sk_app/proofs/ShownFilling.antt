@@ -268,7 +268,6 @@ shown_filling text ts tree bounds prog a lexed reads_whole early_tree types earl
     shown (early_fill (early_expand prog bounds) a) bounds filled narrow (early_filled (early_expand prog bounds) a early) filled_types
     (same_early f.trees tree.items f.count f.early early_tree)
     (f.places ∙ reads.placed)
-    (subst (λ n. suc n ≤ most_levels) (sym f.depth) reads.within)
     (f.names ∙ names_read text ts tree bounds prog lexed reads.spelt types)
   where
     le-lt : {x y z : ℕ} → x < y → y ≤ z → x < z

@@ -90,8 +90,7 @@ module _ (a b : List ℕ) where
     alike = λ i agree.
         let two = agrees_append (sa.at i).marks (ta.at (i + sa.count)).marks i agree in
         let first = h.alike i two.0 in
-        let second = k.alike (i + sa.count) (subst (λ n. Agrees (ta.at (i + sa.count)).marks (i + n)) (h.marks i) two.1) in
-        (
+        let second = k.alike (i + sa.count) (subst (λ n. Agrees (ta.at (i + sa.count)).marks (i + n)) (h.marks i) two.1) in (
           (λ j. together (first.0 j) (tb.at (i + h.stand_count j))) ∙ ap (together (sa.at i)) second.0,
           (λ j. g (first.1 j) (gb.at (i + h.other_count j))) ∙ ap (g (fa.at i)) second.1 ∙ (λ j. g (fa.at i) (ga.at (i + sym h.fill_count j))),
         );
@@ -133,8 +132,7 @@ module _ (a b : List ℕ) where
         let rest : Part Standing = in_row (first_of v (map sa es)) in
         let two = agrees_append ((sa e).at i).marks (rest.at (i + (sa e).count)).marks i agree in
         let one = h.0.alike i two.0 in
-        let more = first_alike v es h.1 (i + (sa e).count) (subst (λ n. Agrees (rest.at (i + (sa e).count)).marks (i + n)) (h.0.marks i) two.1) in
-        (
+        let more = first_alike v es h.1 (i + (sa e).count) (subst (λ n. Agrees (rest.at (i + (sa e).count)).marks (i + n)) (h.0.marks i) two.1) in (
           (λ j. together (one.0 j) ((in_row (first_of v (map sb es))).at (i + h.0.stand_count j))) ∙ ap (together ((sa e).at i)) more.0,
           (λ j. one.1 j ∷ take v (in_turn (map fb es) (i + h.0.other_count j))) ∙ ap (λ xs. (fa e).at i ∷ xs) more.1 ∙ (λ j. (fa e).at i ∷ take v (in_turn (map fa es) (i + sym h.0.fill_count j))),
         )
@@ -154,8 +152,7 @@ module _ (a b : List ℕ) where
     only_alike other (suc v) (e ∷ es) h i agree =
         let rest : Part Standing = in_row (only v (map sa es)) in
         let two = agrees_append (replicate (sa e).count false) (rest.at (i + (sa e).count)).marks i agree in
-        let more = only_alike other v es h.1 (i + (sa e).count) (subst (λ n. Agrees (rest.at (i + (sa e).count)).marks (i + n)) (length-replicate (sa e).count false) two.1) in
-        (
+        let more = only_alike other v es h.1 (i + (sa e).count) (subst (λ n. Agrees (rest.at (i + (sa e).count)).marks (i + n)) (length-replicate (sa e).count false) two.1) in (
           (λ j. together (absent_alike e h.0 i j) ((in_row (only v (map sb es))).at (i + h.0.stand_count j))) ∙ ap (together ((absent (sa e)).at i)) more.0,
           (λ j. pick other (map fb es) v (i + h.0.other_count j)) ∙ more.1 ∙ (λ j. pick other (map fa es) v (i + sym h.0.fill_count j)),
         )
@@ -193,8 +190,7 @@ module _ (a b : List ℕ) where
           other_count = ap suc same.2;
           alike = λ i agree.
               let is : value a i ≡ value b i = agree.0 refl in
-              let more = first_alike (value a i) es h (i + 1) agree.1 in
-              (
+              let more = first_alike (value a i) es h (i + 1) agree.1 in (
                 (λ j. together ((own 1).at i) ((in_row (first_of (sym is j) (map sb es))).at (i + 1))) ∙ ap (together ((own 1).at i)) more.0,
                 (λ j. take (sym is j) (in_turn (map fb es) (i + 1))) ∙ more.1,
               );
@@ -214,8 +210,7 @@ module _ (a b : List ℕ) where
           other_count = ap suc same.2;
           alike = λ i agree.
               let is : value a i ≡ value b i = agree.0 refl in
-              let more = only_alike other (value a i) es h (i + 1) agree.1 in
-              (
+              let more = only_alike other (value a i) es h (i + 1) agree.1 in (
                 (λ j. together ((own 1).at i) ((in_row (only (sym is j) (map sb es))).at (i + 1))) ∙ ap (together ((own 1).at i)) more.0,
                 (λ j. pick other (map fb es) (sym is j) (i + 1)) ∙ more.1,
               );
@@ -351,8 +346,7 @@ module _ (a b : List ℕ) where
           fill_count = c.fill_count;
           other_count = c.other_count;
           alike = λ i agree.
-              let is : value a i ≡ value b i = agree.0 refl in
-              (
+              let is : value a i ≡ value b i = agree.0 refl in (
                 (λ j. together (record nothing { paid = record { span = s; amount = sym is j } ∷ [] }) ((by_value b first_of (map (stmt_standing b) ss)).at i)) ∙ ap (together (record nothing { paid = record { span = s; amount = value a i } ∷ [] })) (c.alike i agree).0,
                 (c.alike i agree).1,
               );
@@ -382,8 +376,7 @@ module _ (a b : List ℕ) where
               let two = agrees_append (replicate (n - 1) true) (rest.at (i + (n - 1))).marks i agree in
               let more = row.alike (i + (n - 1)) (subst (λ m. Agrees (rest.at (i + (n - 1))).marks (i + m)) (length-trues (n - 1)) two.1) in
               let xs : List PStmt = in_turn (map (stmt_part a number) ss) (i + (n - 1)) in
-              let long : length xs ≡ n = turn_length (map (stmt_part a number) ss) (i + (n - 1)) ∙ length-map (stmt_part a number) ss in
-              (
+              let long : length xs ≡ n = turn_length (map (stmt_part a number) ss) (i + (n - 1)) ∙ length-map (stmt_part a number) ss in (
                 ap (together ((own (n - 1)).at i)) more.0,
                 ap (λ ys. stated s (form.Block (arrange b i [] ys))) more.1 ∙ ap (λ ys. stated s (form.Block ys)) (arrange_alike n i [] xs (λ k l. agrees_all (n - 1) i k two.0 l) (omega (arith, long))),
               );
@@ -490,9 +483,9 @@ module _ (a b : List ℕ) where
           let count : stmts_count a number f.body ≡ m = alike.fill_count in
           let more = fills_same (called ++ s.within.called) (n + 1) (i + m) fs (subst (λ k. Agrees (all_marks rest) (i + k)) (part_marks st f.body i) two.1) in
           fill_step st (funs_stand rest) f fs i
-            (λ is. (alike.alike i (stands_marks st f.body i is two.0)).1)
-            (alike.other_count ∙ sym alike.fill_count)
-            (subst (λ k. fill_funs b number paid (funs_stand rest) fs (i + k) ≡ fill_funs a number paid (funs_stand rest) fs (i + k)) (sym count) more)
+          (λ is. (alike.alike i (stands_marks st f.body i is two.0)).1)
+          (alike.other_count ∙ sym alike.fill_count)
+          (subst (λ k. fill_funs b number paid (funs_stand rest) fs (i + k) ≡ fill_funs a number paid (funs_stand rest) fs (i + k)) (sym count) more)
 
 pub filled_by_what_stands : FilledByWhatStands
 unfolding fill

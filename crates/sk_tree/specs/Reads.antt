@@ -1,19 +1,17 @@
 -- Which tree tokens read as, and what can be wrong with the patterns of a tree that reads.
-use Rattle.std.specs.Prelude.{◌≤◌, IsTrue, List, Contains}
+use Rattle.std.specs.Prelude.{IsTrue, List, Contains}
 use Rattle.sk_tree.specs.declared.token.Token.{Token}
 use Rattle.sk_tree.specs.declared.pattern.Pattern.{Pattern}
 use Rattle.sk_tree.specs.declared.item.Tree.{Tree}
 use Rattle.sk_tree.specs.Spelt.{SpeltTree, HasTooMany, HasBad}
 use Rattle.sk_tree.specs.Placed.{tree_placed}
-use Rattle.sk_tree.specs.Depth.{tree_depth, most_levels}
 use Rattle.sk_tree.specs.Patterns.{patterns_of}
 
--- The tokens are those of the tree, its spans are those of its tokens, its operands stand where they
--- may, and it is not too deep.
+-- The tokens are those of the tree, its spans are those of its tokens, and its operands stand where they may.
+-- How deep a tree may be is asked beside this, of a text that is read, and not of one that is printed.
 pub record Reads (tokens : List Token) (tree : Tree) : Type 0 where
   pub spelt : SpeltTree tree tokens
   pub placed : IsTrue (tree_placed tree)
-  pub within : tree_depth tree ≤ most_levels
 
 -- A pattern of the tree has more than 128 strings.
 abbrev pub HasTooManyStrings : Tree → Type 0

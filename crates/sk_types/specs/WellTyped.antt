@@ -4,7 +4,8 @@ use Rattle.std.specs.List.{list_all}
 use Rattle.sk_base.specs.declared.bounds.Bounds.{Bounds}
 use Rattle.sk_tree.specs.declared.item.Tree.{Tree}
 use Rattle.sk_tree.specs.Placed.{tree_placed}
-use Rattle.sk_tree.specs.Depth.{expr_depth}
+use Rattle.sk_tree.specs.Strings.{most_strings}
+use Rattle.sk_tree.specs.Depth.{expr_depth, most_levels}
 use Rattle.sk_prog.specs.declared.expr.BinOp.{BinOp}
 use Rattle.sk_prog.specs.declared.expr.BinOp.TheVariants as op
 use Rattle.sk_prog.specs.declared.expr.PExpr.{PExpr}
@@ -61,14 +62,6 @@ eform_bald (P.Pad e) = e
 
 abbrev pub is_bald : PExpr → Bool
 is_bald = fold-PExpr Bool Bool Bool eform_bald (λ p. p.form) (λ f. f.value)
-
--- the greatest number of strings of a pattern
-abbrev pub most_strings : ℕ
-most_strings = 128
-
--- the greatest depth of a string
-abbrev pub most_levels : ℕ
-most_levels = 256
 
 module _ (prog : Prog) where
   abbrev pub is_string : PExpr → Bool
