@@ -42,3 +42,4 @@ pub mod FillingWhole
 pub mod FillingPlain
 pub mod ShownNames
 pub mod CompleteLaws
+mod EarlyFits

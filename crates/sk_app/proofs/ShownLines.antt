@@ -337,6 +337,10 @@ in_row a b c d e f g t = simp append_assoc
 grouped : (name ps ss text : List ℕ) → (line 0 (codes "harness " ++ codes "void" ++ codes " " ++ name ++ codes "(" ++ ps ++ codes ") {") ++ ss ++ line 0 (codes "}")) ++ text ≡ codes "harness" ++ (32 ∷ (codes "void" ++ (32 ∷ (name ++ (40 ∷ (ps ++ (41 ∷ 32 ∷ 123 ∷ 10 ∷ (ss ++ (125 ∷ 10 ∷ text)))))))))
 grouped name ps ss text = ap (λ z. codes "harness void " ++ z) (in_row name (codes "(") ps (codes ") {") (codes "\n") ss (codes "}\n") text)
 
+-- the end of a line whose function implements none
+closed : (a : List ℕ) → a ++ codes ")" ++ [] ++ codes " {" ≡ a ++ codes ") {"
+closed a = ap (λ z. z ++ codes " {") (append-nil (a ++ codes ")")) ∙ append_assoc a (codes ")") (codes " {")
+
 pub fun_told : (prog : Prog) (bounds : Bounds) (narrow : bounds.int_bits ≤ 32) (g : FunItem) (f : Fun) → FunMeans bounds g f → fun_names is_name g ≡ true → IsTrue (early_pfun f) → (text : List ℕ) (ks : List Kind) → Lexes text ks → Lexes (fun_layout prog f ++ text) (fun_spell g ++ ks)
 fun_told prog bounds narrow g f means names early text ks l =
     let is = early_fun_parts f early in
@@ -366,7 +370,9 @@ fun_told prog bounds narrow g f means names early text ks l =
     let ps : List ℕ = join_by (param_layout prog) (codes ", ") f.params in
     let ss : List ℕ = flat_map (λ s. stmt_layout prog s 1) f.body in
     let bytes : fun_layout prog f ++ text ≡ codes "harness" ++ (32 ∷ (codes "void" ++ (32 ∷ (f.name ++ (40 ∷ params_text))))) =
-    (λ i. (line 0 (harness i ++ none i ++ codes " " ++ f.name ++ codes "(" ++ ps ++ codes ")" ++ alone i ++ codes " {") ++ ss ++ line 0 (codes "}")) ++ text) ∙ grouped f.name ps ss text in
+    (λ i. (line 0 (harness i ++ none i ++ codes " " ++ f.name ++ codes "(" ++ ps ++ codes ")" ++ alone i ++ codes " {") ++ ss ++ line 0 (codes "}")) ++ text)
+    ∙ (λ i. (line 0 (closed (codes "harness " ++ codes "void" ++ codes " " ++ f.name ++ codes "(" ++ ps) i) ++ ss ++ line 0 (codes "}")) ++ text)
+    ∙ grouped f.name ps ss text in
     let tokens : fun_spell g ++ ks ≡ kind.Key key.Harness ∷ kind.Key key.Void ∷ kind.Word g.name ∷ kind.Mark mark.OpenParen ∷ params_kinds = simp append_assoc in
     subst (λ z. Lexes z (fun_spell g ++ ks)) (sym bytes) (subst (λ z. Lexes (codes "harness" ++ (32 ∷ (codes "void" ++ (32 ∷ (f.name ++ (40 ∷ params_text)))))) z) (sym tokens) whole)
 

@@ -14,6 +14,7 @@ pub mod ResultText
 pub mod SpentText
 pub mod Within
 pub mod Prepared
+pub mod EarlyFit
 pub mod Ends
 pub mod Typing
 pub mod Reading

@@ -6,6 +6,7 @@ mod complete;
 mod early_rules;
 mod ending;
 mod filling;
+pub mod laws;
 mod output;
 mod prepare;
 mod reader;
