@@ -1,6 +1,5 @@
 mod StreamLemmas
 mod EndingLemmas
-pub mod PrintingSteps
 pub mod FillingEarly
 pub mod FillingLaws
 pub mod CostLaws
@@ -36,3 +35,4 @@ pub mod ShownFilled
 pub mod ShownFilling
 pub mod ShownNames
 pub mod CompleteLaws
+mod EarlyFits

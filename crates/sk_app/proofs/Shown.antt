@@ -34,9 +34,9 @@ use Rattle.sk_prog.specs.declared.prog.Prog.{Prog}
 use Rattle.sk_prog.specs.Spanless.{spanless_const, spanless_stmt, spanless_fun}
 use Rattle.sk_types.specs.declared.scope.Variable.{Variable}
 use Rattle.sk_types.specs.Types.{after, most_within, most, AllMean, ParamMeans, ParamsMean, parameters, kind_of, ResultMeans, FunMeans, ItemsMean, all_distinct, Types}
-use Rattle.sk_print.specs.Layout.{layout}
+use Rattle.sk_print.specs.Layout.{struct_layout, const_layout, fun_layout, layout}
 use Rattle.sk_print.specs.Shows.{Shows}
-use Rattle.sk_print.proofs.Lexed.{kinds}
+use Rattle.sk_print.proofs.Lexed.{kinds, Lexes}
 use Rattle.sk_app.specs.Early.{early_pstmt, is_int_ty, early_pparam, is_pharness, is_absent, early_pfun, early_funs, is_none, early_prog}
 use Rattle.sk_app.proofs.ShownSpell.{is_name, stmt_spell, param_spell, params_spell, ty_spell, fun_spell, item_spell}
 use Rattle.sk_app.proofs.ShownLines.{int_base, early_fun_parts, items_told}
@@ -324,12 +324,16 @@ none_left : (ts front rest : List Token) → ts ≡ front ++ rest → kinds rest
 none_left ts front [] split left = sym (split ∙ append-nil front)
 none_left ts front (t ∷ rest) split left = cc
 
+-- a program without structs and constants is laid out as its functions are
+only_functions : (prog : Prog) → prog.structs ≡ [] → prog.consts ≡ [] → layout prog ≡ flat_map (fun_layout prog) prog.funs
+only_functions prog structs consts = λ i. flat_map (struct_layout prog) (structs i) ++ flat_map (const_layout prog) (consts i) ++ flat_map (fun_layout prog) prog.funs
+
 -- A tree that the program is the meaning of, that is placed and not too deep, and whose names are words and no
 -- keywords: then the layout of the program reads as that tree, spans aside, and so shows the program.
 pub shown : (prog : Prog) (bounds : Bounds) (tree : Tree) → bounds.int_bits ≤ 32 → IsTrue (early_prog prog) → Types tree bounds prog → IsTrue (tree_placed tree) → tree_depth tree ≤ most_levels → IsTrue (all_names is_name tree) → Shows (layout prog) bounds prog
 shown prog bounds tree narrow early types placed within names =
     let are = early_all prog.funs (and_parts (is_none prog.structs && is_none prog.consts) (early_funs prog.funs) early).1 in
-    let lexed = items_told prog bounds narrow tree.items prog.funs types.funs names are in
+    let lexed = subst (λ text. Lexes text (flat_map item_spell tree.items)) (sym (only_functions prog types.structs types.consts)) (items_told prog bounds narrow tree.items prog.funs types.funs names are) in
     let tokens : List Token = tokens_of 0 lexed.pieces in
     let again = items_again bounds tree.items prog.funs types.funs are tokens [] (lexed.told 0 ∙ sym (append-nil (flat_map item_spell tree.items))) in
     let whole = none_left tokens again.front again.rest again.split again.left in

@@ -23,6 +23,7 @@ use Rattle.sk_tree.specs.declared.item.Item.TheVariants as item
 use Rattle.sk_tree.specs.Spelling.{key_of, single_mark, double_mark}
 use Rattle.sk_tree.specs.Shapes.{is_blank, is_letter, is_digit, is_word_byte, shape_of}
 use Rattle.sk_tree.specs.Names.{ty_names, any_names, declared_names, expr_names, form_names, stmt_names, param_names, any_name, any_ty_names, fun_names, item_names}
+use Rattle.sk_prog.specs.declared.ids.FunId.{FunId}
 use Rattle.sk_prog.specs.declared.ty.Ty.{Ty}
 use Rattle.sk_prog.specs.declared.expr.PExpr.{PExpr}
 use Rattle.sk_prog.specs.declared.stmt.PStmt.{PStmt}
@@ -35,7 +36,7 @@ use Rattle.sk_prog.specs.declared.prog.Prog.{Prog}
 use Rattle.sk_types.specs.declared.scope.Variable.{Variable}
 use Rattle.sk_types.specs.Rules.{int, bit}
 use Rattle.sk_types.specs.Types.{BaseMeans, TyMeans, AnyAt, IsAt, MeansDeclare, MeansAssign, StmtMeans, AllMean, after, ParamMeans, ParamsMean, FunMeans, ItemsMean, parameters}
-use Rattle.sk_print.specs.Layout.{expr_layout, ty_layout, line, initial_layout, pform_layout, stmt_layout, ref_layout, param_layout, kind_layout, result_layout, fun_layout}
+use Rattle.sk_print.specs.Layout.{expr_layout, ty_layout, line, initial_layout, Lines, pform_layout, stmt_layout, ref_layout, param_layout, kind_layout, result_layout, implements_layout, fun_layout}
 use Rattle.sk_print.proofs.Lexed.{Lexes, stops, lex_end, lex_blank, lex_word, lex_one}
 use Rattle.sk_app.specs.Early.{early_pform, early_pstmt, is_int_ty, is_sum_pvalue, early_pparam, is_pharness, is_absent, early_pfun}
 use Rattle.sk_app.proofs.ShownSpell.{is_name, expr_spell, base_spell, ty_spell, initial_spell, form_spell, stmt_spell, param_spell, params_spell, fun_spell, item_spell}
@@ -176,7 +177,7 @@ module _ (prog : Prog) (bounds : Bounds) (narrow : bounds.int_bits ≤ 32) where
         let spelt : List Kind = ty_spell y ++ ((words ++ []) ++ (kind.Mark mark.Semicolon ∷ [])) in
         let tokens : spelt ++ ks ≡ ty_spell y ++ (words ++ (kind.Mark mark.Semicolon ∷ ks)) = simp (append_assoc, append-nil) in
         put (line depth body) (stmt_layout prog (pstmt s (pform.Declare slot x t value)) depth) text spelt (stmt_spell (stmt s (form.Declare y (d ∷ [])))) ks
-        (λ i. of_pdeclare (ℕ → List ℕ) (ℕ → List ℕ) (pform_layout prog) (λ z. z.form) s slot x t value i depth)
+        (λ i. of_pdeclare Lines Lines (pform_layout prog) (λ z. z.form) s slot x t value i false depth)
         (of_declare (List Kind) (List Kind) form_spell (λ z. z.form) s y (d ∷ []))
         (subst (λ z. Lexes (line depth body ++ text) z) (sym tokens) told)
 
@@ -195,7 +196,7 @@ module _ (prog : Prog) (bounds : Bounds) (narrow : bounds.int_bits ≤ 32) where
         let spelt : List Kind = expr_spell x ++ (kind.Mark mark.Assign ∷ (expr_spell y ++ (kind.Mark mark.Semicolon ∷ []))) in
         let tokens : spelt ++ ks ≡ expr_spell x ++ (kind.Mark mark.Assign ∷ vk) = simp append_assoc in
         put (line depth body) (stmt_layout prog (pstmt s (pform.Assign p q)) depth) text spelt (stmt_spell (stmt s (form.Assign x y))) ks
-        (λ i. of_passign (ℕ → List ℕ) (ℕ → List ℕ) (pform_layout prog) (λ z. z.form) s p q i depth)
+        (λ i. of_passign Lines Lines (pform_layout prog) (λ z. z.form) s p q i false depth)
         (of_assign (List Kind) (List Kind) form_spell (λ z. z.form) s x y)
         (subst (λ z. Lexes (line depth body ++ text) z) (sym tokens) told)
 
@@ -213,7 +214,7 @@ module _ (prog : Prog) (bounds : Bounds) (narrow : bounds.int_bits ≤ 32) where
         let spelt : List Kind = kind.Key key.Assert ∷ (expr_spell x ++ (kind.Mark mark.Semicolon ∷ [])) in
         let tokens : spelt ++ ks ≡ kind.Key key.Assert ∷ vk = simp append_assoc in
         put (line depth body) (stmt_layout prog (pstmt s (pform.Assert p)) depth) text spelt (stmt_spell (stmt s (form.Assert x))) ks
-        (λ i. of_passert (ℕ → List ℕ) (ℕ → List ℕ) (pform_layout prog) (λ z. z.form) s p i depth)
+        (λ i. of_passert Lines Lines (pform_layout prog) (λ z. z.form) s p i false depth)
         (of_assert (List Kind) (List Kind) form_spell (λ z. z.form) s x)
         (subst (λ z. Lexes (line depth body ++ text) z) (sym tokens) told)
 
@@ -243,6 +244,10 @@ harness_kind pkind.Generator h = absurd (false≢true h)
 no_result : (prog : Prog) (t : Option Ty) → IsTrue (is_absent t) → result_layout prog t ≡ codes "void"
 no_result prog None h = refl
 no_result prog (Some t) h = absurd (false≢true h)
+
+no_reference : (prog : Prog) (g : Option FunId) → IsTrue (is_absent g) → implements_layout prog g ≡ []
+no_reference prog None h = refl
+no_reference prog (Some g) h = absurd (false≢true h)
 
 no_ref : (b : Bool) → IsTrue (not b) → ref_layout b ≡ []
 no_ref false h = refl
@@ -331,6 +336,10 @@ in_row a b c d e f g t = simp append_assoc
 grouped : (name ps ss text : List ℕ) → (line 0 (codes "harness " ++ codes "void" ++ codes " " ++ name ++ codes "(" ++ ps ++ codes ") {") ++ ss ++ line 0 (codes "}")) ++ text ≡ codes "harness" ++ (32 ∷ (codes "void" ++ (32 ∷ (name ++ (40 ∷ (ps ++ (41 ∷ 32 ∷ 123 ∷ 10 ∷ (ss ++ (125 ∷ 10 ∷ text)))))))))
 grouped name ps ss text = ap (λ z. codes "harness void " ++ z) (in_row name (codes "(") ps (codes ") {") (codes "\n") ss (codes "}\n") text)
 
+-- the end of a line whose function implements none
+closed : (a : List ℕ) → a ++ codes ")" ++ [] ++ codes " {" ≡ a ++ codes ") {"
+closed a = ap (λ z. z ++ codes " {") (append-nil (a ++ codes ")")) ∙ append_assoc a (codes ")") (codes " {")
+
 pub fun_told : (prog : Prog) (bounds : Bounds) (narrow : bounds.int_bits ≤ 32) (g : FunItem) (f : Fun) → FunMeans bounds g f → fun_names is_name g ≡ true → IsTrue (early_pfun f) → (text : List ℕ) (ks : List Kind) → Lexes text ks → Lexes (fun_layout prog f ++ text) (fun_spell g ++ ks)
 fun_told prog bounds narrow g f means names early text ks l =
     let is = early_fun_parts f early in
@@ -356,10 +365,13 @@ fun_told prog bounds narrow g f means names early text ks l =
     let whole = lex_harness (codes "void" ++ (32 ∷ (f.name ++ (40 ∷ params_text)))) (kind.Key key.Void ∷ kind.Word g.name ∷ kind.Mark mark.OpenParen ∷ params_kinds) void in
     let harness = harness_kind f.kind is.kind in
     let none = no_result prog f.result is.result in
+    let alone = no_reference prog f.implements is.implements in
     let ps : List ℕ = join_by (param_layout prog) (codes ", ") f.params in
     let ss : List ℕ = flat_map (λ s. stmt_layout prog s 1) f.body in
     let bytes : fun_layout prog f ++ text ≡ codes "harness" ++ (32 ∷ (codes "void" ++ (32 ∷ (f.name ++ (40 ∷ params_text))))) =
-    (λ i. (line 0 (harness i ++ none i ++ codes " " ++ f.name ++ codes "(" ++ ps ++ codes ") {") ++ ss ++ line 0 (codes "}")) ++ text) ∙ grouped f.name ps ss text in
+    (λ i. (line 0 (harness i ++ none i ++ codes " " ++ f.name ++ codes "(" ++ ps ++ codes ")" ++ alone i ++ codes " {") ++ ss ++ line 0 (codes "}")) ++ text)
+    ∙ (λ i. (line 0 (closed (codes "harness " ++ codes "void" ++ codes " " ++ f.name ++ codes "(" ++ ps) i) ++ ss ++ line 0 (codes "}")) ++ text)
+    ∙ grouped f.name ps ss text in
     let tokens : fun_spell g ++ ks ≡ kind.Key key.Harness ∷ kind.Key key.Void ∷ kind.Word g.name ∷ kind.Mark mark.OpenParen ∷ params_kinds = simp append_assoc in
     subst (λ z. Lexes z (fun_spell g ++ ks)) (sym bytes) (subst (λ z. Lexes (codes "harness" ++ (32 ∷ (codes "void" ++ (32 ∷ (f.name ++ (40 ∷ params_text)))))) z) (sym tokens) whole)
 

@@ -19,6 +19,7 @@ use Rattle.sk_tree.specs.Shapes.{is_blank, is_letter, is_digit, is_word_byte, sh
 use Rattle.sk_tree.specs.Tokens.{word_kind, greatest_number}
 use Rattle.sk_tree.specs.Names.{eform_names, expr_names}
 use Rattle.sk_prog.specs.declared.ty.Ty.{Ty}
+use Rattle.sk_prog.specs.declared.ids.StructId.{StructId}
 use Rattle.sk_prog.specs.declared.expr.BinOp.{BinOp}
 use Rattle.sk_prog.specs.declared.expr.BinOp.TheVariants as op
 use Rattle.sk_prog.specs.declared.expr.PExpr.{PExpr}
@@ -28,7 +29,7 @@ use Rattle.sk_types.specs.declared.scope.Variable.{Variable}
 use Rattle.sk_types.specs.Rules.{operator_of, number_takes, hole_takes, in_range}
 use Rattle.sk_types.specs.Scope.{Nearest}
 use Rattle.sk_types.specs.Types.{HasType, Means}
-use Rattle.sk_print.specs.Layout.{op_layout, eform_layout, expr_layout}
+use Rattle.sk_print.specs.Layout.{op_layout, eform_layout, pfield_layout, expr_layout}
 use Rattle.sk_print.proofs.Lexed.{Lexes, stops, is_word, lex_blank, lex_word, lex_number, lex_one, lex_two, lex_slash}
 use Rattle.sk_app.proofs.ShownSpell.{is_name, eform_spell, expr_spell}
 use Rattle.sk_app.proofs.ShownMeans.{expr, pexpr, IsOperation, by_means}
@@ -72,7 +73,7 @@ operator_is m o o' text ks e l = let same : o ≡ o' = cc in subst (λ x. Lexes 
 
 -- an operator in front of a space
 lex_operator : (m : Mark) (o : BinOp) (text : List ℕ) (ks : List Kind) → operator_of m ≡ Some o → Lexes (32 ∷ text) ks → Lexes (op_layout o ++ (32 ∷ text)) (kind.Mark m ∷ ks)
-unfolding shape_of is_blank is_letter is_digit single_mark double_mark
+unfolding shape_of is_blank is_letter is_digit single_mark double_mark op_layout
 lex_operator mark.Star o text ks e l = operator_is mark.Star op.Mul o text ks e (lex_one 42 mark.Star (32 ∷ text) ks (λ xs. refl) refl refl refl l)
 lex_operator mark.Slash o text ks e l = operator_is mark.Slash op.Div o text ks e (lex_slash (32 ∷ text) ks refl l)
 lex_operator mark.Percent o text ks e l = operator_is mark.Percent op.Rem o text ks e (lex_one 37 mark.Percent (32 ∷ text) ks (λ xs. refl) refl refl refl l)
@@ -114,7 +115,7 @@ module _ (prog : Prog) (bounds : Bounds) (scope : List Variable) (narrow : bound
   number_told : (s : Span) (t : Option Ty) (n : ℕ) → IsTrue (in_range bounds n) → HasType (number_takes n) t → Told prog (pexpr s t (peform.Number n)) (expr s (eform.Number n))
   number_told s t n range has names text ks ends l =
       put (decimal n) (expr_layout prog (pexpr s t (peform.Number n))) text (kind.Number n ∷ []) (expr_spell (expr s (eform.Number n))) ks
-      (of_pnumber (List ℕ) (List ℕ) (List ℕ) (eform_layout prog) (λ x. x.form) (λ x. x.value) s t n)
+      (of_pnumber (List ℕ) (List ℕ) (StructId → List ℕ) (eform_layout prog) (λ x. x.form) (pfield_layout prog) s t n)
       (of_number (List Kind) (List Kind) (List Kind) eform_spell (λ x. x.form) (λ x. x.value) s n)
       (lex_number n text ks (in_range_small bounds n narrow range) (digit_stops text ends) l)
 
@@ -122,14 +123,14 @@ module _ (prog : Prog) (bounds : Bounds) (scope : List Variable) (narrow : bound
   variable_told s t slot x u is near names text ks ends l =
       let named : is_name x ≡ true = sym (of_word Bool Bool Bool (eform_names is_name) (λ y. y.form) (λ y. is_name y.name && y.value) s x) ∙ names in
       put x (expr_layout prog (pexpr s t (peform.Var slot x))) text (kind.Word x ∷ []) (expr_spell (expr s (eform.Word x))) ks
-      (of_pvar (List ℕ) (List ℕ) (List ℕ) (eform_layout prog) (λ y. y.form) (λ y. y.value) s t slot x)
+      (of_pvar (List ℕ) (List ℕ) (StructId → List ℕ) (eform_layout prog) (λ y. y.form) (pfield_layout prog) s t slot x)
       (of_word (List Kind) (List Kind) (List Kind) eform_spell (λ y. y.form) (λ y. y.value) s x)
       (lex_name x text ks named ends l)
 
   hole_told : (s : Span) (t : Option Ty) → HasType hole_takes t → Told prog (pexpr s t (peform.Hole None)) (expr s (eform.Hole None))
   hole_told s t has names text ks ends l =
       put (codes "??") (expr_layout prog (pexpr s t (peform.Hole None))) text (kind.Mark mark.Hole ∷ []) (expr_spell (expr s (eform.Hole None))) ks
-      (of_phole (List ℕ) (List ℕ) (List ℕ) (eform_layout prog) (λ x. x.form) (λ x. x.value) s t)
+      (of_phole (List ℕ) (List ℕ) (StructId → List ℕ) (eform_layout prog) (λ x. x.form) (pfield_layout prog) s t)
       (of_hole (List Kind) (List Kind) (List Kind) eform_spell (λ x. x.form) (λ x. x.value) s)
       (lex_hole text ks l)
 
@@ -145,7 +146,7 @@ module _ (prog : Prog) (bounds : Bounds) (scope : List Variable) (narrow : bound
       let bytes : (la ++ codes " " ++ op_layout o ++ codes " " ++ lb) ++ text ≡ la ++ rest = simp append_assoc in
       let tokens : (expr_spell x ++ (kind.Mark m ∷ expr_spell y)) ++ ks ≡ expr_spell x ++ (kind.Mark m ∷ (expr_spell y ++ ks)) = append_assoc (expr_spell x) (kind.Mark m ∷ expr_spell y) ks in
       put (la ++ codes " " ++ op_layout o ++ codes " " ++ lb) (expr_layout prog (pexpr s t (peform.Binary o a b))) text (expr_spell x ++ (kind.Mark m ∷ expr_spell y)) (expr_spell (expr s (eform.Binary m x y))) ks
-      (of_pbinary (List ℕ) (List ℕ) (List ℕ) (eform_layout prog) (λ z. z.form) (λ z. z.value) s t o a b)
+      (of_pbinary (List ℕ) (List ℕ) (StructId → List ℕ) (eform_layout prog) (λ z. z.form) (pfield_layout prog) s t o a b)
       (of_binary (List Kind) (List Kind) (List Kind) eform_spell (λ z. z.form) (λ z. z.value) s m x y)
       (subst (λ z. Lexes z ((expr_spell x ++ (kind.Mark m ∷ expr_spell y)) ++ ks)) (sym bytes) (subst (λ z. Lexes (la ++ rest) z) (sym tokens) whole))
 

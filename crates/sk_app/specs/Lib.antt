@@ -4,7 +4,10 @@ pub mod Streams
 pub mod ReadStep
 pub mod Built
 pub mod ResultText
+pub mod SpentText
+pub mod Within
 pub mod Prepared
+pub mod EarlyFit
 pub mod Ends
 pub mod Typing
 pub mod Reading

@@ -17,13 +17,13 @@ ghost use Rattle.sk_app.specs.Prepared.{IsFound, IsUnbuilt};
 
 use crate::filling::{expand_early, fill_early, is_within};
 use crate::prepare::Found;
-use crate::printing::print_early;
 use crate::reader::read_early;
 use crate::search::search;
 use crate::typing::check_early;
 use sk_base::{Bounds, List, push_number};
 use sk_lexer::{LexFault, tokens};
 use sk_model::{Choice, Expanded};
+use sk_print::print;
 use sk_prog::{Fun, Prog};
 use sk_tree::{Token, Tree};
 use std::alloc::{AllocError, Global};
@@ -177,7 +177,7 @@ fn completed(alloc: Global, expanded: &Expanded, choice: &Choice) -> Result<Vec<
     ensures { IfOk result (λ out. out.items ≡ completed_text expanded.now choice.now 0) }
 {
     let filled = fill_early(alloc, expanded, choice)?;
-    let mut out = print_early(alloc, &filled)?;
+    let mut out = print(alloc, &filled)?;
     push_completion(&mut out, choice, 0)?;
     Ok(out)
 }
