@@ -280,8 +280,7 @@ word_of _ h = cc
 name_target : (e : Expr) → is_name e.form ≡ true → (whole.is_target e ≡ true) × (is_known (rank e) ≡ true)
 name_target e h =
     let w = word_of e.form h in
-    let is : e ≡ record { span = e.span; form = eform.Word w.0 } = (λ i. record { span = e.span; form = w.1 i }) in
-    (
+    let is : e ≡ record { span = e.span; form = eform.Word w.0 } = (λ i. record { span = e.span; form = w.1 i }) in (
       ap whole.is_target is ∙ ap (λ b. b || whole.asks whole.eform_is_pattern (record { span = e.span; form = eform.Word w.0 })) (of_word Bool Bool (Unit {0}) whole.eform_is_place (λ x. x.form) (λ x. tt) e.span w.0),
       ap (λ z. is_known (rank z)) is ∙ ap is_known (of_word Rank Rank (Unit {0}) eform_rank (λ x. x.form) (λ x. tt) e.span w.0),
     )
