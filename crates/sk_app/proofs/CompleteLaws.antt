@@ -45,7 +45,7 @@ few_bits {e} x few = subst (λ n. n ≤ 15) (bits_same e x) few
 pub shown_of : (text : List ℕ) (e : Expanded) (a : Choice) → IsBuilt text e → IsEarlyExpansion e default_bounds → InRange e a → Shows (layout (fill e a)) default_bounds (fill e a)
 shown_of text e a b x range =
     subst (λ z. InRange z a → Shows (layout (fill z a)) default_bounds (fill z a)) (sym b.expanded)
-    (shown_filling text b.typed.is_tree.tokens b.typed.tree default_bounds b.prog a b.typed.is_tree.lexed b.typed.is_tree.reads b.typed.types
+    (shown_filling text b.typed.is_tree.tokens b.typed.tree default_bounds b.prog a b.typed.is_tree.lexed b.typed.is_tree.reads b.typed.is_tree.early b.typed.types
     (subst (λ z. IsTrue (early_prog z.prog)) b.expanded x.early) (omega arith) (omega arith))
     range
 

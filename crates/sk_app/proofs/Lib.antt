@@ -5,6 +5,7 @@ pub mod FillingEarly
 pub mod FillingLaws
 pub mod CostLaws
 pub mod ReadingLayers
+pub mod EarlyTrees
 pub mod ReadingTokens
 pub mod ReadingExprs
 pub mod ReadingItems

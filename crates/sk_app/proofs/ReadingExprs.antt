@@ -13,9 +13,11 @@ use Rattle.sk_tree.specs.declared.expr.NewField.{NewField}
 use Rattle.sk_tree.specs.declared.expr.EForm.TheOpen as E
 use Rattle.sk_tree.specs.declared.expr.EForm.TheViews.{roll-EForm}
 use Rattle.sk_tree.specs.Phrase.{Phrase, span_of}
-use Rattle.sk_tree.specs.Spelt.{Spans, SpeltExpr}
-use Rattle.sk_tree.specs.Placed.{Place, place_of, eform_place, level_of, binds, between}
-use Rattle.sk_tree.specs.Depth.{expr_depth, eform_depth}
+use Rattle.sk_tree.specs.Spelt.{Spans}
+use Rattle.sk_app.specs.EarlySpelt.{SpeltExpr}
+use Rattle.sk_tree.specs.Placed.{Place, level_of, binds, between}
+use Rattle.sk_app.specs.EarlyPlaced.{place_of, eform_place}
+use Rattle.sk_app.specs.EarlyDepth.{expr_depth, eform_depth}
 use Rattle.sk_app.specs.Early.{Rank, Operand, Sum, Equation, Other, is_operand, is_sum, is_equation, of_sums, operator_rank, eform_rank, rank}
 use Rattle.sk_app.specs.Reading.{◌>>=◌, mark_at, operator_at, operand_kind, operand_at, behind_operand, sum_at, equation_at, across, leaf, binary}
 use Rattle.sk_app.proofs.ReadingLayers.{expr_of, by_eform, LayerSpelt, open_spelt, close_spelt, expr_span, rank_layer, rank_is, depth_layer, depth_is, place_layer, place_is}

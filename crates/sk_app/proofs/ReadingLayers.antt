@@ -14,9 +14,11 @@ use Rattle.sk_tree.specs.declared.stmt.Form.TheOpen as F
 use Rattle.sk_tree.specs.declared.stmt.Form.TheViews.{roll-Form, out-Form, roll-out-Form}
 use Rattle.sk_tree.specs.declared.stmt.Form.TheFolds.{map-Form, fold-Form, fold-Stmt, fold-roll-Form, fold-roll-Stmt, rec-Form, rec-roll-Form, rec-roll-Stmt}
 use Rattle.sk_tree.specs.Phrase.{Phrase}
-use Rattle.sk_tree.specs.Spelt.{Spans, eform_spelt, expr_spelt, field_spelt, SpeltExpr, form_spelt, stmt_spelt, SpeltStmt}
-use Rattle.sk_tree.specs.Placed.{Place, eform_place, expr_place, field_placed, place_of, form_placed, stmt_placed}
-use Rattle.sk_tree.specs.Depth.{eform_depth, expr_depth, form_depth, stmt_depth}
+use Rattle.sk_tree.specs.Spelt.{Spans}
+use Rattle.sk_app.specs.EarlySpelt.{eform_spelt, expr_spelt, field_spelt, SpeltExpr, form_spelt, stmt_spelt, SpeltStmt}
+use Rattle.sk_tree.specs.Placed.{Place}
+use Rattle.sk_app.specs.EarlyPlaced.{eform_place, expr_place, field_placed, place_of, form_placed, stmt_placed}
+use Rattle.sk_app.specs.EarlyDepth.{eform_depth, expr_depth, form_depth, stmt_depth}
 use Rattle.sk_app.specs.Early.{Rank, eform_rank, rank, early_form, early_stmt}
 
 -- Expressions
@@ -43,10 +45,10 @@ eform_same X Y Z u v w f e n _ = refl
 abbrev pub LayerSpelt : E.EForm-F EForm Expr NewField → Phrase
 LayerSpelt l = eform_spelt EForm Expr NewField (λ y. y) (λ y. y) (λ y. y) SpeltForm SpeltExpr SpeltField l
 
-spelt_form : (l : E.EForm-F EForm Expr NewField) → SpeltForm (roll-EForm l) ≡ LayerSpelt l
+pub spelt_form : (l : E.EForm-F EForm Expr NewField) → SpeltForm (roll-EForm l) ≡ LayerSpelt l
 spelt_form l = rec-roll-EForm Phrase Phrase Phrase eform_spelt expr_spelt field_spelt eform_same l
 
-spelt_expr : (x : E.Expr-F EForm Expr NewField) → SpeltExpr (record { span = x.span; form = x.form }) ≡ Spans x.span (SpeltForm x.form)
+pub spelt_expr : (x : E.Expr-F EForm Expr NewField) → SpeltExpr (record { span = x.span; form = x.form }) ≡ Spans x.span (SpeltForm x.form)
 spelt_expr x = rec-roll-Expr Phrase Phrase Phrase eform_spelt expr_spelt field_spelt (λ X Y Z u v w f e n x. refl) x
 
 pub spelt_is : (s : Span) (l : E.EForm-F EForm Expr NewField) → SpeltExpr (expr_of s l) ≡ Spans s (LayerSpelt l)
@@ -102,10 +104,10 @@ form_same X Y u v f s _ = refl
 abbrev pub FormSpelt : F.Form-F Form Stmt → Phrase
 FormSpelt l = form_spelt Form Stmt (λ y. y) (λ y. y) StmtForm SpeltStmt l
 
-spelt_stmt_form : (l : F.Form-F Form Stmt) → StmtForm (roll-Form l) ≡ FormSpelt l
+pub spelt_stmt_form : (l : F.Form-F Form Stmt) → StmtForm (roll-Form l) ≡ FormSpelt l
 spelt_stmt_form l = rec-roll-Form Phrase Phrase form_spelt stmt_spelt form_same l
 
-spelt_stmt : (x : F.Stmt-F Form Stmt) → SpeltStmt (record { span = x.span; form = x.form }) ≡ Spans x.span (StmtForm x.form)
+pub spelt_stmt : (x : F.Stmt-F Form Stmt) → SpeltStmt (record { span = x.span; form = x.form }) ≡ Spans x.span (StmtForm x.form)
 spelt_stmt x = rec-roll-Stmt Phrase Phrase form_spelt stmt_spelt (λ X Y u v f s x. refl) x
 
 pub stmt_spelt_is : (s : Span) (l : F.Form-F Form Stmt) → SpeltStmt (layer_stmt s l) ≡ Spans s (FormSpelt l)

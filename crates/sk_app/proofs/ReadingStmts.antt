@@ -23,9 +23,10 @@ use Rattle.sk_tree.specs.declared.item.Base.TheVariants as base
 use Rattle.sk_tree.specs.declared.item.TyTree.{TyTree}
 use Rattle.sk_tree.specs.declared.item.Param.{Param}
 use Rattle.sk_tree.specs.Phrase.{Phrase, Sign, ◌▸◌, span_of}
-use Rattle.sk_tree.specs.Spelt.{Spans, SpeltExpr, SpeltTy, SpeltStmt, SpeltParam}
-use Rattle.sk_tree.specs.Placed.{form_placed, stmt_placed, expr_placed}
-use Rattle.sk_tree.specs.Depth.{expr_depth, form_depth, stmt_depth, param_depth}
+use Rattle.sk_tree.specs.Spelt.{Spans}
+use Rattle.sk_app.specs.EarlySpelt.{SpeltExpr, SpeltTy, SpeltStmt, SpeltParam}
+use Rattle.sk_app.specs.EarlyPlaced.{form_placed, stmt_placed, expr_placed}
+use Rattle.sk_app.specs.EarlyDepth.{expr_depth, form_depth, stmt_depth, param_depth}
 use Rattle.sk_app.specs.Early.{is_sum, is_equation, rank, is_name, is_int, is_int_base, is_sum_value, early_form, early_stmt, early_param}
 use Rattle.sk_app.specs.Reading.{◌>>=◌, mark_at, key_at, word_at, operator_at, sum_at, equation_at, across, leaf, int_tree, stmt_of, declare_form, assign_form, declare_at, assign_at, assert_at, stmt_kind, stmt_at, param_of, param_at, next_param_at}
 use Rattle.sk_app.proofs.ReadingLayers.{expr_of, close_spelt, open_spelt, by_eform, LayerSpelt, depth_is, place_is, layer_stmt, by_form, FormSpelt, open_stmt, close_stmt, bool_layer, early_is, stmt_placed_is, stmt_depth_layer, stmt_depth_is}

@@ -15,10 +15,13 @@ use Rattle.sk_tree.specs.declared.item.Item.{Item}
 use Rattle.sk_tree.specs.declared.item.Item.TheVariants as item
 use Rattle.sk_tree.specs.declared.item.Tree.{Tree}
 use Rattle.sk_tree.specs.Phrase.{Sign, Each, Between}
-use Rattle.sk_tree.specs.Spelt.{SpeltParam, SpeltStmt, SpeltFun, SpeltItem, SpeltTree}
-use Rattle.sk_tree.specs.Placed.{stmt_placed, tree_placed}
-use Rattle.sk_tree.specs.Depth.{deepest, param_depth, stmt_depth, tree_depth}
+use Rattle.sk_app.specs.EarlySpelt.{SpeltParam, SpeltStmt, SpeltFun, SpeltItem, SpeltTree}
+use Rattle.sk_app.specs.EarlyPlaced.{stmt_placed, tree_placed}
+use Rattle.sk_tree.specs.Depth.{deepest}
+use Rattle.sk_app.specs.EarlyDepth.{param_depth, stmt_depth, tree_depth}
 use Rattle.sk_tree.specs.Reads.{Reads}
+use Rattle.sk_app.specs.EarlyReads.{EarlyReads}
+use Rattle.sk_app.proofs.EarlyTrees.{reads_early, early_reads}
 use Rattle.sk_app.specs.Early.{early_param, early_stmt, early_fun, early_items, is_early}
 use Rattle.sk_app.specs.Reading.{◌>>=◌, mark_at, key_at, word_at, or_else, stmt_at, stmts_at, param_at, next_param_at, more_params_at, params_at, harness, heading_at, body_at, if_ended, tree_at}
 use Rattle.sk_app.proofs.ReadingTokens.{token, pair, some_pair, bind_ok, mark_is, key_is, word_is}
@@ -194,9 +197,9 @@ ended : {A : Type 0} (a : A) (ts : List Token) (b : A) → if_ended a ts ≡ Som
 ended a [] b h = (refl, cc)
 ended a (t ∷ ts) b h = cc
 
-pub reads_found : (tokens : List Token) (tree : Tree) → tree_at tokens ≡ Some tree → Reads tokens tree × IsTrue (is_early tree)
+early_found : (tokens : List Token) (tree : Tree) → tree_at tokens ≡ Some tree → EarlyReads tokens tree × IsTrue (is_early tree)
 unfolding tree_at
-reads_found tokens tree h =
+early_found tokens tree h =
     let name = bind_ok (heading_at tokens) _ _ h in
     let params = bind_ok (params_at name.0.1) _ _ name.2 in
     let body = bind_ok (body_at params.0.1) _ _ params.2 in
@@ -210,7 +213,7 @@ reads_found tokens tree h =
     let body_is : params.0.1 ≡ brace ∷ (b.front ++ (last ∷ [])) = b.split ∙ ap (λ l. brace ∷ (b.front ++ (last ∷ l))) done.0 in
     let split : tokens ≡ token (kind.Key key.Harness) f.first ∷ token (kind.Key key.Void) f.void ∷ token (kind.Word name.0.0) f.word ∷ token (kind.Mark mark.OpenParen) f.opening ∷ (p.front ++ (close ∷ brace ∷ (b.front ++ (last ∷ [])))) =
     f.split ∙ ap (λ l. token (kind.Key key.Harness) f.first ∷ token (kind.Key key.Void) f.void ∷ token (kind.Word name.0.0) f.word ∷ token (kind.Mark mark.OpenParen) f.opening ∷ l) (p.split ∙ ap (λ l. p.front ++ (close ∷ l)) body_is) in
-    subst (λ t. Reads tokens t × IsTrue (is_early t)) done.1 (
+    subst (λ t. EarlyReads tokens t × IsTrue (is_early t)) done.1 (
       record {
         spelt = subst (SpeltTree (harness name.0.0 params.0.0 body.0.0)) (sym split) (harness_spelt f.first f.void f.word f.opening p.at b.opening b.at name.0.0 params.0.0 body.0.0 p.front b.front p.spelt b.spelt);
         placed = harness_placed name.0.0 params.0.0 body.0.0 b.each;
@@ -218,6 +221,9 @@ reads_found tokens tree h =
       },
       harness_early name.0.0 params.0.0 body.0.0 p.each b.each,
     )
+
+pub reads_found : (tokens : List Token) (tree : Tree) → tree_at tokens ≡ Some tree → Reads tokens tree × IsTrue (is_early tree)
+reads_found tokens tree h = let f = early_found tokens tree h in (early_reads tokens tree f.1 f.0, f.1)
 
 -- Completeness
 
@@ -275,7 +281,7 @@ items_read (item.Fun f ∷ x ∷ more) ts ok h = cc
 items_read (_ ∷ more) ts ok h = cc
 
 pub reads_only : (tokens : List Token) (tree : Tree) → Reads tokens tree → IsTrue (is_early tree) → tree_at tokens ≡ Some tree
-reads_only tokens tree r ok = items_read tree.items tokens ok r.spelt
+reads_only tokens tree r ok = items_read tree.items tokens ok (reads_early tokens tree ok r).spelt
 
 pub reads_none : (tokens : List Token) (tree : Tree) → tree_at tokens ≡ None → Reads tokens tree → IsTrue (is_early tree) → None ≡ Some tree
 reads_none tokens tree none r ok = sym none ∙ reads_only tokens tree r ok

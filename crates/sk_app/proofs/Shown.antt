@@ -1,5 +1,5 @@
 -- The layout of an early program shows it.
-use Rattle.std.proofs.Common.{◌≡◌, ℕ, suc, max, ◌≤◌, Bool, true, false, ◌&&◌, not, List, [], ◌∷◌, ◌++◌, Option, Some, None, map, refl, sym, ap, ◌∙◌, subst, append_assoc, append-nil}
+use Rattle.std.proofs.Common.{◌≡◌, ℕ, suc, max, ◌≤◌, Bool, true, false, ◌&&◌, not, List, [], ◌∷◌, ◌++◌, Option, Some, None, map, length, refl, sym, ap, ◌∙◌, subst, arith, append_assoc, append-nil}
 use Rattle.std.specs.Prelude.{IsTrue}
 use Rattle.std.specs.List.{flat_map, list_all}
 use Rattle.std.proofs.lemmas.Bool.{and_parts, and_from, false≢true}
@@ -19,10 +19,12 @@ use Rattle.sk_tree.specs.declared.item.Item.{Item}
 use Rattle.sk_tree.specs.declared.item.Item.TheVariants as item
 use Rattle.sk_tree.specs.declared.item.Tree.{Tree}
 use Rattle.sk_tree.specs.Phrase.{Phrase, One, Sign, Keyword, Each, Behind, Between, Perhaps, ◌▸◌}
-use Rattle.sk_tree.specs.Spelt.{SpeltStmt, SpeltRef, SpeltParam, SpeltKind, SpeltResult, SpeltFun, SpeltItem, SpeltTree}
-use Rattle.sk_tree.specs.Placed.{stmt_placed, item_placed, tree_placed}
-use Rattle.sk_tree.specs.Depth.{deepest, any_depth, ty_depth, stmt_depth, param_depth, fun_depth, item_depth, tree_depth}
-use Rattle.sk_tree.specs.Reads.{most_levels}
+use Rattle.sk_tree.specs.Spelt.{SpeltRef, SpeltKind}
+use Rattle.sk_app.specs.EarlySpelt.{SpeltStmt, SpeltParam, SpeltResult, SpeltFun, SpeltItem, SpeltTree}
+use Rattle.sk_app.specs.EarlyPlaced.{stmt_placed, item_placed, tree_placed}
+use Rattle.sk_tree.specs.Depth.{deepest, any_depth}
+use Rattle.sk_app.specs.EarlyDepth.{ty_depth, stmt_depth, param_depth, fun_depth, item_depth, tree_depth}
+use Rattle.sk_tree.specs.Depth.{most_levels}
 use Rattle.sk_tree.specs.Tokens.{tokens_of}
 use Rattle.sk_tree.specs.Names.{all_names}
 use Rattle.sk_prog.specs.declared.ty.Ty.{Ty}
@@ -37,11 +39,12 @@ use Rattle.sk_types.specs.Types.{after, most_within, most, AllMean, ParamMeans, 
 use Rattle.sk_print.specs.Layout.{layout}
 use Rattle.sk_print.specs.Shows.{Shows}
 use Rattle.sk_print.proofs.Lexed.{kinds}
-use Rattle.sk_app.specs.Early.{early_pstmt, is_int_ty, early_pparam, is_pharness, is_absent, early_pfun, early_funs, is_none, early_prog}
+use Rattle.sk_app.specs.Early.{early_stmt, early_param, is_harness, early_fun, early_items, is_early, early_pstmt, is_int_ty, early_pparam, is_pharness, is_absent, early_pfun, early_funs, is_none, early_prog}
 use Rattle.sk_app.proofs.ShownSpell.{is_name, stmt_spell, param_spell, params_spell, ty_spell, fun_spell, item_spell}
 use Rattle.sk_app.proofs.ShownLines.{int_base, early_fun_parts, items_told}
 use Rattle.sk_app.proofs.ShownExprs.{first_of_kinds}
 use Rattle.sk_app.proofs.ShownStmts.{int_spelt, stmt_again}
+use Rattle.sk_app.proofs.EarlyTrees.{early_reads}
 
 -- Statements that follow each other
 
@@ -54,13 +57,14 @@ record StmtsAgain (bounds : Bounds) (from : ℕ) (scope : List Variable) (ps : L
   left : kinds rest ≡ ks
   spelt : Each SpeltStmt trees front
   places : list_all stmt_placed trees ≡ list_all stmt_placed es
+  early : list_all early_stmt trees ≡ list_all early_stmt es
   depth : deepest (map stmt_depth trees) ≡ deepest (map stmt_depth es)
   means : AllMean bounds from scope progs trees
   same : map spanless_stmt progs ≡ map spanless_stmt ps
   variables : most progs scope ≡ most ps scope
 
 stmts_again : (bounds : Bounds) (slots from : ℕ) (scope : List Variable) (ps : List PStmt) (es : List Stmt) → AllMean bounds from scope ps es → IsTrue (list_all (early_pstmt slots) ps) → (ts : List Token) (ks : List Kind) → kinds ts ≡ flat_map stmt_spell es ++ ks → StmtsAgain bounds from scope ps es ts ks
-stmts_again bounds slots from scope [] [] means early ts ks h = record { trees = []; progs = []; front = []; rest = ts; split = refl; left = h; spelt = refl; places = refl; depth = refl; means = tt; same = refl; variables = refl }
+stmts_again bounds slots from scope [] [] means early ts ks h = record { trees = []; progs = []; front = []; rest = ts; split = refl; left = h; spelt = refl; places = refl; early = refl; depth = refl; means = tt; same = refl; variables = refl }
 stmts_again bounds slots from scope (p ∷ ps) (e ∷ es) means early ts ks h =
     let are = and_parts (early_pstmt slots p) (list_all (early_pstmt slots) ps) early in
     let one = stmt_again bounds slots from scope p e means.0 are.0 ts (flat_map stmt_spell es ++ ks) (h ∙ append_assoc (stmt_spell e) (flat_map stmt_spell es) ks) in
@@ -74,6 +78,7 @@ stmts_again bounds slots from scope (p ∷ ps) (e ∷ es) means early ts ks h =
       left = more.left;
       spelt = (one.front, more.front, refl, one.spelt, more.spelt);
       places = λ i. one.places i && more.places i;
+      early = λ i. one.early i && more.early i;
       depth = λ i. max (one.depth i) (more.depth i);
       means = (one.means, subst (λ sc. AllMean bounds from sc more.progs more.trees) (sym one.then_scope) more.means);
       same = λ i. one.same i ∷ more.same i;
@@ -176,6 +181,7 @@ record FunAgain (bounds : Bounds) (g : FunItem) (f : Fun) (ts : List Token) (ks 
   left : kinds rest ≡ ks
   spelt : SpeltFun tree front
   places : list_all stmt_placed tree.body ≡ list_all stmt_placed g.body
+  early : early_fun tree ≡ early_fun g
   depth : fun_depth tree ≡ fun_depth g
   means : FunMeans bounds tree prog
   same : spanless_fun prog ≡ spanless_fun f
@@ -261,6 +267,7 @@ fun_again bounds g f means early ts ks h =
         ),
       );
       places = ss.places;
+      early = ap (λ b. is_harness g.kind && is_absent g.result && list_all early_param g.params && is_absent g.implements && b) ss.early;
       depth = ap (λ n. suc (max (any_depth ty_depth g.result) (max (deepest (map param_depth g.params)) n))) ss.depth;
       means = record {
         name = means.name;
@@ -279,6 +286,27 @@ fun_again bounds g f means early ts ks h =
 
 -- Programs
 
+-- an item is an early function
+abbrev pub early_item : Item → Bool
+early_item (item.Fun f) = early_fun f
+early_item _ = false
+
+one_early : (gs : List Item) → IsTrue (early_items gs) → (length gs ≡ 1) × IsTrue (list_all early_item gs)
+one_early [] h = absurd (false≢true h)
+one_early (item.Fun f ∷ []) h = (refl, and_from (early_fun f) true h refl)
+one_early (item.Fun f ∷ x ∷ more) h = absurd (false≢true h)
+one_early (_ ∷ more) h = absurd (false≢true h)
+
+early_one : (gs : List Item) → length gs ≡ 1 → IsTrue (list_all early_item gs) → IsTrue (early_items gs)
+early_one [] n h = cc
+early_one (item.Fun f ∷ []) n h = (and_parts (early_fun f) true h).0
+early_one (item.Fun f ∷ x ∷ more) n h = let z : 2 ≤ 1 = omega (arith, n) in absurd (omega arith)
+early_one (_ ∷ more) n h = absurd (false≢true h)
+
+-- items are early where as many are that are early alike
+pub same_early : (xs gs : List Item) → length xs ≡ length gs → list_all early_item xs ≡ list_all early_item gs → IsTrue (early_items gs) → IsTrue (early_items xs)
+same_early xs gs count early h = let one = one_early gs h in early_one xs (count ∙ one.0) (early ∙ one.1)
+
 record ItemsAgain (bounds : Bounds) (gs : List Item) (fs : List Fun) (ts : List Token) (ks : List Kind) : Type 0 where
   trees : List Item
   progs : List Fun
@@ -288,13 +316,15 @@ record ItemsAgain (bounds : Bounds) (gs : List Item) (fs : List Fun) (ts : List 
   left : kinds rest ≡ ks
   spelt : Each SpeltItem trees front
   places : list_all item_placed trees ≡ list_all item_placed gs
+  early : list_all early_item trees ≡ list_all early_item gs
+  count : length trees ≡ length gs
   depth : deepest (map item_depth trees) ≡ deepest (map item_depth gs)
   means : ItemsMean bounds trees progs
   same : map spanless_fun progs ≡ map spanless_fun fs
   named : map (λ (f : Fun). f.name) progs ≡ map (λ (f : Fun). f.name) fs
 
 items_again : (bounds : Bounds) (gs : List Item) (fs : List Fun) → ItemsMean bounds gs fs → IsTrue (list_all early_pfun fs) → (ts : List Token) (ks : List Kind) → kinds ts ≡ flat_map item_spell gs ++ ks → ItemsAgain bounds gs fs ts ks
-items_again bounds [] [] means early ts ks h = record { trees = []; progs = []; front = []; rest = ts; split = refl; left = h; spelt = refl; places = refl; depth = refl; means = tt; same = refl; named = refl }
+items_again bounds [] [] means early ts ks h = record { trees = []; progs = []; front = []; rest = ts; split = refl; left = h; spelt = refl; places = refl; early = refl; count = refl; depth = refl; means = tt; same = refl; named = refl }
 items_again bounds (item.Fun g ∷ gs) (f ∷ fs) means early ts ks h =
     let are = and_parts (early_pfun f) (list_all early_pfun fs) early in
     let one = fun_again bounds g f means.0 are.0 ts (flat_map item_spell gs ++ ks) (h ∙ append_assoc (fun_spell g) (flat_map item_spell gs) ks) in
@@ -308,6 +338,8 @@ items_again bounds (item.Fun g ∷ gs) (f ∷ fs) means early ts ks h =
       left = more.left;
       spelt = (one.front, more.front, refl, one.spelt, more.spelt);
       places = λ i. one.places i && more.places i;
+      early = λ i. one.early i && more.early i;
+      count = ap suc more.count;
       depth = λ i. max (suc (one.depth i)) (more.depth i);
       means = (one.means, more.means);
       same = λ i. one.same i ∷ more.same i;
@@ -326,8 +358,8 @@ none_left ts front (t ∷ rest) split left = cc
 
 -- A tree that the program is the meaning of, that is placed and not too deep, and whose names are words and no
 -- keywords: then the layout of the program reads as that tree, spans aside, and so shows the program.
-pub shown : (prog : Prog) (bounds : Bounds) (tree : Tree) → bounds.int_bits ≤ 32 → IsTrue (early_prog prog) → Types tree bounds prog → IsTrue (tree_placed tree) → tree_depth tree ≤ most_levels → IsTrue (all_names is_name tree) → Shows (layout prog) bounds prog
-shown prog bounds tree narrow early types placed within names =
+pub shown : (prog : Prog) (bounds : Bounds) (tree : Tree) → bounds.int_bits ≤ 32 → IsTrue (early_prog prog) → Types tree bounds prog → IsTrue (is_early tree) → IsTrue (tree_placed tree) → tree_depth tree ≤ most_levels → IsTrue (all_names is_name tree) → Shows (layout prog) bounds prog
+shown prog bounds tree narrow early types early_tree placed within names =
     let are = early_all prog.funs (and_parts (is_none prog.structs && is_none prog.consts) (early_funs prog.funs) early).1 in
     let lexed = items_told prog bounds narrow tree.items prog.funs types.funs names are in
     let tokens : List Token = tokens_of 0 lexed.pieces in
@@ -338,7 +370,7 @@ shown prog bounds tree narrow early types placed within names =
       tokens = tokens;
       lexed = record { pieces = lexed.pieces; whole = lexed.whole; same = refl };
       tree = read;
-      reads = record { spelt = subst (SpeltTree read) whole again.spelt; placed = again.places ∙ placed; within = subst (λ n. suc n ≤ most_levels) (sym again.depth) within };
+      reads = early_reads tokens read (same_early again.trees tree.items again.count again.early early_tree) (record { spelt = subst (SpeltTree read) whole again.spelt; placed = again.places ∙ placed; within = subst (λ n. suc n ≤ most_levels) (sym again.depth) within });
       typed = record { structs = prog.structs; consts = prog.consts; funs = again.progs };
       types = record { structs = types.structs; consts = types.consts; funs = again.means; distinct = subst (λ xs. IsTrue (all_distinct xs)) (sym again.named) types.distinct };
       same = λ i. record { structs = prog.structs; consts = map spanless_const prog.consts; funs = again.same i };

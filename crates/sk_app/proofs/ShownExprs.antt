@@ -16,9 +16,10 @@ use Rattle.sk_tree.specs.declared.expr.EForm.TheOpen as E
 use Rattle.sk_tree.specs.declared.expr.EForm.TheViews.{roll-EForm}
 use Rattle.sk_tree.specs.declared.expr.EForm.TheFolds.{map-EForm, rec-EForm, rec-NewField, rec-roll-EForm, rec-roll-Expr}
 use Rattle.sk_tree.specs.Phrase.{Phrase, One, span_of}
-use Rattle.sk_tree.specs.Spelt.{eform_spelt, expr_spelt, field_spelt, SpeltExpr}
-use Rattle.sk_tree.specs.Placed.{Place, eform_place, expr_place, field_placed, place_of, level_of, between}
-use Rattle.sk_tree.specs.Depth.{eform_depth, expr_depth}
+use Rattle.sk_app.specs.EarlySpelt.{eform_spelt, expr_spelt, field_spelt, SpeltExpr}
+use Rattle.sk_tree.specs.Placed.{Place, level_of, between}
+use Rattle.sk_app.specs.EarlyPlaced.{eform_place, expr_place, field_placed, place_of}
+use Rattle.sk_app.specs.EarlyDepth.{eform_depth, expr_depth}
 use Rattle.sk_prog.specs.declared.ty.Ty.{Ty}
 use Rattle.sk_prog.specs.declared.expr.BinOp.{BinOp}
 use Rattle.sk_prog.specs.declared.expr.PExpr.{PExpr}
@@ -34,6 +35,7 @@ use Rattle.sk_types.specs.Rules.{operator_of, class_of, number_takes, hole_takes
 use Rattle.sk_types.specs.Scope.{Nearest}
 use Rattle.sk_types.specs.Types.{eform_own, operation_own, own, HasType, MeansOperation, Means, TargetForm}
 use Rattle.sk_print.proofs.Lexed.{kinds}
+use Rattle.sk_app.specs.Early.{Rank, operator_rank, eform_rank, rank, is_name}
 use Rattle.sk_app.proofs.ShownSpell.{eform_spell, expr_spell}
 use Rattle.sk_app.proofs.ShownMeans.{expr, pexpr, IsOperation, means_number, means_variable, means_hole, means_binary, by_means}
 use Rattle.sk_app.proofs.ShownLayers.{of_number, of_word, of_hole, of_binary, of_pnumber, of_pvar, of_phole, of_pbinary}
@@ -81,6 +83,8 @@ pub record Alike (scope : List Variable) (x e : Expr) : Type 0 where
   pub place : place_of x ≡ place_of e
   pub depth : expr_depth x ≡ expr_depth e
   pub owns : own scope x ≡ own scope e
+  pub ranks : rank x ≡ rank e
+  pub name : is_name x.form ≡ is_name e.form
   pub target : TargetForm e.form → TargetForm x.form
 
 alike_number : (scope : List Variable) (s r : Span) (n : ℕ) → Alike scope (expr s (eform.Number n)) (expr r (eform.Number n))
@@ -88,6 +92,8 @@ alike_number scope s r n = record {
   place = of_number Place Place Bool eform_place expr_place field_placed s n ∙ sym (of_number Place Place Bool eform_place expr_place field_placed r n);
   depth = of_number ℕ ℕ ℕ eform_depth (λ x. suc x.form) (λ x. suc x.value) s n ∙ sym (of_number ℕ ℕ ℕ eform_depth (λ x. suc x.form) (λ x. suc x.value) r n);
   owns = of_number Own Own (Unit {0}) (eform_own scope) (λ x. x.form) (λ x. tt) s n ∙ sym (of_number Own Own (Unit {0}) (eform_own scope) (λ x. x.form) (λ x. tt) r n);
+  ranks = of_number Rank Rank (Unit {0}) eform_rank (λ x. x.form) (λ x. tt) s n ∙ sym (of_number Rank Rank (Unit {0}) eform_rank (λ x. x.form) (λ x. tt) r n);
+  name = refl;
   target = λ h. h;
 }
 
@@ -96,6 +102,8 @@ alike_word scope s r n = record {
   place = of_word Place Place Bool eform_place expr_place field_placed s n ∙ sym (of_word Place Place Bool eform_place expr_place field_placed r n);
   depth = of_word ℕ ℕ ℕ eform_depth (λ x. suc x.form) (λ x. suc x.value) s n ∙ sym (of_word ℕ ℕ ℕ eform_depth (λ x. suc x.form) (λ x. suc x.value) r n);
   owns = of_word Own Own (Unit {0}) (eform_own scope) (λ x. x.form) (λ x. tt) s n ∙ sym (of_word Own Own (Unit {0}) (eform_own scope) (λ x. x.form) (λ x. tt) r n);
+  ranks = of_word Rank Rank (Unit {0}) eform_rank (λ x. x.form) (λ x. tt) s n ∙ sym (of_word Rank Rank (Unit {0}) eform_rank (λ x. x.form) (λ x. tt) r n);
+  name = refl;
   target = λ h. h;
 }
 
@@ -104,6 +112,8 @@ alike_hole scope s r = record {
   place = of_hole Place Place Bool eform_place expr_place field_placed s ∙ sym (of_hole Place Place Bool eform_place expr_place field_placed r);
   depth = of_hole ℕ ℕ ℕ eform_depth (λ x. suc x.form) (λ x. suc x.value) s ∙ sym (of_hole ℕ ℕ ℕ eform_depth (λ x. suc x.form) (λ x. suc x.value) r);
   owns = of_hole Own Own (Unit {0}) (eform_own scope) (λ x. x.form) (λ x. tt) s ∙ sym (of_hole Own Own (Unit {0}) (eform_own scope) (λ x. x.form) (λ x. tt) r);
+  ranks = of_hole Rank Rank (Unit {0}) eform_rank (λ x. x.form) (λ x. tt) s ∙ sym (of_hole Rank Rank (Unit {0}) eform_rank (λ x. x.form) (λ x. tt) r);
+  name = refl;
   target = λ h. h;
 }
 
@@ -112,6 +122,8 @@ alike_binary scope s r m a b x y l h = record {
   place = of_binary Place Place Bool eform_place expr_place field_placed s m a b ∙ (λ i. between (level_of m) (l.place i) (h.place i)) ∙ sym (of_binary Place Place Bool eform_place expr_place field_placed r m x y);
   depth = of_binary ℕ ℕ ℕ eform_depth (λ x. suc x.form) (λ x. suc x.value) s m a b ∙ (λ i. suc (max (l.depth i) (h.depth i))) ∙ sym (of_binary ℕ ℕ ℕ eform_depth (λ x. suc x.form) (λ x. suc x.value) r m x y);
   owns = of_binary Own Own (Unit {0}) (eform_own scope) (λ x. x.form) (λ x. tt) s m a b ∙ (λ i. operation_own (operator_of m) (l.owns i) (h.owns i)) ∙ sym (of_binary Own Own (Unit {0}) (eform_own scope) (λ x. x.form) (λ x. tt) r m x y);
+  ranks = of_binary Rank Rank (Unit {0}) eform_rank (λ x. x.form) (λ x. tt) s m a b ∙ (λ i. operator_rank m (l.ranks i) (h.ranks i)) ∙ sym (of_binary Rank Rank (Unit {0}) eform_rank (λ x. x.form) (λ x. tt) r m x y);
+  name = refl;
   target = λ h. h;
 }
 

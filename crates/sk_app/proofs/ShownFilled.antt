@@ -8,8 +8,9 @@ use Rattle.sk_base.specs.declared.bounds.Bounds.{Bounds}
 use Rattle.sk_tree.specs.declared.token.Mark.{Mark}
 use Rattle.sk_tree.specs.declared.expr.Expr.{Expr}
 use Rattle.sk_tree.specs.declared.expr.EForm.TheVariants as eform
-use Rattle.sk_tree.specs.Placed.{Place, eform_place, expr_place, field_placed, place_of, level_of, between}
-use Rattle.sk_tree.specs.Depth.{eform_depth, expr_depth}
+use Rattle.sk_tree.specs.Placed.{Place, level_of, between}
+use Rattle.sk_app.specs.EarlyPlaced.{eform_place, expr_place, field_placed, place_of}
+use Rattle.sk_app.specs.EarlyDepth.{eform_depth, expr_depth}
 use Rattle.sk_tree.specs.Names.{eform_names, expr_names}
 use Rattle.sk_prog.specs.declared.ty.Ty.{Ty}
 use Rattle.sk_prog.specs.declared.ty.Ty.TheVariants as ty
@@ -29,7 +30,7 @@ use Rattle.sk_types.specs.Scope.{lookup, Nearest}
 use Rattle.sk_types.specs.Types.{name_own, eform_own, operation_own, own, HasType, Wanted, MeansOperation, Means, TargetForm}
 use Rattle.sk_types.proofs.Nearest.{nearest_lookup}
 use Rattle.sk_model.specs.Fill.{Part, value, eform_part, expr_step, expr_part, fill_expr}
-use Rattle.sk_app.specs.Early.{Rank, Operand, Sum, Equation, Other, is_sum, is_equation, of_operands, poperator_rank, peform_rank, prank, variable_form, is_variable, is_int_ty}
+use Rattle.sk_app.specs.Early.{Rank, Operand, Sum, Equation, Other, is_sum, is_equation, of_operands, operator_rank, eform_rank, rank, is_name as is_word, poperator_rank, peform_rank, prank, variable_form, is_variable, is_int_ty}
 use Rattle.sk_app.proofs.ShownSpell.{is_name}
 use Rattle.sk_app.proofs.ShownMeans.{expr, pexpr, IsOperation, means_number, means_variable, means_binary, by_means}
 use Rattle.sk_app.proofs.ShownLayers.{of_number, of_word, of_hole, of_binary, of_pnumber, of_pvar, of_phole, of_pbinary}
@@ -176,6 +177,8 @@ pub record Filled (bounds : Bounds) (scope : List Variable) (q p : PExpr) (e : E
   pub type : q.ty ≡ p.ty
   pub place : place_of tree ≡ place_of e
   pub depth : expr_depth tree ≡ expr_depth e
+  pub ranks : rank tree ≡ rank e
+  pub name : is_word tree.form ≡ is_word e.form
   pub names : expr_names is_name tree ≡ expr_names is_name e
   pub target : TargetForm e.form → TargetForm tree.form
 
@@ -212,7 +215,7 @@ module _ (bounds : Bounds) (values : List ℕ) (slots : ℕ) (scope : List Varia
         sum = λ h is i.
             let fills : fill_expr values p i ≡ p = ap (λ (q : Part PExpr). q.at i) (of_pnumber (Part PEForm) (Part PExpr) (Unit {0}) (eform_part values) (expr_step values) (λ x. tt) s t n) in
             subst (λ q. FilledSum bounds scope q p e) (sym fills) (record {
-              filled = record { tree = e; means = means_number bounds scope s t n range has; type = refl; place = refl; depth = refl; names = refl; target = λ g. g };
+              filled = record { tree = e; means = means_number bounds scope s t n range has; type = refl; place = refl; depth = refl; ranks = refl; name = refl; names = refl; target = λ g. g };
               ints = subst IntOwn (sym (own_number s n)) (number_int n);
             });
         equation = λ h i. absurd (false≢true (subst (λ r. IsTrue (is_equation r)) rank h));
@@ -237,6 +240,8 @@ module _ (bounds : Bounds) (values : List ℕ) (slots : ℕ) (scope : List Varia
                 type = refl;
                 place = of_number Place Place Bool eform_place expr_place field_placed s n ∙ sym (of_hole Place Place Bool eform_place expr_place field_placed s);
                 depth = of_number ℕ ℕ ℕ eform_depth (λ x. suc x.form) (λ x. suc x.value) s n ∙ sym (of_hole ℕ ℕ ℕ eform_depth (λ x. suc x.form) (λ x. suc x.value) s);
+                ranks = of_number Rank Rank (Unit {0}) eform_rank (λ x. x.form) (λ x. tt) s n ∙ sym (of_hole Rank Rank (Unit {0}) eform_rank (λ x. x.form) (λ x. tt) s);
+                name = refl;
                 names = of_number Bool Bool Bool (eform_names is_name) (λ z. z.form) (λ z. is_name z.name && z.value) s n ∙ sym (of_hole Bool Bool Bool (eform_names is_name) (λ z. z.form) (λ z. is_name z.name && z.value) s);
                 target = λ g. absurd g;
               };
@@ -258,7 +263,7 @@ module _ (bounds : Bounds) (values : List ℕ) (slots : ℕ) (scope : List Varia
         sum = λ h to i.
             let fills : fill_expr values p i ≡ p = ap (λ (q : Part PExpr). q.at i) (of_pvar (Part PEForm) (Part PExpr) (Unit {0}) (eform_part values) (expr_step values) (λ x. tt) s t slot x) in
             subst (λ q. FilledSum bounds scope q p e) (sym fills) (record {
-              filled = record { tree = e; means = means_variable bounds scope s t slot x u is near; type = refl; place = refl; depth = refl; names = refl; target = λ g. g };
+              filled = record { tree = e; means = means_variable bounds scope s t slot x u is near; type = refl; place = refl; depth = refl; ranks = refl; name = refl; names = refl; target = λ g. g };
               ints = subst IntOwn (sym owned) u_int;
             });
         equation = λ h i. absurd (var_no_equation (nat_lt slot slots) (subst (λ r. IsTrue (is_equation r)) rank h));
@@ -273,6 +278,8 @@ module _ (bounds : Bounds) (values : List ℕ) (slots : ℕ) (scope : List Varia
     type = refl;
     place = of_binary Place Place Bool eform_place expr_place field_placed s m l.tree r.tree ∙ (λ i. between (level_of m) (l.place i) (r.place i)) ∙ sym (of_binary Place Place Bool eform_place expr_place field_placed s m x y);
     depth = of_binary ℕ ℕ ℕ eform_depth (λ x. suc x.form) (λ x. suc x.value) s m l.tree r.tree ∙ (λ i. suc (max (l.depth i) (r.depth i))) ∙ sym (of_binary ℕ ℕ ℕ eform_depth (λ x. suc x.form) (λ x. suc x.value) s m x y);
+    ranks = of_binary Rank Rank (Unit {0}) eform_rank (λ x. x.form) (λ x. tt) s m l.tree r.tree ∙ (λ i. operator_rank m (l.ranks i) (r.ranks i)) ∙ sym (of_binary Rank Rank (Unit {0}) eform_rank (λ x. x.form) (λ x. tt) s m x y);
+    name = refl;
     names = of_binary Bool Bool Bool (eform_names is_name) (λ z. z.form) (λ z. is_name z.name && z.value) s m l.tree r.tree ∙ (λ i. l.names i && r.names i) ∙ sym (of_binary Bool Bool Bool (eform_names is_name) (λ z. z.form) (λ z. is_name z.name && z.value) s m x y);
     target = λ g. absurd g;
   }

@@ -1,5 +1,5 @@
 -- The layout of each filling in range of an early program that is read from a text shows the filling.
-use Rattle.std.proofs.Common.{◌≡◌, ℕ, zero, suc, max, ◌+◌, ◌-◌, ◌^◌, ◌<◌, ◌≤◌, Bool, true, ◌&&◌, not, List, [], ◌∷◌, ◌++◌, Option, Some, None, map, refl, sym, ap, ◌∙◌, subst, arith}
+use Rattle.std.proofs.Common.{◌≡◌, ℕ, zero, suc, max, ◌+◌, ◌-◌, ◌^◌, ◌<◌, ◌≤◌, Bool, true, ◌&&◌, not, List, [], ◌∷◌, ◌++◌, Option, Some, None, map, length, refl, sym, ap, ◌∙◌, subst, arith}
 use Rattle.std.specs.Prelude.{IsTrue, nat_lt, slice_index_or}
 use Rattle.std.specs.List.{list_all}
 use Rattle.std.proofs.lemmas.Bool.{and_parts, false≢true, lt-ltb}
@@ -17,11 +17,14 @@ use Rattle.sk_tree.specs.declared.item.FunItem.{FunItem}
 use Rattle.sk_tree.specs.declared.item.Item.{Item}
 use Rattle.sk_tree.specs.declared.item.Item.TheVariants as item
 use Rattle.sk_tree.specs.declared.item.Tree.{Tree}
-use Rattle.sk_tree.specs.Placed.{Place, any_placed, form_placed, stmt_placed, item_placed}
-use Rattle.sk_tree.specs.Depth.{deepest, any_depth, expr_depth, ty_depth, form_depth, stmt_depth, param_depth, item_depth}
+use Rattle.sk_tree.specs.Placed.{Place}
+use Rattle.sk_app.specs.EarlyPlaced.{any_placed, form_placed, stmt_placed, item_placed}
+use Rattle.sk_tree.specs.Depth.{deepest, any_depth}
+use Rattle.sk_app.specs.EarlyDepth.{expr_depth, ty_depth, form_depth, stmt_depth, param_depth, item_depth}
 use Rattle.sk_tree.specs.Names.{any_names, ty_names, form_names, stmt_names, param_names, any_name, any_ty_names, item_names}
 use Rattle.sk_tree.specs.Tokens.{AreTokens}
-use Rattle.sk_tree.specs.Reads.{Reads, most_levels}
+use Rattle.sk_tree.specs.Depth.{most_levels}
+use Rattle.sk_tree.specs.Reads.{Reads}
 use Rattle.sk_prog.specs.declared.ty.Ty.{Ty}
 use Rattle.sk_prog.specs.declared.expr.PExpr.{PExpr}
 use Rattle.sk_prog.specs.declared.stmt.PStmt.{PStmt}
@@ -39,7 +42,7 @@ use Rattle.sk_model.specs.Expand.{expand}
 use Rattle.sk_model.specs.Fill.{InRange, Part, value, fill_expr, value_part, expr_part, form_part, stmt_step, stmt_part, fill_stmts, stmts_count, fill_funs, fill}
 use Rattle.sk_print.specs.Layout.{layout}
 use Rattle.sk_print.specs.Shows.{Shows}
-use Rattle.sk_app.specs.Early.{is_sum, prank, is_variable, is_int_ty, is_sum_pvalue, early_pform, early_pstmt, early_pparam, early_pfun, early_funs, is_none, early_prog}
+use Rattle.sk_app.specs.Early.{is_sum, is_equation, is_int, is_sum_value, early_form, early_stmt, early_param, is_harness, is_absent, is_early, prank, is_variable, is_int_ty, is_sum_pvalue, early_pform, early_pstmt, early_pparam, early_pfun, early_funs, is_none, early_prog}
 use Rattle.sk_app.proofs.FillingLaws.{Below, sites_sized, fits_below, early_filled}
 use Rattle.sk_app.proofs.ShownSpell.{is_name}
 use Rattle.sk_app.proofs.ShownMeans.{stmt, pstmt, means_declare, means_assign, means_assert, by_stmt_means}
@@ -47,7 +50,8 @@ use Rattle.sk_app.proofs.ShownLayers.{of_declare, of_assign, of_assert, of_pdecl
 use Rattle.sk_app.proofs.ShownLines.{early_fun_parts}
 use Rattle.sk_app.proofs.ShownFilled.{AllInt, all_int_more, int_ty, expr_fills}
 use Rattle.sk_app.proofs.ShownNames.{names_read}
-use Rattle.sk_app.proofs.Shown.{early_all, shown}
+use Rattle.sk_app.proofs.EarlyTrees.{reads_early}
+use Rattle.sk_app.proofs.Shown.{early_all, early_item, same_early, shown}
 
 -- Statements
 
@@ -56,6 +60,7 @@ record FilledStmt (bounds : Bounds) (from : ℕ) (scope : List Variable) (q p : 
   tree : Stmt
   means : StmtMeans bounds q from scope tree
   places : stmt_placed tree ≡ stmt_placed e
+  early : early_stmt tree ≡ early_stmt e
   depth : stmt_depth tree ≡ stmt_depth e
   names : stmt_names is_name tree ≡ stmt_names is_name e
   then_scope : after q scope ≡ after p scope
@@ -66,6 +71,7 @@ record FilledValue (bounds : Bounds) (scope : List Variable) (t : Ty) (q : Optio
   tree : Option Expr
   at : AnyAt bounds scope t q tree
   places : any_placed tree ≡ any_placed e
+  sums : is_sum_value tree ≡ is_sum_value e
   depth : any_depth expr_depth tree ≡ any_depth expr_depth e
   names : any_names is_name tree ≡ any_names is_name e
 
@@ -73,7 +79,7 @@ module _ (bounds : Bounds) (values : List ℕ) (slots from : ℕ) (scope : List 
   value_fills : (t : Ty) (p : Option PExpr) (e : Option Expr) → t ≡ int → AnyAt bounds scope t p e → IsTrue (is_sum_pvalue slots p) → (i : ℕ) → FilledValue bounds scope t ((value_part values p).at i) e
   value_fills t (Some p) (Some e) is at sum i =
       let f = (expr_fills bounds values slots scope ints small p e at.means).sum sum (at.type ∙ ap Some is) i in
-      record { tree = Some f.filled.tree; at = record { means = f.filled.means; type = f.filled.type ∙ at.type }; places = ap (λ (q : Place). q.placed) f.filled.place; depth = f.filled.depth; names = f.filled.names }
+      record { tree = Some f.filled.tree; at = record { means = f.filled.means; type = f.filled.type ∙ at.type }; places = ap (λ (q : Place). q.placed) f.filled.place; sums = ap is_sum f.filled.ranks; depth = f.filled.depth; names = f.filled.names }
   value_fills t (Some p) None is at sum i = absurd at
   value_fills t None e is at sum i = absurd (false≢true sum)
 
@@ -95,6 +101,7 @@ module _ (bounds : Bounds) (values : List ℕ) (slots from : ℕ) (scope : List 
         tree = stmt s (form.Declare y (d' ∷ []));
         means = means_declare bounds s from scope slot x t w y d' (record { name = rule.name; type = rule.type; next = rule.next; once = rule.once; value = f.at });
         places = of_declare Bool Bool form_placed (λ z. z.form) s y (d' ∷ []) ∙ ap (λ v. v && true) f.places ∙ sym (of_declare Bool Bool form_placed (λ z. z.form) s y (d ∷ []));
+        early = of_declare Bool Bool early_form (λ z. z.form) s y (d' ∷ []) ∙ ap (λ v. is_int y && v) f.sums ∙ sym (of_declare Bool Bool early_form (λ z. z.form) s y (d ∷ []));
         depth = of_declare ℕ ℕ form_depth (λ z. suc z.form) s y (d' ∷ []) ∙ ap (λ n. suc (max (ty_depth y) (max (suc n) 0))) f.depth ∙ sym (of_declare ℕ ℕ form_depth (λ z. suc z.form) s y (d ∷ []));
         names = of_declare Bool Bool (form_names is_name) (λ z. z.form) s y (d' ∷ []) ∙ ap (λ v. ty_names is_name y && ((is_name d.name && v) && true)) f.names ∙ sym (of_declare Bool Bool (form_names is_name) (λ z. z.form) s y (d ∷ []));
         then_scope = (λ i. of_pdeclare Grows Grows form_after (λ z. z.form) s slot x t w i scope) ∙ sym after_is;
@@ -124,6 +131,7 @@ module _ (bounds : Bounds) (values : List ℕ) (slots from : ℕ) (scope : List 
           value = record { means = r.means; type = r.type ∙ rule.value.type };
         });
         places = of_assign Bool Bool form_placed (λ z. z.form) s l.tree r.tree ∙ (λ i. (l.place i).placed && (r.place i).placed) ∙ sym (of_assign Bool Bool form_placed (λ z. z.form) s x y);
+        early = of_assign Bool Bool early_form (λ z. z.form) s l.tree r.tree ∙ (λ i. l.name i && is_sum (r.ranks i)) ∙ sym (of_assign Bool Bool early_form (λ z. z.form) s x y);
         depth = of_assign ℕ ℕ form_depth (λ z. suc z.form) s l.tree r.tree ∙ (λ i. suc (max (l.depth i) (r.depth i))) ∙ sym (of_assign ℕ ℕ form_depth (λ z. suc z.form) s x y);
         names = of_assign Bool Bool (form_names is_name) (λ z. z.form) s l.tree r.tree ∙ (λ i. l.names i && r.names i) ∙ sym (of_assign Bool Bool (form_names is_name) (λ z. z.form) s x y);
         then_scope = (λ i. of_passign Grows Grows form_after (λ z. z.form) s lp rq i scope) ∙ sym after_is;
@@ -143,6 +151,7 @@ module _ (bounds : Bounds) (values : List ℕ) (slots from : ℕ) (scope : List 
         tree = stmt s (form.Assert f.tree);
         means = means_assert bounds s from scope q f.tree (record { means = f.means; type = f.type ∙ rule.type });
         places = of_assert Bool Bool form_placed (λ z. z.form) s f.tree ∙ (λ i. (f.place i).placed) ∙ sym (of_assert Bool Bool form_placed (λ z. z.form) s x);
+        early = of_assert Bool Bool early_form (λ z. z.form) s f.tree ∙ ap is_equation f.ranks ∙ sym (of_assert Bool Bool early_form (λ z. z.form) s x);
         depth = of_assert ℕ ℕ form_depth (λ z. suc z.form) s f.tree ∙ (λ i. suc (f.depth i)) ∙ sym (of_assert ℕ ℕ form_depth (λ z. suc z.form) s x);
         names = of_assert Bool Bool (form_names is_name) (λ z. z.form) s f.tree ∙ f.names ∙ sym (of_assert Bool Bool (form_names is_name) (λ z. z.form) s x);
         then_scope = (λ i. of_passert Grows Grows form_after (λ z. z.form) s q i scope) ∙ sym after_is;
@@ -157,12 +166,13 @@ record FilledStmts (bounds : Bounds) (from : ℕ) (scope : List Variable) (qs ps
   trees : List Stmt
   means : AllMean bounds from scope qs trees
   places : list_all stmt_placed trees ≡ list_all stmt_placed es
+  early : list_all early_stmt trees ≡ list_all early_stmt es
   depth : deepest (map stmt_depth trees) ≡ deepest (map stmt_depth es)
   names : list_all (stmt_names is_name) trees ≡ list_all (stmt_names is_name) es
   variables : most qs scope ≡ most ps scope
 
 stmts_fill : (bounds : Bounds) (values : List ℕ) (slots from : ℕ) (scope : List Variable) → AllInt scope → ((i : ℕ) → IsTrue (in_range bounds (value values i))) → (ps : List PStmt) (es : List Stmt) → AllMean bounds from scope ps es → IsTrue (list_all (early_pstmt slots) ps) → (i : ℕ) → FilledStmts bounds from scope (fill_stmts values ps i) ps es
-stmts_fill bounds values slots from scope ints small [] [] means early i = record { trees = []; means = tt; places = refl; depth = refl; names = refl; variables = refl }
+stmts_fill bounds values slots from scope ints small [] [] means early i = record { trees = []; means = tt; places = refl; early = refl; depth = refl; names = refl; variables = refl }
 stmts_fill bounds values slots from scope ints small (p ∷ ps) (e ∷ es) means early i =
     let are = and_parts (early_pstmt slots p) (list_all (early_pstmt slots) ps) early in
     let one = stmt_fills bounds values slots from scope ints small p e means.0 are.0 i in
@@ -172,6 +182,7 @@ stmts_fill bounds values slots from scope ints small (p ∷ ps) (e ∷ es) means
       trees = one.tree ∷ more.trees;
       means = (one.means, subst (λ sc. AllMean bounds from sc qs more.trees) (sym one.then_scope) more.means);
       places = λ i. one.places i && more.places i;
+      early = λ i. one.early i && more.early i;
       depth = λ i. max (one.depth i) (more.depth i);
       names = λ i. one.names i && more.names i;
       variables = (λ i. max (one.variables i) (most qs (one.then_scope i))) ∙ ap (max (most_within p scope)) more.variables;
@@ -191,12 +202,14 @@ record FilledFuns (bounds : Bounds) (qs ps : List Fun) (gs : List Item) : Type 0
   trees : List Item
   means : ItemsMean bounds trees qs
   places : list_all item_placed trees ≡ list_all item_placed gs
+  early : list_all early_item trees ≡ list_all early_item gs
+  count : length trees ≡ length gs
   depth : deepest (map item_depth trees) ≡ deepest (map item_depth gs)
   names : list_all (item_names is_name) trees ≡ list_all (item_names is_name) gs
   named : map (λ (f : Fun). f.name) qs ≡ map (λ (f : Fun). f.name) ps
 
 funs_fill : (bounds : Bounds) (values : List ℕ) → ((i : ℕ) → IsTrue (in_range bounds (value values i))) → (gs : List Item) (fs : List Fun) → ItemsMean bounds gs fs → IsTrue (list_all early_pfun fs) → (i : ℕ) → FilledFuns bounds (fill_funs values fs i) fs gs
-funs_fill bounds values small [] [] means early i = record { trees = []; means = tt; places = refl; depth = refl; names = refl; named = refl }
+funs_fill bounds values small [] [] means early i = record { trees = []; means = tt; places = refl; early = refl; count = refl; depth = refl; names = refl; named = refl }
 funs_fill bounds values small (item.Fun g ∷ gs) (f ∷ fs) means early i =
     let are = and_parts (early_pfun f) (list_all early_pfun fs) early in
     let is = early_fun_parts f are.0 in
@@ -221,6 +234,8 @@ funs_fill bounds values small (item.Fun g ∷ gs) (f ∷ fs) means early i =
         more.means,
       );
       places = λ i. one.places i && more.places i;
+      early = λ i. (is_harness g.kind && is_absent g.result && list_all early_param g.params && is_absent g.implements && one.early i) && more.early i;
+      count = ap suc more.count;
       depth = λ i. max (suc (suc (max (any_depth ty_depth g.result) (max (deepest (map param_depth g.params)) (one.depth i))))) (more.depth i);
       names = λ i. (any_ty_names is_name g.result && (is_name g.name && (list_all (param_names is_name) g.params && (any_name is_name g.implements && one.names i)))) && more.names i;
       named = ap (λ ns. f.name ∷ ns) more.named;
@@ -236,8 +251,9 @@ below_at n (v ∷ vs) (suc i) some h = below_at n vs i some h.1
 
 -- Where the tokens of a text read as a tree that means an early program, the layout of each of its fillings in range
 -- shows that filling.
-pub shown_filling : (text : List ℕ) (ts : List Token) (tree : Tree) (bounds : Bounds) (prog : Prog) (a : Choice) → AreTokens text ts → Reads ts tree → Types tree bounds prog → IsTrue (early_prog prog) → bounds.cbits < bounds.int_bits → bounds.int_bits ≤ 32 → InRange (expand prog bounds) a → Shows (layout (fill (expand prog bounds) a)) bounds (fill (expand prog bounds) a)
-shown_filling text ts tree bounds prog a lexed reads types early low narrow fits =
+pub shown_filling : (text : List ℕ) (ts : List Token) (tree : Tree) (bounds : Bounds) (prog : Prog) (a : Choice) → AreTokens text ts → Reads ts tree → IsTrue (is_early tree) → Types tree bounds prog → IsTrue (early_prog prog) → bounds.cbits < bounds.int_bits → bounds.int_bits ≤ 32 → InRange (expand prog bounds) a → Shows (layout (fill (expand prog bounds) a)) bounds (fill (expand prog bounds) a)
+shown_filling text ts tree bounds prog a lexed reads_whole early_tree types early low narrow fits =
+    let reads = reads_early ts tree early_tree reads_whole in
     let below : Below (2 ^ bounds.cbits) a.values = fits_below (2 ^ bounds.cbits) (sites bounds prog) a.values (sites_sized bounds prog early) fits.fits in
     let at_most : bounds.cbits ≤ bounds.int_bits - 1 = omega arith in
     let grows : 2 ^ bounds.cbits ≤ 2 ^ (bounds.int_bits - 1) = pow_mono {i = bounds.cbits} {j = bounds.int_bits - 1} at_most in
@@ -248,6 +264,7 @@ shown_filling text ts tree bounds prog a lexed reads types early low narrow fits
     let filled : Tree = record { items = f.trees } in
     let filled_types : Types filled bounds (fill (expand prog bounds) a) = record { structs = types.structs; consts = types.consts; funs = f.means; distinct = subst (λ xs. IsTrue (all_distinct xs)) (sym f.named) types.distinct } in
     shown (fill (expand prog bounds) a) bounds filled narrow (early_filled (expand prog bounds) a early) filled_types
+    (same_early f.trees tree.items f.count f.early early_tree)
     (f.places ∙ reads.placed)
     (subst (λ n. suc n ≤ most_levels) (sym f.depth) reads.within)
     (f.names ∙ names_read text ts tree bounds prog lexed reads.spelt types)

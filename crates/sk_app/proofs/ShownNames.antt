@@ -31,7 +31,8 @@ use Rattle.sk_tree.specs.declared.item.Item.{Item}
 use Rattle.sk_tree.specs.declared.item.Item.TheVariants as item
 use Rattle.sk_tree.specs.declared.item.Tree.{Tree}
 use Rattle.sk_tree.specs.Phrase.{Phrase, One, Sign, Keyword, Each, Behind, Between, Perhaps, ◌▸◌}
-use Rattle.sk_tree.specs.Spelt.{SpeltExpr, SpeltBase, SpeltTy, SpeltDeclared, SpeltStmt, SpeltRef, SpeltParam, SpeltKind, SpeltResult, SpeltFun, SpeltItem, SpeltTree}
+use Rattle.sk_tree.specs.Spelt.{SpeltRef, SpeltKind}
+use Rattle.sk_app.specs.EarlySpelt.{SpeltExpr, SpeltBase, SpeltTy, SpeltDeclared, SpeltStmt, SpeltParam, SpeltResult, SpeltFun, SpeltItem, SpeltTree}
 use Rattle.sk_tree.specs.Spelling.{key_of, single_mark, double_mark}
 use Rattle.sk_tree.specs.Shapes.{is_blank, is_letter, is_digit, is_word_byte, is_line_byte, is_closed, is_quoted, if_all, slash_of, text_of, mark_of, shape_of}
 use Rattle.sk_tree.specs.Tokens.{Divides, word_kind, token_of, tokens_of, AreTokens}

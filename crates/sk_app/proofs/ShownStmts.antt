@@ -21,9 +21,11 @@ use Rattle.sk_tree.specs.declared.item.Base.{Base}
 use Rattle.sk_tree.specs.declared.item.Base.TheVariants as base
 use Rattle.sk_tree.specs.declared.item.TyTree.{TyTree}
 use Rattle.sk_tree.specs.Phrase.{Phrase, One, Sign, Perhaps, span_of, ◌▸◌}
-use Rattle.sk_tree.specs.Spelt.{SpeltExpr, SpeltBase, form_spelt, stmt_spelt, SpeltStmt}
-use Rattle.sk_tree.specs.Placed.{Place, any_placed, form_placed, stmt_placed}
-use Rattle.sk_tree.specs.Depth.{any_depth, expr_depth, ty_depth, form_depth, stmt_depth}
+use Rattle.sk_app.specs.EarlySpelt.{SpeltExpr, SpeltBase, form_spelt, stmt_spelt, SpeltStmt}
+use Rattle.sk_tree.specs.Placed.{Place}
+use Rattle.sk_app.specs.EarlyPlaced.{any_placed, form_placed, stmt_placed}
+use Rattle.sk_tree.specs.Depth.{any_depth}
+use Rattle.sk_app.specs.EarlyDepth.{expr_depth, ty_depth, form_depth, stmt_depth}
 use Rattle.sk_prog.specs.declared.ty.Ty.{Ty}
 use Rattle.sk_prog.specs.declared.expr.PExpr.{PExpr}
 use Rattle.sk_prog.specs.declared.stmt.PStmt.{PStmt}
@@ -36,7 +38,7 @@ use Rattle.sk_types.specs.declared.scope.Variable.{Variable}
 use Rattle.sk_types.specs.Rules.{bit}
 use Rattle.sk_types.specs.Types.{IsAt, AnyAt, BaseMeans, MeansDeclare, MeansAssign, Grows, form_after, after, form_most, most_within, StmtMeans}
 use Rattle.sk_print.proofs.Lexed.{kinds}
-use Rattle.sk_app.specs.Early.{early_pform, early_pstmt, is_int_ty, is_sum_pvalue}
+use Rattle.sk_app.specs.Early.{is_sum, is_equation, is_int, is_sum_value, early_form, early_stmt, early_pform, early_pstmt, is_int_ty, is_sum_pvalue}
 use Rattle.sk_app.proofs.ShownSpell.{expr_spell, ty_spell, initial_spell, form_spell, stmt_spell}
 use Rattle.sk_app.proofs.ShownMeans.{stmt, pstmt, means_declare, means_assign, means_assert, by_stmt_means}
 use Rattle.sk_app.proofs.ShownLayers.{of_declare, of_assign, of_assert, of_pdeclare, of_passign, of_passert}
@@ -79,6 +81,7 @@ pub record StmtAgain (bounds : Bounds) (from : ℕ) (scope : List Variable) (p :
   pub left : kinds rest ≡ ks
   pub spelt : SpeltStmt tree front
   pub places : stmt_placed tree ≡ stmt_placed e
+  pub early : early_stmt tree ≡ early_stmt e
   pub depth : stmt_depth tree ≡ stmt_depth e
   pub means : StmtMeans bounds prog from scope tree
   pub same : spanless_stmt prog ≡ spanless_stmt p
@@ -95,13 +98,14 @@ record InitialAgain (bounds : Bounds) (scope : List Variable) (t : Ty) (p : Opti
   left : kinds rest ≡ ks
   spelt : Perhaps (λ value. Sign mark.Assign ▸ SpeltExpr value) tree front
   places : any_placed tree ≡ any_placed e
+  sums : is_sum_value tree ≡ is_sum_value e
   depth : any_depth expr_depth tree ≡ any_depth expr_depth e
   at : AnyAt bounds scope t prog tree
   same : any_spanless prog ≡ any_spanless p
 
 module _ (bounds : Bounds) (scope : List Variable) where
   initial_again : (t : Ty) (p : Option PExpr) (e : Option Expr) → AnyAt bounds scope t p e → (ts : List Token) (ks : List Kind) → kinds ts ≡ initial_spell e ++ ks → InitialAgain bounds scope t p e ts ks
-  initial_again t None None at ts ks h = record { tree = None; prog = None; front = []; rest = ts; split = refl; left = h; spelt = refl; places = refl; depth = refl; at = tt; same = refl }
+  initial_again t None None at ts ks h = record { tree = None; prog = None; front = []; rest = ts; split = refl; left = h; spelt = refl; places = refl; sums = refl; depth = refl; at = tt; same = refl }
   initial_again t (Some p) (Some e) at ts ks h =
       let f = first_of_kinds ts (kind.Mark mark.Assign) (expr_spell e ++ ks) h in
       let g = expr_again bounds scope p e at.means f.rest ks f.left in
@@ -114,6 +118,7 @@ module _ (bounds : Bounds) (scope : List Variable) where
         left = g.left;
         spelt = (f.token ∷ [], g.front, refl, f.one, g.spelt);
         places = ap (λ (q : Place). q.placed) g.alike.place;
+        sums = ap is_sum g.alike.ranks;
         depth = g.alike.depth;
         at = record { means = g.means; type = g.type ∙ at.type };
         same = ap Some g.same;
@@ -158,6 +163,7 @@ module _ (bounds : Bounds) (slots from : ℕ) (scope : List Variable) where
           (named, f.token ∷ [], refl, (named, [], sym (append-nil named), (b.token ∷ [], c.front, refl, b.one, c.spelt), refl), f.one),
         );
         places = of_declare Bool Bool form_placed (λ z. z.form) r y (d' ∷ []) ∙ ap (λ v. v && true) c.places ∙ sym (of_declare Bool Bool form_placed (λ z. z.form) s y (d ∷ []));
+        early = of_declare Bool Bool early_form (λ z. z.form) r y (d' ∷ []) ∙ ap (λ v. is_int y && v) c.sums ∙ sym (of_declare Bool Bool early_form (λ z. z.form) s y (d ∷ []));
         depth = of_declare ℕ ℕ form_depth (λ z. suc z.form) r y (d' ∷ []) ∙ ap (λ n. suc (max (ty_depth y) (max (suc n) 0))) c.depth ∙ sym (of_declare ℕ ℕ form_depth (λ z. suc z.form) s y (d ∷ []));
         means = means_declare bounds r from scope slot x t c.prog y d' (record { name = rule.name; type = rule.type; next = rule.next; once = rule.once; value = c.at });
         same = of_pdeclare PForm PStmt spanless_form stmt_without_span r slot x t c.prog ∙ ap (λ v. pstmt no_span (roll-PForm (S.Declare slot x t v))) c.same ∙ sym (of_pdeclare PForm PStmt spanless_form stmt_without_span s slot x t value);
@@ -187,6 +193,7 @@ module _ (bounds : Bounds) (slots from : ℕ) (scope : List Variable) where
         spelt = close_stmt (F.Assign a.tree c.tree) (form.Assign a.tree c.tree) front (form.rolls-Assign a.tree c.tree)
             (a.front, b.token ∷ behind, refl, a.spelt, (b.token ∷ [], behind, refl, b.one, (c.front, f.token ∷ [], refl, c.spelt, f.one)));
         places = of_assign Bool Bool form_placed (λ z. z.form) r a.tree c.tree ∙ (λ i. (a.alike.place i).placed && (c.alike.place i).placed) ∙ sym (of_assign Bool Bool form_placed (λ z. z.form) s x y);
+        early = of_assign Bool Bool early_form (λ z. z.form) r a.tree c.tree ∙ (λ i. a.alike.name i && is_sum (c.alike.ranks i)) ∙ sym (of_assign Bool Bool early_form (λ z. z.form) s x y);
         depth = of_assign ℕ ℕ form_depth (λ z. suc z.form) r a.tree c.tree ∙ (λ i. suc (max (a.alike.depth i) (c.alike.depth i))) ∙ sym (of_assign ℕ ℕ form_depth (λ z. suc z.form) s x y);
         means = means_assign bounds r from scope a.prog c.prog a.tree c.tree t (record {
           target = record { is_at = record { means = a.means; type = a.type ∙ rule.target.is_at.type }; target = a.alike.target rule.target.target };
@@ -217,6 +224,7 @@ module _ (bounds : Bounds) (slots from : ℕ) (scope : List Variable) where
         spelt = close_stmt (F.Assert c.tree) (form.Assert c.tree) front (form.rolls-Assert c.tree)
             (a.token ∷ [], behind, refl, a.one, (c.front, f.token ∷ [], refl, c.spelt, f.one));
         places = of_assert Bool Bool form_placed (λ z. z.form) r c.tree ∙ (λ i. (c.alike.place i).placed) ∙ sym (of_assert Bool Bool form_placed (λ z. z.form) s x);
+        early = of_assert Bool Bool early_form (λ z. z.form) r c.tree ∙ ap is_equation c.alike.ranks ∙ sym (of_assert Bool Bool early_form (λ z. z.form) s x);
         depth = of_assert ℕ ℕ form_depth (λ z. suc z.form) r c.tree ∙ (λ i. suc (c.alike.depth i)) ∙ sym (of_assert ℕ ℕ form_depth (λ z. suc z.form) s x);
         means = means_assert bounds r from scope c.prog c.tree (record { means = c.means; type = c.type ∙ rule.type });
         same = of_passert PForm PStmt spanless_form stmt_without_span r c.prog ∙ (λ i. pstmt no_span (roll-PForm (S.Assert (c.same i)))) ∙ sym (of_passert PForm PStmt spanless_form stmt_without_span s p);

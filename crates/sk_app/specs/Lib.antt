@@ -1,4 +1,8 @@
 pub mod Early
+pub mod EarlySpelt
+pub mod EarlyPlaced
+pub mod EarlyDepth
+pub mod EarlyReads
 pub mod Ending
 pub mod Streams
 pub mod ReadStep
