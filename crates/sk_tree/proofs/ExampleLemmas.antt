@@ -1,15 +1,12 @@
 -- What the definitions compute on the trees of the examples.
-use Rattle.std.proofs.Common.{◌≡◌, Bool, true, false, refl, ap, ◌∙◌, List, [], ◌∷◌, Option, Some, None, codes}
+use Rattle.std.proofs.Common.{◌≡◌, Bool, true, false, refl, ap, ◌∙◌, [], ◌∷◌, Some, None, codes}
 use Rattle.sk_tree.specs.declared.token.Kind.TheVariants as kind
-use Rattle.sk_tree.specs.declared.token.Mark.TheVariants as mark
-use Rattle.sk_tree.specs.declared.token.Key.TheVariants as key
 use Rattle.sk_tree.specs.declared.expr.EForm.TheVariants as eform
 use Rattle.sk_tree.specs.declared.stmt.Form.TheVariants as form
-use Rattle.sk_tree.specs.declared.stmt.StepKind.TheVariants as step
-use Rattle.sk_tree.specs.Placed.{Place, eform_place, expr_place, field_placed, place_of, Stand, closed, if_stand, form_stand, stand_of, stmt_placed, expr_placed}
-use Rattle.sk_tree.specs.Spelt.{Role, InBlock}
-use Rattle.sk_tree.specs.Spell.{Kinds, spell_eform, spell_new_field, spell_expr, spell_form, spell_stmt, spell}
-use Rattle.sk_tree.specs.Examples.{nowhere, expr, stmt, a, b, i, number, empty, dangling, nearest, counting, loop, loop_kinds}
+use Rattle.sk_tree.specs.Placed.{Place, eform_place, expr_place, field_placed, Stand, closed, if_stand, form_stand, stand_of, stmt_placed, expr_placed}
+use Rattle.sk_tree.specs.Spelt.{Role}
+use Rattle.sk_tree.specs.Spell.{Kinds, spell_eform, spell_new_field, spell_expr, spell_form, spell}
+use Rattle.sk_tree.specs.Examples.{nowhere, expr, stmt, a, b, number, empty, dangling, nearest, loop, loop_kinds}
 use Rattle.sk_tree.proofs.Folds.{of_word, of_number, of_binary, of_empty, of_assign, of_step, of_if, of_if_else, of_for}
 
 -- where statements stand

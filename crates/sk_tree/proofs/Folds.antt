@@ -1,8 +1,7 @@
 -- What a fold gives for each form of an expression, a statement and a pattern.
-use Rattle.std.proofs.Common.{◌≡◌, ℕ, List, map, Option, Some, None, sym, ap, ◌∙◌}
+use Rattle.std.proofs.Common.{◌≡◌, ℕ, List, Option, Some, None, sym, ap, ◌∙◌}
 use Rattle.sk_base.specs.declared.span.Span.{Span}
 use Rattle.sk_tree.specs.declared.token.Mark.{Mark}
-use Rattle.sk_tree.specs.declared.pattern.Pattern.{Pattern}
 use Rattle.sk_tree.specs.declared.expr.Expr.{Expr}
 use Rattle.sk_tree.specs.declared.expr.EForm.{EForm}
 use Rattle.sk_tree.specs.declared.expr.EForm.TheVariants as eform
@@ -16,9 +15,7 @@ use Rattle.sk_tree.specs.declared.stmt.Form.TheVariants as form
 use Rattle.sk_tree.specs.declared.stmt.Form.TheOpen as F
 use Rattle.sk_tree.specs.declared.stmt.Form.TheViews.{roll-Form}
 use Rattle.sk_tree.specs.declared.stmt.Form.TheFolds.{map-Form, fold-Form, fold-Stmt, fold-roll-Form, fold-roll-Stmt}
-use Rattle.sk_tree.specs.declared.stmt.Declared.{Declared}
 use Rattle.sk_tree.specs.declared.stmt.StepKind.{StepKind}
-use Rattle.sk_tree.specs.declared.item.TyTree.{TyTree}
 
 abbrev expr : Span → EForm → Expr
 expr s f = record { span = s; form = f }

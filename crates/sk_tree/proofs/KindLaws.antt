@@ -1,24 +1,23 @@
 -- Tokens that spell a tree have the kinds that it spells.
-use Rattle.std.proofs.Common.{◌≡◌, List, [], ◌∷◌, map, refl, sym, ap, subst, Option, Some, None, false, true}
+use Rattle.std.proofs.Common.{◌≡◌, List, [], ◌∷◌, map, sym, ap, Option, Some, None, false, true}
 use Rattle.sk_tree.specs.declared.token.Token.{Token}
 use Rattle.sk_tree.specs.declared.token.Kind.TheVariants as kind
 use Rattle.sk_tree.specs.declared.token.Mark.TheVariants as mark
 use Rattle.sk_tree.specs.declared.token.Key.TheVariants as key
 use Rattle.sk_tree.specs.declared.pattern.Pattern.{Pattern}
 use Rattle.sk_tree.specs.declared.pattern.Pattern.TheOpen as P
-use Rattle.sk_tree.specs.declared.pattern.Pattern.TheViews.{roll-Pattern}
-use Rattle.sk_tree.specs.declared.pattern.Pattern.TheFolds.{map-Pattern, fold-Pattern, fold-roll-Pattern}
+use Rattle.sk_tree.specs.declared.pattern.Pattern.TheFolds.{map-Pattern, fold-roll-Pattern}
 use Rattle.sk_tree.specs.declared.expr.Expr.{Expr}
 use Rattle.sk_tree.specs.declared.expr.EForm.{EForm}
 use Rattle.sk_tree.specs.declared.expr.NewField.{NewField}
 use Rattle.sk_tree.specs.declared.expr.EForm.TheOpen as E
 use Rattle.sk_tree.specs.declared.expr.EForm.TheViews.{roll-EForm}
-use Rattle.sk_tree.specs.declared.expr.EForm.TheFolds.{map-EForm, fold-EForm, fold-Expr, fold-NewField, fold-roll-EForm, fold-roll-Expr, fold-roll-NewField}
+use Rattle.sk_tree.specs.declared.expr.EForm.TheFolds.{map-EForm, fold-EForm, fold-NewField, fold-roll-EForm, fold-roll-Expr, fold-roll-NewField}
 use Rattle.sk_tree.specs.declared.stmt.Stmt.{Stmt}
 use Rattle.sk_tree.specs.declared.stmt.Form.{Form}
 use Rattle.sk_tree.specs.declared.stmt.Form.TheOpen as F
 use Rattle.sk_tree.specs.declared.stmt.Form.TheViews.{roll-Form}
-use Rattle.sk_tree.specs.declared.stmt.Form.TheFolds.{map-Form, fold-Form, fold-Stmt, fold-roll-Form, fold-roll-Stmt}
+use Rattle.sk_tree.specs.declared.stmt.Form.TheFolds.{map-Form, fold-Form, fold-roll-Form, fold-roll-Stmt}
 use Rattle.sk_tree.specs.declared.stmt.Declared.{Declared}
 use Rattle.sk_tree.specs.declared.stmt.StepKind.{StepKind}
 use Rattle.sk_tree.specs.declared.stmt.StepKind.TheVariants as step
@@ -33,9 +32,9 @@ use Rattle.sk_tree.specs.declared.item.FunItem.{FunItem}
 use Rattle.sk_tree.specs.declared.item.Item.{Item}
 use Rattle.sk_tree.specs.declared.item.Item.TheVariants as item
 use Rattle.sk_tree.specs.declared.item.Tree.{Tree}
-use Rattle.sk_tree.specs.Phrase.{Phrase, Never, One, Sign, Keyword, ◌▸◌, Each}
+use Rattle.sk_tree.specs.Phrase.{Phrase, One, Sign, Keyword, ◌▸◌, Each}
 use Rattle.sk_tree.specs.Spelt.{PatternRole, AsChoice, AsSequence, AsPart, AsPlain, SpeltPart, SpeltPattern, SpeltExpr, SpeltTarget, SpeltBase, SpeltLength, SpeltTy, Role, InBlock, AsBody, AsFirst, AsNext, Ending, SpeltDeclared, SpeltStep, SpeltParens, SpeltStmt, SpeltField, SpeltRef, SpeltParam, SpeltKind, SpeltResult, SpeltFun, SpeltItem, SpeltTree}
-use Rattle.sk_tree.specs.Spell.{Kinds, ◌▹◌, each, word, number, sign, keyword, perhaps, spell_part, spell_pattern, spell_eform, spell_new_field, spell_expr, spell_base, spell_length, spell_ty, ending, spell_declared, spell_step, spell_parens, spell_form, spell_stmt, spell_field, spell_ref, spell_param, spell_kind, spell_result, spell_fun, spell_item, spell}
+use Rattle.sk_tree.specs.Spell.{Kinds, ◌▹◌, each, word, sign, keyword, perhaps, spell_part, spell_pattern, spell_eform, spell_new_field, spell_expr, spell_base, spell_length, spell_ty, ending, spell_declared, spell_step, spell_parens, spell_form, spell_stmt, spell_field, spell_ref, spell_param, spell_kind, spell_result, spell_fun, spell_item, spell}
 use Rattle.sk_tree.proofs.Says.{kinds, Says, says_same, says_nothing, says_one, says_never, says_then, says_given, says_spans, says_each, says_between, all_each, all_between, all_perhaps}
 use Rattle.sk_tree.proofs.Layers.{PatternLayer, pattern_parts, pattern_law, PartLayer, part_spelt, ExprLayer, expr_parts, expr_law, FormBy, FieldBy, LayerBy, form_by, expr_by, field_by, StmtLayer, stmt_parts, stmt_law, SpeltForm, FormLayer, form_is, stmt_is}
 

@@ -1,7 +1,5 @@
 -- What spelling says of a tree that is built from one layer, and what holds of all trees because each layer keeps it.
-use Rattle.std.proofs.Common.{◌≡◌, List, [], ◌∷◌, map, map-id, refl, sym, ap, ◌∙◌, subst, Option, Some, None, IsTrue, true}
-use Rattle.sk_base.specs.declared.span.Span.{Span}
-use Rattle.sk_tree.specs.declared.token.Token.{Token}
+use Rattle.std.proofs.Common.{◌≡◌, List, [], ◌∷◌, map, map-id, refl, sym, ap, subst, Some, None, IsTrue, true}
 use Rattle.sk_tree.specs.declared.token.Kind.TheVariants as kind
 use Rattle.sk_tree.specs.declared.token.Mark.TheVariants as mark
 use Rattle.sk_tree.specs.declared.token.Key.TheVariants as key
@@ -19,9 +17,9 @@ use Rattle.sk_tree.specs.declared.stmt.Stmt.{Stmt}
 use Rattle.sk_tree.specs.declared.stmt.Form.{Form}
 use Rattle.sk_tree.specs.declared.stmt.Form.TheOpen as F
 use Rattle.sk_tree.specs.declared.stmt.Form.TheViews.{roll-Form, roll-Stmt}
-use Rattle.sk_tree.specs.declared.stmt.Form.TheFolds.{map-Form, ind-Stmt, rec-Form, rec-Stmt, rec-roll-Form, rec-roll-Stmt}
-use Rattle.sk_tree.specs.Phrase.{Phrase, Given, One, Sign, Keyword, ◌▸◌, Each, Between}
-use Rattle.sk_tree.specs.Spelt.{Spans, PatternRole, AsChoice, AsSequence, AsPart, AsPlain, pattern_spelt, SpeltPart, Saying, eform_spelt, expr_spelt, field_spelt, SpeltPattern, SpeltExpr, Role, InBlock, AsBody, form_spelt, stmt_spelt, SpeltStmt, Whole, SpeltParens, are_some}
+use Rattle.sk_tree.specs.declared.stmt.Form.TheFolds.{map-Form, ind-Stmt, rec-Form, rec-roll-Form, rec-roll-Stmt}
+use Rattle.sk_tree.specs.Phrase.{Phrase, Given, One, Sign, Keyword, ◌▸◌, Between}
+use Rattle.sk_tree.specs.Spelt.{Spans, PatternRole, AsChoice, AsSequence, AsPart, AsPlain, pattern_spelt, SpeltPart, Saying, eform_spelt, expr_spelt, field_spelt, Role, InBlock, form_spelt, stmt_spelt, SpeltStmt, Whole, are_some}
 use Rattle.sk_tree.proofs.Says.{each_map, between_map}
 
 -- Patterns

@@ -4,3 +4,4 @@ pub mod Layers
 pub mod KindLaws
 pub mod TextLemmas
 pub mod ExampleLemmas
+pub mod OfferLemmas

@@ -1,10 +1,10 @@
 -- Which kinds the tokens of a phrase have.
-use Rattle.std.proofs.Common.{◌≡◌, Bool, IsTrue, List, [], ◌∷◌, ◌++◌, map, refl, sym, ap, ◌∙◌, subst, Option, Some, None}
+use Rattle.std.proofs.Common.{◌≡◌, List, [], ◌∷◌, ◌++◌, map, refl, ap, ◌∙◌, subst, Option, Some, None}
 use Rattle.std.proofs.lemmas.List.{map-append}
 use Rattle.sk_base.specs.declared.span.Span.{Span}
 use Rattle.sk_tree.specs.declared.token.Token.{Token}
 use Rattle.sk_tree.specs.declared.token.Kind.{Kind}
-use Rattle.sk_tree.specs.Phrase.{Phrase, Nothing, Given, One, ◌▸◌, Each, Behind, Between, Perhaps, span_of}
+use Rattle.sk_tree.specs.Phrase.{Phrase, Nothing, Given, One, ◌▸◌, Each, Behind, Between, Perhaps}
 use Rattle.sk_tree.specs.Spelt.{Spans}
 use Rattle.sk_tree.specs.Spell.{Kinds, each, behind, between, perhaps}
 

@@ -1,16 +1,14 @@
 -- Pieces of texts that are given byte by byte.
-use Rattle.std.proofs.Common.{◌≡◌, ℕ, zero, suc, ◌+◌, ◌<◌, ◌≤◌, Bool, true, false, ◌&&◌, List, [], ◌∷◌, ◌++◌, length, take, Option, Some, None, refl, sym, ap, ◌∙◌, subst, arith, codes, ◌⊎◌, inl, inr}
+use Rattle.std.proofs.Common.{◌≡◌, ℕ, zero, suc, ◌+◌, ◌<◌, ◌≤◌, Bool, true, false, ◌&&◌, List, [], ◌∷◌, length, take, Option, Some, None, refl, sym, subst, arith, codes, ◌⊎◌, inl, inr}
 use Rattle.std.proofs.Math.Nat.{eq-or-lt_of_le}
 use Rattle.sk_tree.specs.declared.shape.Shape.{Shape}
 use Rattle.sk_tree.specs.declared.shape.Shape.TheVariants as shape
-use Rattle.sk_tree.specs.declared.token.Token.{Token}
-use Rattle.sk_tree.specs.declared.token.Key.TheVariants as key
 use Rattle.sk_tree.specs.declared.token.Kind.TheVariants as kind
 use Rattle.sk_tree.specs.declared.token.Mark.TheVariants as mark
 use Rattle.sk_tree.specs.Spelling.{key_of, single_mark, double_mark}
 use Rattle.sk_tree.specs.Shapes.{is_blank, is_letter, is_digit, shape_of}
-use Rattle.sk_tree.specs.Longest.{Longest, Stands, NoComment, opens_comment}
-use Rattle.sk_tree.specs.Tokens.{IsPiece, Divides, AreTokens, IsFirstFault, OpenComment, number_of, greatest_number}
+use Rattle.sk_tree.specs.Longest.{Stands, NoComment, opens_comment}
+use Rattle.sk_tree.specs.Tokens.{AreTokens, IsFirstFault, OpenComment, number_of}
 use Rattle.sk_tree.specs.Examples.{commented, unclosed, token_from}
 
 abbrev pub is_none : Option Shape → Bool

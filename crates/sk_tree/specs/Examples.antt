@@ -1,10 +1,9 @@
 -- Small trees, patterns and texts for the examples.
-use Rattle.std.specs.Prelude.{ℕ, List, [], ◌∷◌, Option, Some, None, codes, false}
+use Rattle.std.specs.Prelude.{ℕ, List, [], ◌∷◌, ◌++◌, Some, None, codes}
 use Rattle.sk_base.specs.declared.span.Span.{Span}
 use Rattle.sk_tree.specs.declared.token.Token.{Token}
 use Rattle.sk_tree.specs.declared.token.Kind.{Kind}
 use Rattle.sk_tree.specs.declared.token.Kind.TheVariants as kind
-use Rattle.sk_tree.specs.declared.token.Mark.{Mark}
 use Rattle.sk_tree.specs.declared.token.Mark.TheVariants as mark
 use Rattle.sk_tree.specs.declared.token.Key.TheVariants as key
 use Rattle.sk_tree.specs.declared.pattern.Pattern.{Pattern}
@@ -132,3 +131,36 @@ loop_kinds =
     ∷ kind.Word (codes "i") ∷ kind.Mark mark.Less ∷ kind.Number 3 ∷ kind.Mark mark.Semicolon
     ∷ kind.Word (codes "i") ∷ kind.Mark mark.Increment ∷ kind.Mark mark.CloseParen
     ∷ kind.Mark mark.Semicolon ∷ kind.Mark mark.CloseBrace ∷ []
+
+-- `int N = {| p | q |};` with its tokens and spans
+
+abbrev pub p_there : Token
+p_there = token_from 11 12 (kind.Word (codes "p"))
+
+abbrev pub q_there : Token
+q_there = token_from 15 16 (kind.Word (codes "q"))
+
+abbrev pub offer : Pattern
+offer = pattern.Choice (pattern.Seq (pattern.One p_there ∷ []) ∷ pattern.Seq (pattern.One q_there ∷ []) ∷ [])
+
+abbrev pub p_tree : Expr
+p_tree = record { span = record { from = 11; to = 12 }; form = eform.Word (codes "p") }
+
+abbrev pub q_tree : Expr
+q_tree = record { span = record { from = 15; to = 16 }; form = eform.Word (codes "q") }
+
+abbrev pub offer_tokens : List Token
+offer_tokens =
+    token_from 8 10 (kind.Mark mark.OpenPattern) ∷ p_there ∷ token_from 13 14 (kind.Mark mark.Bar) ∷ q_there
+    ∷ token_from 17 19 (kind.Mark mark.ClosePattern) ∷ []
+
+abbrev pub offering : Expr
+offering = record { span = record { from = 8; to = 19 }; form = eform.Pattern offer (p_tree ∷ q_tree ∷ []) }
+
+abbrev pub offered : Tree
+offered = record { items = item.Const (codes "N") offering ∷ [] }
+
+abbrev pub offered_tokens : List Token
+offered_tokens =
+    token_from 0 3 (kind.Key key.Int) ∷ token_from 4 5 (kind.Word (codes "N")) ∷ token_from 6 7 (kind.Mark mark.Assign)
+    ∷ (offer_tokens ++ (token_from 19 20 (kind.Mark mark.Semicolon) ∷ []))

@@ -3,8 +3,9 @@
 ghost use Rattle.std.specs.Prelude.{◌≡◌, List, [], ◌∷◌, true, false, codes};
 ghost use Rattle.sk_tree.specs.declared.token.Kind.TheVariants.{Word, Number};
 ghost use Rattle.sk_tree.specs.Tokens.{AreTokens, IsFirstFault, OpenComment};
-ghost use Rattle.sk_tree.specs.Examples.{p, q, next, dot, maybe_next, a, b, c, minus, dangling, nearest, chosen, commented, unclosed, token_from, loop, loop_kinds};
+ghost use Rattle.sk_tree.specs.Examples.{p, q, next, dot, maybe_next, a, b, c, minus, dangling, nearest, chosen, commented, unclosed, token_from, loop, loop_kinds, offered, offered_tokens};
 ghost use Rattle.sk_tree.specs.Strings.{strings_of};
+ghost use Rattle.sk_tree.specs.Reads.{Reads};
 ghost use Rattle.sk_tree.specs.Spell.{spell};
 ghost use Rattle.sk_tree.specs.Placed.{expr_placed, stmt_placed};
 ghost use Rattle.sk_tree.specs.Depth.{tree_depth};
@@ -44,4 +45,9 @@ pub fn fault_of_a_text()
 /// A `for` is spelt with its first and its next without a `;`.
 pub fn spelling_of_a_loop()
     ensures kinds { spell loop ≡ loop_kinds }
+{}
+
+/// `int N = {| p | q |};` reads as a constant whose pattern holds the trees of its two strings, with their spans.
+pub fn reading_of_a_pattern()
+    ensures reads { Reads offered_tokens offered }
 {}
