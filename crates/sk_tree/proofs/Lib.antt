@@ -5,3 +5,4 @@ pub mod KindLaws
 pub mod TextLemmas
 pub mod ExampleLemmas
 pub mod OfferLemmas
+pub mod EmptyString

@@ -6,6 +6,7 @@ ghost use Rattle.sk_tree.specs.Tokens.{AreTokens, IsFirstFault, OpenComment};
 ghost use Rattle.sk_tree.specs.Examples.{p, q, next, dot, maybe_next, a, b, c, minus, dangling, nearest, chosen, commented, unclosed, token_from, loop, loop_kinds, offered, offered_tokens};
 ghost use Rattle.sk_tree.specs.Strings.{strings_of};
 ghost use Rattle.sk_tree.specs.Reads.{Reads};
+ghost use Rattle.sk_tree.specs.Spelt.{ReadsNot};
 ghost use Rattle.sk_tree.specs.Spell.{spell};
 ghost use Rattle.sk_tree.specs.Placed.{expr_placed, stmt_placed};
 ghost use Rattle.sk_tree.specs.Depth.{tree_depth};
@@ -50,4 +51,9 @@ pub fn spelling_of_a_loop()
 /// `int N = {| p | q |};` reads as a constant whose pattern holds the trees of its two strings, with their spans.
 pub fn reading_of_a_pattern()
     ensures reads { Reads offered_tokens offered }
+{}
+
+/// No expression has no tokens: so `{| a? |}` has a bad alternative, its empty string.
+pub fn reading_of_the_empty_string()
+    ensures refused { ReadsNot [] }
 {}
