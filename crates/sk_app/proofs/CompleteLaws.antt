@@ -23,10 +23,13 @@ use Rattle.sk_app.specs.Streams.{most_bytes}
 use Rattle.sk_app.specs.Built.{default_bounds, params_count, bits_count, most_bits, IsSmall, IsTree, IsTyped, IsBuilt, IsOnly}
 use Rattle.sk_app.specs.ResultText.{completed_text, none_text, IsCompletion, IsNone}
 use Rattle.sk_app.specs.Prepared.{IsUnbuilt}
-use Rattle.sk_app.specs.Filling.{IsEarlyExpansion}
+use Rattle.sk_app.specs.Filling.{IsPlain, IsEarlyExpansion}
 use Rattle.sk_app.specs.Running.{first_params}
 use Rattle.sk_app.specs.Searching.{search_bits}
-use Rattle.sk_app.proofs.FillingLaws.{early_filled}
+use Rattle.sk_app.specs.EarlyFilling.{early_fill}
+use Rattle.sk_app.proofs.TypingEarly.{prog_early}
+use Rattle.sk_app.proofs.FillingPlain.{prog_plain}
+use Rattle.sk_app.proofs.FillingWhole.{expand_whole, fill_whole, filled_is_early}
 use Rattle.sk_app.proofs.CostLaws.{costs_nothing, early_funs_of, some_is, none_is}
 use Rattle.sk_app.proofs.ShownFilling.{shown_filling}
 
@@ -42,12 +45,20 @@ bits_same e x = let same = first_is_all e.prog.funs (early_funs_of e.prog x.earl
 pub few_bits : {e : Expanded} → IsEarlyExpansion e default_bounds → bits_count e default_bounds ≤ most_bits → search_bits e default_bounds ≤ 15
 few_bits {e} x few = subst (λ n. n ≤ 15) (bits_same e x) few
 
+-- the program of a text is early, its holes are integers, and its functions have the slots that they need
+typed_early : (text : List ℕ) (p : Prog) → IsTyped text p → IsTrue (early_prog p)
+typed_early text p t = prog_early default_bounds t.tree p t.is_tree.early t.types
+
+pub typed_plain : (text : List ℕ) (p : Prog) → IsTyped text p → IsPlain p
+typed_plain text p t = prog_plain default_bounds t.tree p t.types (typed_early text p t)
+
 pub shown_of : (text : List ℕ) (e : Expanded) (a : Choice) → IsBuilt text e → IsEarlyExpansion e default_bounds → InRange e a → Shows (layout (fill e a)) default_bounds (fill e a)
 shown_of text e a b x range =
-    subst (λ z. InRange z a → Shows (layout (fill z a)) default_bounds (fill z a)) (sym b.expanded)
-    (shown_filling text b.typed.is_tree.tokens b.typed.tree default_bounds b.prog a b.typed.is_tree.lexed b.typed.is_tree.reads b.typed.types
-    (subst (λ z. IsTrue (early_prog z.prog)) b.expanded x.early) (omega arith) (omega arith))
-    range
+    let early = typed_early text b.prog b.typed in
+    subst (λ p. Shows (layout p) default_bounds p) (sym (fill_whole e a default_bounds x))
+    (subst (λ z. InRange z a → Shows (layout (early_fill z a)) default_bounds (early_fill z a)) (sym (b.expanded ∙ expand_whole default_bounds b.prog early (typed_plain text b.prog b.typed)))
+    (shown_filling text b.typed.is_tree.tokens b.typed.tree default_bounds b.prog a b.typed.is_tree.lexed b.typed.is_tree.reads b.typed.types early (omega arith) (omega arith))
+    range)
 
 -- a choice that meets the harness gives a completion
 pub completion_of : {text : List ℕ} {e : Expanded} {a : Choice} {out : List ℕ} → IsOnly text e → IsEarlyExpansion e default_bounds → InRange e a → Meets (fill e a) default_bounds → out ≡ completed_text e a 0 → IsCompletion text out
@@ -59,7 +70,7 @@ completion_of {text} {e} {a} {out} only x range meets is = record {
   in_range = range;
   shows = shown_of text e a only.built x range;
   meets = meets;
-  costs = costs_nothing (fill e a) default_bounds (early_filled e a x.early);
+  costs = costs_nothing (fill e a) default_bounds (filled_is_early e a default_bounds x);
   least = λ b r m v c. omega arith;
   is = is;
 }

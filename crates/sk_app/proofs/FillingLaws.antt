@@ -23,9 +23,11 @@ use Rattle.sk_prog.specs.declared.prog.Prog.{Prog}
 use Rattle.sk_model.specs.declared.expanded.Site.{Site}
 use Rattle.sk_model.specs.declared.expanded.Choice.{Choice}
 use Rattle.sk_model.specs.declared.expanded.Expanded.{Expanded}
-use Rattle.sk_model.specs.Sites.{site, expr_sites, stmt_sites, stmts_sites, funs_sites, sites}
-use Rattle.sk_model.specs.Fill.{value, expr_part, fill_expr, stmt_part, fill_stmts, stmts_count, fill_funs, fill, Fits, InRange}
+use Rattle.sk_model.specs.Parts.{value}
+use Rattle.sk_model.specs.Sites.{site}
+use Rattle.sk_model.specs.Fill.{Fits, InRange}
 use Rattle.sk_app.specs.Early.{Operand, poperator_rank, prank, is_sum, is_equation, is_variable, is_int_ty, is_none, is_absent, is_pharness, early_pparam, early_pstmt, early_pfun, early_funs, early_prog}
+use Rattle.sk_app.specs.EarlyFilling.{expr_sites, stmt_sites, stmts_sites, funs_sites, early_sites, expr_part, fill_expr, stmt_part, fill_stmts, stmts_count, fill_funs, early_fill}
 use Rattle.sk_app.specs.Filling.{IsEarlyExpansion, FromEarly, expr_narrow, stmt_narrow, stmts_narrow, funs_narrow, funs_count, are_numbers}
 use Rattle.sk_app.proofs.FillingEarly.{ranked, sum_ranked, equation_ranked, early_expr, variable_expr, early_stmt}
 
@@ -53,7 +55,7 @@ module _ (slots : ℕ) where
   is_var : (span : Span) (t : Option Ty) (x : ℕ) (name : Name) → is_variable slots (typed span t (eform.Var x name)) ≡ nat_lt x slots
   is_var span t x name = grind (arith, common_steps, the_lemmas)
 
-  variable_ranked : (e : PExpr) → IsTrue (is_variable slots e) → IsTrue (ranked (prank slots e))
+  pub variable_ranked : (e : PExpr) → IsTrue (is_variable slots e) → IsTrue (ranked (prank slots e))
   variable_ranked = variable_expr slots (λ e. IsTrue (ranked (prank slots e))) (λ span t x name h. ap ranked (rank_var span t x name h))
 
 -- Every hole of an early program is narrow.
@@ -249,14 +251,14 @@ module _ (slots : ℕ) (bounds : Bounds) (values : List ℕ) where
 
 -- Whole programs
 
-early_body : (f : Fun) → IsTrue (early_pfun f) → IsTrue (list_all (early_pstmt f.slots) f.body)
+pub early_body : (f : Fun) → IsTrue (early_pfun f) → IsTrue (list_all (early_pstmt f.slots) f.body)
 early_body f h = (and_parts (is_pharness f.kind && is_absent f.result && list_all early_pparam f.params && is_absent f.implements && nat_le (length f.params) f.slots) (list_all (early_pstmt f.slots) f.body) h).1
 
 none_is : {A : Type 0} (xs : List A) → IsTrue (is_none xs) → xs ≡ []
 none_is [] h = refl
 none_is (x ∷ xs) h = absurd (false≢true h)
 
-early_parts : (p : Prog) → IsTrue (early_prog p) → (p.structs ≡ []) × (p.consts ≡ []) × IsTrue (early_funs p.funs)
+pub early_parts : (p : Prog) → IsTrue (early_prog p) → (p.structs ≡ []) × (p.consts ≡ []) × IsTrue (early_funs p.funs)
 early_parts p h =
     let both = and_parts (is_none p.structs && is_none p.consts) (early_funs p.funs) h in
     let two = and_parts (is_none p.structs) (is_none p.consts) both.0 in
@@ -278,7 +280,7 @@ funs_counted bounds values (f ∷ []) h = rw (length-append (stmts_sites bounds 
 funs_counted bounds values (f ∷ g ∷ fs) h = absurd (false≢true h)
 
 -- the expansion's own sites have one size
-pub sites_sized : (bounds : Bounds) (p : Prog) → IsTrue (early_prog p) → Sized (2 ^ bounds.cbits) (sites bounds p)
+pub sites_sized : (bounds : Bounds) (p : Prog) → IsTrue (early_prog p) → Sized (2 ^ bounds.cbits) (early_sites bounds p)
 sites_sized bounds p h = funs_sized bounds p.funs ((early_parts p h).2)
 
 pub prog_is_narrow : (bounds : Bounds) (p : Prog) → bounds.cbits ≤ 31 → IsTrue (early_prog p) → IsTrue (funs_narrow bounds p.funs)
@@ -293,7 +295,7 @@ funs_filled values (f ∷ []) i h =
     and_from (is_pharness f.kind && is_absent f.result && list_all early_pparam f.params && is_absent f.implements && nat_le (length f.params) f.slots) (list_all (early_pstmt f.slots) (fill_stmts values f.body i)) both.0 (stmts_filled f.slots values f.body both.1 i)
 funs_filled values (f ∷ g ∷ fs) i h = absurd (false≢true h)
 
-pub early_filled : (e : Expanded) (a : Choice) → IsTrue (early_prog e.prog) → IsTrue (early_prog (fill e a))
+pub early_filled : (e : Expanded) (a : Choice) → IsTrue (early_prog e.prog) → IsTrue (early_prog (early_fill e a))
 early_filled e a h =
     let both = and_parts (is_none e.prog.structs && is_none e.prog.consts) (early_funs e.prog.funs) h in
     and_from (is_none e.prog.structs && is_none e.prog.consts) (early_funs (fill_funs a.values e.prog.funs 0)) both.0 (funs_filled a.values e.prog.funs 0 both.1)
@@ -303,7 +305,7 @@ funs_bare bounds values [] i h = absurd (false≢true h)
 funs_bare bounds values (f ∷ []) i h = rw (stmts_bare f.slots bounds values f.body (early_body f h) i) refl
 funs_bare bounds values (f ∷ g ∷ fs) i h = absurd (false≢true h)
 
-pub filled_bare : (bounds : Bounds) (e : Expanded) (a : Choice) → IsTrue (early_prog e.prog) → sites bounds (fill e a) ≡ []
+pub filled_bare : (bounds : Bounds) (e : Expanded) (a : Choice) → IsTrue (early_prog e.prog) → early_sites bounds (early_fill e a) ≡ []
 filled_bare bounds e a h = funs_bare bounds a.values e.prog.funs 0 ((early_parts e.prog h).2)
 
 -- what a filling keeps of a function

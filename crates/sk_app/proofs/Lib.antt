@@ -34,5 +34,7 @@ pub mod TypingEarly
 pub mod TypingChecks
 pub mod ShownFilled
 pub mod ShownFilling
+pub mod FillingWhole
+pub mod FillingPlain
 pub mod ShownNames
 pub mod CompleteLaws

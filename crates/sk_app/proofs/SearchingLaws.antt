@@ -14,13 +14,15 @@ use Rattle.sk_prog.specs.declared.prog.Fun.{Fun}
 use Rattle.sk_prog.specs.declared.prog.Prog.{Prog}
 use Rattle.sk_model.specs.declared.expanded.Choice.{Choice}
 use Rattle.sk_model.specs.declared.expanded.Expanded.{Expanded}
-use Rattle.sk_model.specs.Fill.{InRange, fill, fill_funs}
+use Rattle.sk_model.specs.Fill.{InRange, fill}
+use Rattle.sk_app.specs.EarlyFilling.{fill_funs}
 use Rattle.sk_model.specs.Meets.{Breaks, Meets}
 use Rattle.sk_app.specs.Early.{early_prog}
 use Rattle.sk_app.specs.Filling.{IsEarlyExpansion, FromEarly}
 use Rattle.sk_app.specs.Running.{IsNumber, AreNumbers, params_count, first_params, numbers}
 use Rattle.sk_app.specs.Searching.{digits, choice_at, input_at, NoneBreaks, NoneMeets}
-use Rattle.sk_app.proofs.FillingLaws.{Below, fits_below, below_fits, fits_length, expansion_sized, early_filled}
+use Rattle.sk_app.proofs.FillingLaws.{Below, fits_below, below_fits, fits_length, expansion_sized}
+use Rattle.sk_app.proofs.FillingWhole.{fill_is, filled_is_early}
 use Rattle.sk_app.proofs.SearchingDigits.{number, digits_length, digits_below, digits_number, number_below}
 use Rattle.sk_app.proofs.RunningLaws.{meets_early}
 
@@ -88,8 +90,8 @@ params_kept : (values : List ℕ) (fs : List Fun) → first_params (fill_funs va
 params_kept values [] = refl
 params_kept values (f ∷ fs) = refl
 
-pub same_params : (e : Expanded) (a : Choice) → params_count (fill e a) ≡ params_count e.prog
-same_params e a = params_kept a.values e.prog.funs
+pub same_params : (e : Expanded) (a : Choice) → FromEarly e → params_count (fill e a) ≡ params_count e.prog
+same_params e a from = ap params_count (fill_is e a from) ∙ params_kept a.values e.prog.funs
 
 module _ (e : Expanded) (bounds : Bounds) where
   pub none_meets_first : NoneMeets e bounds 0
@@ -107,7 +109,7 @@ module _ (e : Expanded) (bounds : Bounds) where
   from_early h = record { bounds = bounds; is = h }
 
   pub filled_early : IsEarlyExpansion e bounds → (a : Choice) → IsTrue (early_prog (fill e a))
-  filled_early h a = early_filled e a h.early
+  filled_early h a = filled_is_early e a bounds h
 
   pub all_choices : (total : ℕ) → total ≡ 2 ^ (length e.sites * bounds.cbits) → IsEarlyExpansion e bounds → NoneMeets e bounds total → (a : Choice) → InRange e a → Meets (fill e a) bounds → ⊥
   all_choices total is h none a range meets =

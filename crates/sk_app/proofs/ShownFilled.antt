@@ -2,7 +2,7 @@
 -- place of holes.
 use Rattle.std.proofs.Common.{◌≡◌, ℕ, zero, suc, max, ◌+◌, Bool, true, false, ◌&&◌, List, [], ◌∷◌, ◌++◌, Option, Some, None, refl, sym, ap, ◌∙◌, subst}
 use Rattle.std.specs.Prelude.{IsTrue, nat_lt, slice_get, if◌then◌else◌}
-use Rattle.std.proofs.lemmas.Bool.{and_parts, false≢true}
+use Rattle.std.proofs.lemmas.Bool.{and_from, and_parts, false≢true}
 use Rattle.sk_base.specs.declared.span.Span.{Span}
 use Rattle.sk_base.specs.declared.bounds.Bounds.{Bounds}
 use Rattle.sk_tree.specs.declared.token.Mark.{Mark}
@@ -28,7 +28,10 @@ use Rattle.sk_types.specs.Rules.{int, operator_of, class_of, operand, result_of,
 use Rattle.sk_types.specs.Scope.{lookup, Nearest}
 use Rattle.sk_types.specs.Types.{name_own, eform_own, operation_own, own, HasType, Wanted, MeansOperation, Means, TargetForm}
 use Rattle.sk_types.proofs.Nearest.{nearest_lookup}
-use Rattle.sk_model.specs.Fill.{Part, value, eform_part, expr_step, expr_part, fill_expr}
+use Rattle.sk_model.specs.Parts.{Part, value}
+use Rattle.sk_app.specs.Filling.{is_int_type, expr_ints}
+use Rattle.sk_app.proofs.FillingWhole.{ints_number, ints_var, ints_hole, ints_binary}
+use Rattle.sk_app.specs.EarlyFilling.{eform_part, expr_step, expr_part, fill_expr}
 use Rattle.sk_app.specs.Early.{Rank, Operand, Sum, Equation, Other, is_sum, is_equation, of_operands, poperator_rank, peform_rank, prank, variable_form, is_variable, is_int_ty}
 use Rattle.sk_app.proofs.ShownSpell.{is_name}
 use Rattle.sk_app.proofs.ShownMeans.{expr, pexpr, IsOperation, means_number, means_variable, means_binary, by_means}
@@ -189,6 +192,8 @@ module _ (bounds : Bounds) (values : List ℕ) (slots : ℕ) (scope : List Varia
     pub sum : IsTrue (is_sum (prank slots p)) → p.ty ≡ Some int → (i : ℕ) → FilledSum bounds scope (fill_expr values p i) p e
     pub equation : IsTrue (is_equation (prank slots p)) → (i : ℕ) → Filled bounds scope (fill_expr values p i) p e
     pub variable : IsTrue (is_variable slots p) → IsTrue (is_sum (prank slots p)) × (p.ty ≡ Some int)
+    pub ints_sum : IsTrue (is_sum (prank slots p)) → p.ty ≡ Some int → IsTrue (expr_ints p)
+    pub ints_equation : IsTrue (is_equation (prank slots p)) → IsTrue (expr_ints p)
 
   own_number : (s : Span) (n : ℕ) → own scope (expr s (eform.Number n)) ≡ number_own n
   own_number s n = of_number Own Own (Unit {0}) (eform_own scope) (λ x. x.form) (λ x. tt) s n
@@ -217,6 +222,8 @@ module _ (bounds : Bounds) (values : List ℕ) (slots : ℕ) (scope : List Varia
             });
         equation = λ h i. absurd (false≢true (subst (λ r. IsTrue (is_equation r)) rank h));
         variable = λ h. absurd (false≢true (subst IsTrue (of_pnumber Bool Bool (Unit {0}) (variable_form slots) (λ x. x.form) (λ x. tt) s t n) h));
+        ints_sum = λ h is. ints_number s t n;
+        ints_equation = λ h. ints_number s t n;
       }
 
   hole_fills : (s : Span) (t : Option Ty) → HasType hole_takes t → Fills (pexpr s t (peform.Hole None)) (expr s (eform.Hole None))
@@ -244,6 +251,8 @@ module _ (bounds : Bounds) (values : List ℕ) (slots : ℕ) (scope : List Varia
             });
         equation = λ h i. absurd (false≢true (subst (λ r. IsTrue (is_equation r)) rank h));
         variable = λ h. absurd (false≢true (subst IsTrue (of_phole Bool Bool (Unit {0}) (variable_form slots) (λ x. x.form) (λ x. tt) s t) h));
+        ints_sum = λ h is. ints_hole s t ∙ ap is_int_type is;
+        ints_equation = λ h. absurd (false≢true (subst (λ r. IsTrue (is_equation r)) rank h));
       }
 
   variable_fills : (s : Span) (t : Option Ty) (slot : ℕ) (x : List ℕ) (u : Ty) → t ≡ Some u → Nearest scope x slot u → Fills (pexpr s t (peform.Var slot x)) (expr s (eform.Word x))
@@ -263,6 +272,8 @@ module _ (bounds : Bounds) (values : List ℕ) (slots : ℕ) (scope : List Varia
             });
         equation = λ h i. absurd (var_no_equation (nat_lt slot slots) (subst (λ r. IsTrue (is_equation r)) rank h));
         variable = λ h. (subst (λ r. IsTrue (is_sum r)) (sym rank) (var_sum (nat_lt slot slots) (subst IsTrue (of_pvar Bool Bool (Unit {0}) (variable_form slots) (λ x. x.form) (λ x. tt) s t slot x) h)), is ∙ ap Some u_int);
+        ints_sum = λ h to. ints_var s t slot x;
+        ints_equation = λ h. ints_var s t slot x;
       }
 
   -- two filled operands under their operator
@@ -320,6 +331,17 @@ module _ (bounds : Bounds) (values : List ℕ) (slots : ℕ) (scope : List Varia
               result = rule.rule.result ∙ ap (λ w. Some (result_of k w)) u_int;
             }));
         variable = λ h. absurd (false≢true (subst IsTrue (of_pbinary Bool Bool (Unit {0}) (variable_form slots) (λ x. x.form) (λ x. tt) s t o a b) h));
+        ints_sum = λ h is.
+            let parts = sum_parts o (prank slots a) (prank slots b) (subst (λ r. IsTrue (is_sum r)) rank h) in
+            let some : Some int ≡ Some (result_of k u) = sym is ∙ rule.rule.result in
+            let inside : int ≡ result_of k u = cc in
+            let u_int : u ≡ int = sym (inside ∙ result_int k parts.class u) in
+            ints_binary s t o a b ∙ and_from (expr_ints a) (expr_ints b) (left.ints_sum parts.left (rule.rule.left ∙ ap Some u_int)) (right.ints_sum parts.right (rule.rule.right ∙ ap Some u_int));
+        ints_equation = λ h.
+            let parts = equation_parts o (prank slots a) (prank slots b) (subst (λ r. IsTrue (is_equation r)) rank h) in
+            let before : operand k (own scope x) (own scope y) ≡ Firm int = ap (λ c. operand c (own scope x) (own scope y)) parts.class ∙ operand_equal (own scope x) (own scope y) (left.owns parts.left) (right.owns parts.right) in
+            let u_int : u ≡ int = sym (subst (λ w. Wanted w (loose_takes k u) u) before rule.rule.wanted) in
+            ints_binary s t o a b ∙ and_from (expr_ints a) (expr_ints b) (left.ints_sum parts.left (rule.rule.left ∙ ap Some u_int)) (right.ints_sum parts.right (rule.rule.right ∙ ap Some u_int));
       }
 
   pub expr_fills : (p : PExpr) (e : Expr) → Means bounds scope p e → Fills p e

@@ -34,9 +34,9 @@ use Rattle.sk_types.specs.declared.scope.Variable.{Variable}
 use Rattle.sk_types.specs.Rules.{int, bit, in_range}
 use Rattle.sk_types.specs.Types.{IsAt, AnyAt, MeansDeclare, MeansAssign, Grows, form_after, after, form_most, most_within, most, StmtMeans, AllMean, parameters, FunMeans, ItemsMean, all_distinct, Types}
 use Rattle.sk_model.specs.declared.expanded.Choice.{Choice}
-use Rattle.sk_model.specs.Sites.{sites}
-use Rattle.sk_model.specs.Expand.{expand}
-use Rattle.sk_model.specs.Fill.{InRange, Part, value, fill_expr, value_part, expr_part, form_part, stmt_step, stmt_part, fill_stmts, stmts_count, fill_funs, fill}
+use Rattle.sk_model.specs.Parts.{Part, value}
+use Rattle.sk_model.specs.Fill.{InRange}
+use Rattle.sk_app.specs.EarlyFilling.{early_sites, early_expand, fill_expr, value_part, expr_part, form_part, stmt_step, stmt_part, fill_stmts, stmts_count, fill_funs, early_fill}
 use Rattle.sk_print.specs.Layout.{layout}
 use Rattle.sk_print.specs.Shows.{Shows}
 use Rattle.sk_app.specs.Early.{is_sum, prank, is_variable, is_int_ty, is_sum_pvalue, early_pform, early_pstmt, early_pparam, early_pfun, early_funs, is_none, early_prog}
@@ -181,7 +181,7 @@ stmts_fill bounds values slots from scope ints small (p ∷ ps) [] means early i
 
 -- Functions
 
-params_int : (ds : List ParamDef) → IsTrue (list_all early_pparam ds) → AllInt (parameters ds)
+pub params_int : (ds : List ParamDef) → IsTrue (list_all early_pparam ds) → AllInt (parameters ds)
 params_int [] h = tt
 params_int (d ∷ ds) h =
     let both = and_parts (early_pparam d) (list_all early_pparam ds) h in
@@ -236,9 +236,9 @@ below_at n (v ∷ vs) (suc i) some h = below_at n vs i some h.1
 
 -- Where the tokens of a text read as a tree that means an early program, the layout of each of its fillings in range
 -- shows that filling.
-pub shown_filling : (text : List ℕ) (ts : List Token) (tree : Tree) (bounds : Bounds) (prog : Prog) (a : Choice) → AreTokens text ts → Reads ts tree → Types tree bounds prog → IsTrue (early_prog prog) → bounds.cbits < bounds.int_bits → bounds.int_bits ≤ 32 → InRange (expand prog bounds) a → Shows (layout (fill (expand prog bounds) a)) bounds (fill (expand prog bounds) a)
+pub shown_filling : (text : List ℕ) (ts : List Token) (tree : Tree) (bounds : Bounds) (prog : Prog) (a : Choice) → AreTokens text ts → Reads ts tree → Types tree bounds prog → IsTrue (early_prog prog) → bounds.cbits < bounds.int_bits → bounds.int_bits ≤ 32 → InRange (early_expand prog bounds) a → Shows (layout (early_fill (early_expand prog bounds) a)) bounds (early_fill (early_expand prog bounds) a)
 shown_filling text ts tree bounds prog a lexed reads types early low narrow fits =
-    let below : Below (2 ^ bounds.cbits) a.values = fits_below (2 ^ bounds.cbits) (sites bounds prog) a.values (sites_sized bounds prog early) fits.fits in
+    let below : Below (2 ^ bounds.cbits) a.values = fits_below (2 ^ bounds.cbits) (early_sites bounds prog) a.values (sites_sized bounds prog early) fits.fits in
     let at_most : bounds.cbits ≤ bounds.int_bits - 1 = omega arith in
     let grows : 2 ^ bounds.cbits ≤ 2 ^ (bounds.int_bits - 1) = pow_mono {i = bounds.cbits} {j = bounds.int_bits - 1} at_most in
     let some : 0 < 2 ^ bounds.cbits = pow_pos bounds.cbits in
@@ -246,8 +246,8 @@ shown_filling text ts tree bounds prog a lexed reads types early low narrow fits
     let are = early_all prog.funs (and_parts (is_none prog.structs && is_none prog.consts) (early_funs prog.funs) early).1 in
     let f = funs_fill bounds a.values small tree.items prog.funs types.funs are 0 in
     let filled : Tree = record { items = f.trees } in
-    let filled_types : Types filled bounds (fill (expand prog bounds) a) = record { structs = types.structs; consts = types.consts; funs = f.means; distinct = subst (λ xs. IsTrue (all_distinct xs)) (sym f.named) types.distinct } in
-    shown (fill (expand prog bounds) a) bounds filled narrow (early_filled (expand prog bounds) a early) filled_types
+    let filled_types : Types filled bounds (early_fill (early_expand prog bounds) a) = record { structs = types.structs; consts = types.consts; funs = f.means; distinct = subst (λ xs. IsTrue (all_distinct xs)) (sym f.named) types.distinct } in
+    shown (early_fill (early_expand prog bounds) a) bounds filled narrow (early_filled (early_expand prog bounds) a early) filled_types
     (f.places ∙ reads.placed)
     (subst (λ n. suc n ≤ most_levels) (sym f.depth) reads.within)
     (f.names ∙ names_read text ts tree bounds prog lexed reads.spelt types)

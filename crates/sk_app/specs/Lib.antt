@@ -1,4 +1,5 @@
 pub mod Early
+pub mod EarlyFilling
 pub mod Ending
 pub mod Streams
 pub mod ReadStep

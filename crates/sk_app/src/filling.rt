@@ -1,12 +1,14 @@
 //! Expands and fills early programs, and counts their nodes.
 
 ghost use Rattle.std.specs.Prelude.{◌≡◌, ◌↔◌, ◌+◌, ◌^◌, ◌<◌, ◌≤◌, ◌++◌, ◌∷◌, [], All, IsTrue, IfOk, OnOk, MatchOption, length, slice_index_or};
-ghost use Rattle.sk_model.specs.Sites.{hole_bits, expr_sites, value_sites, stmt_sites, stmts_sites, funs_sites};
+ghost use Rattle.sk_model.specs.Parts.{value};
+ghost use Rattle.sk_model.specs.Sites.{hole_bits};
 ghost use Rattle.sk_model.specs.Expand.{expand};
-ghost use Rattle.sk_model.specs.Fill.{InRange, value, fill, fill_expr, fill_stmts, fill_funs, value_part, expr_part, stmt_part, stmts_count};
-ghost use Rattle.sk_model.specs.Nodes.{nodes, expr_nodes, value_nodes, stmt_nodes, stmts_nodes, consts_nodes, funs_nodes};
+ghost use Rattle.sk_model.specs.Fill.{InRange, fill};
+ghost use Rattle.sk_model.specs.Nodes.{nodes};
 ghost use Rattle.sk_app.specs.Early.{early_prog};
-ghost use Rattle.sk_app.specs.Filling.{IsEarlyExpansion, expr_narrow, value_narrow, stmt_narrow, stmts_narrow, funs_narrow, funs_count, are_numbers, FromEarly};
+ghost use Rattle.sk_app.specs.EarlyFilling.{expr_sites, value_sites, stmt_sites, stmts_sites, funs_sites, fill_expr, fill_stmts, fill_funs, value_part, expr_part, stmt_part, stmts_count, expr_nodes, value_nodes, stmt_nodes, stmts_nodes, consts_nodes, funs_nodes, early_nodes};
+ghost use Rattle.sk_app.specs.Filling.{IsPlain, IsEarlyExpansion, expr_narrow, value_narrow, stmt_narrow, stmts_narrow, funs_narrow, funs_count, are_numbers, FromEarly};
 
 use sk_base::{Bounds, Boxed, List, Name, Span};
 use sk_model::{Choice, Expanded, Site};
@@ -92,9 +94,10 @@ fn funs_sites(alloc: Global, funs: &[Fun], bounds: &Bounds) -> Result<Vec<Site>,
 }
 
 /// The expansion of an early program, which stands for itself.
-#[tactic(auto, using(crate::proofs::FillingLaws::prog_is_narrow))]
+#[tactic(auto, using(crate::proofs::FillingLaws::prog_is_narrow, crate::proofs::FillingWhole::expand_whole))]
 pub fn expand_early(alloc: Global, prog: Prog, bounds: &Bounds) -> Result<Expanded, AllocError>
     requires early { IsTrue (early_prog prog) }
+    requires plain { IsPlain prog }
     requires narrow { bounds.now.cbits ≤ 31 }
     ensures expanded { IfOk result (λ e. e ≡ expand prog bounds.now) }
     ensures early { IfOk result (λ e. IsEarlyExpansion e bounds.now) }
@@ -274,7 +277,7 @@ fn numbers(alloc: Global, values: &[u64]) -> Result<Vec<u32>, AllocError>
 }
 
 /// An early program with a number in the place of each hole.
-#[tactic(auto, using(crate::proofs::FillingLaws::filling))]
+#[tactic(auto, using(crate::proofs::FillingLaws::filling, crate::proofs::FillingWhole::fill_is))]
 pub fn fill_early(alloc: Global, expanded: &Expanded, choice: &Choice) -> Result<Prog, AllocError>
     requires early { FromEarly expanded.now }
     requires range { InRange expanded.now choice.now }
@@ -360,15 +363,17 @@ fn left_of_funs(room: usize, funs: &[Fun]) -> Option<usize>
 }
 
 fn left_of(room: usize, prog: &Prog) -> Option<usize>
-    ensures { MatchOption result (room < nodes prog.now) (λ rest. room ≡ rest + nodes prog.now) }
+    ensures { MatchOption result (room < early_nodes prog.now) (λ rest. room ≡ rest + early_nodes prog.now) }
 {
     let room = left_of_consts(room, prog.consts.as_slice())?;
     let room = left_of_funs(room, prog.funs.as_slice())?;
     Some(room)
 }
 
-/// Whether a program has at most so many nodes: statements and expressions, coercions not counted.
+/// Whether an early program has at most so many nodes: statements and expressions.
+#[tactic(auto, using(crate::proofs::FillingWhole::nodes_whole))]
 pub fn is_within(prog: &Prog, limit: usize) -> bool
+    requires { IsTrue (early_prog prog.now) }
     ensures { IsTrue result ↔ (nodes prog.now ≤ limit) }
 {
     left_of(limit, prog).is_some()

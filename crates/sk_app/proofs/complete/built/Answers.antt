@@ -3,8 +3,11 @@ use Rattle.std.specs.Prelude.{IfSome}
 use Rattle.std.proofs.lemmas.Bool.{false≢true}
 use Rattle.sk_model.specs.Expand.{expand}
 use Rattle.sk_app.specs.Built.{IsTyped}
-use Rattle.sk_app.proofs.CompleteLaws.{only_of, unbuilt_untyped, unbuilt_large}
+use Rattle.sk_app.proofs.CompleteLaws.{typed_plain, only_of, unbuilt_untyped, unbuilt_large}
 use Rattle.sk_app.proofs.complete.built.Goals as goal
+
+pub expand_early-requires-clause-plain : goal.expand_early-requires-clause-plain
+expand_early-requires-clause-plain c = typed_plain c.args.text.now c.in-Some.prog (subst (λ o. IfSome o (IsTyped c.args.text.now)) c.in-Some.is c.in_ok-prog.ensures.found)
 
 pub returns-then-is_small-clause-found : goal.returns-then-is_small-clause-found
 returns-then-is_small-clause-found c = only_of c.args.text.now c.in-Some.prog c.in_ok-expanded-in-Some.expanded c.requires

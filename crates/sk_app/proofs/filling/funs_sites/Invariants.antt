@@ -1,6 +1,6 @@
 use Rattle.std.proofs.Common.{◌≡◌, drop, ◌++◌}
 use Rattle.std.specs.Prelude.{IsTrue}
-use Rattle.sk_model.specs.Sites.{funs_sites}
+use Rattle.sk_app.specs.EarlyFilling.{funs_sites}
 use Rattle.sk_app.specs.Filling.{funs_narrow}
 use Rattle.sk_app.proofs.filling.funs_sites.Given as goal
 

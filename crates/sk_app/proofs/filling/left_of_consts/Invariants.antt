@@ -1,5 +1,5 @@
 use Rattle.std.proofs.Common.{◌≡◌, drop, ◌+◌}
-use Rattle.sk_model.specs.Nodes.{consts_nodes}
+use Rattle.sk_app.specs.EarlyFilling.{consts_nodes}
 use Rattle.sk_app.proofs.filling.left_of_consts.Given as goal
 
 -- what is left so far is what the rest has to fit into

@@ -1,5 +1,5 @@
 use Rattle.std.proofs.Common.{◌≡◌, drop, ◌+◌}
-use Rattle.sk_model.specs.Nodes.{funs_nodes}
+use Rattle.sk_app.specs.EarlyFilling.{funs_nodes}
 use Rattle.sk_app.proofs.filling.left_of_funs.Given as goal
 
 -- what is left so far is what the rest has to fit into

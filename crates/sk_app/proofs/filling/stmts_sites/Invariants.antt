@@ -1,6 +1,6 @@
 use Rattle.std.proofs.Common.{◌≡◌, drop, ◌++◌}
 use Rattle.std.specs.Prelude.{IsTrue}
-use Rattle.sk_model.specs.Sites.{stmts_sites}
+use Rattle.sk_app.specs.EarlyFilling.{stmts_sites}
 use Rattle.sk_app.specs.Filling.{stmts_narrow}
 use Rattle.sk_app.proofs.filling.stmts_sites.Given as goal
 

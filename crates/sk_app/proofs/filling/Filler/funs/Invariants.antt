@@ -1,5 +1,5 @@
 use Rattle.std.proofs.Common.{◌≡◌, drop, ◌++◌, ◌+◌}
-use Rattle.sk_model.specs.Fill.{fill_funs}
+use Rattle.sk_app.specs.EarlyFilling.{fill_funs}
 use Rattle.sk_app.specs.Filling.{funs_count}
 use Rattle.sk_app.proofs.filling.Filler.funs.Given as goal
 

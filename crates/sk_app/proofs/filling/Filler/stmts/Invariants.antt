@@ -1,5 +1,5 @@
 use Rattle.std.proofs.Common.{◌≡◌, drop, ◌++◌, ◌+◌}
-use Rattle.sk_model.specs.Fill.{fill_stmts, stmts_count}
+use Rattle.sk_app.specs.EarlyFilling.{fill_stmts, stmts_count}
 use Rattle.sk_app.proofs.filling.Filler.stmts.Given as goal
 
 -- what is filled from here, after what is filled so far, is all that is filled
