@@ -1,42 +1,32 @@
 -- The runs of early programs cost nothing: no statement of theirs is a `minimize`.
-use Rattle.std.proofs.Common.{ℕ, zero, suc, ◌≡◌, ◌<◌, ◌≤◌, List, [], ◌∷◌, refl, sym, ap, subst, ◌∙◌, arith, inl}
-use Rattle.std.specs.Prelude.{map, Bool, true, false, nat_lt, ◌&&◌, IsTrue, Option, Some, None, slice_get, if◌then◌else◌, count_by, ◌==◌, ◌++◌}
+use Rattle.std.proofs.Common.{ℕ, zero, suc, ◌≡◌, ◌≤◌, List, [], ◌∷◌, refl, sym, ap, subst, ◌∙◌, arith, inl}
+use Rattle.std.specs.Prelude.{Bool, true, false, nat_lt, IsTrue, Option, Some, None, slice_get, if◌then◌else◌, count_by, ◌==◌, ◌++◌}
 use Rattle.std.specs.Prelude.{ℤ, pos, negsuc}
 use Rattle.std.specs.List.{list_all}
 use Rattle.std.proofs.lemmas.Bool.{false≢true, and_parts}
-use Rattle.std.proofs.lemmas.Grind.{common_steps}
 use Rattle.sk_base.specs.declared.span.Span.{Span}
-use Rattle.sk_base.specs.declared.name.Name.{Name}
 use Rattle.sk_base.specs.declared.bounds.Bounds.{Bounds}
 use Rattle.sk_prog.specs.declared.ids.FunId.{FunId}
-use Rattle.sk_prog.specs.declared.ty.Ty.{Ty}
 use Rattle.sk_prog.specs.declared.value.Value.{Value}
 use Rattle.sk_prog.specs.declared.value.Value.TheVariants as value
 use Rattle.sk_prog.specs.declared.expr.BinOp.{BinOp}
 use Rattle.sk_prog.specs.declared.expr.BinOp.TheVariants as op
 use Rattle.sk_prog.specs.declared.expr.PExpr.{PExpr}
-use Rattle.sk_prog.specs.declared.expr.PEForm.TheVariants as eform
-use Rattle.sk_prog.specs.declared.expr.PEForm.TheOpen as P
-use Rattle.sk_prog.specs.declared.expr.PEForm.TheViews as V
-use Rattle.sk_prog.specs.declared.expr.PEForm.TheFolds.{the_lemmas, fold-roll-PExpr, fold-roll-PEForm}
 use Rattle.sk_prog.specs.declared.stmt.PStmt.{PStmt}
-use Rattle.sk_prog.specs.declared.stmt.PForm.TheVariants as form
-use Rattle.sk_prog.specs.declared.stmt.PForm.TheFolds.{the_lemmas as stmt_lemmas}
 use Rattle.sk_prog.specs.declared.prog.Fun.{Fun}
 use Rattle.sk_prog.specs.declared.prog.Prog.{Prog}
-use Rattle.sk_model.specs.declared.expanded.Input.{Input}
 use Rattle.sk_model.specs.declared.expanded.Obligation.{Obligation}
 use Rattle.sk_model.specs.declared.expanded.Obligation.TheVariants as obligation
 use Rattle.sk_model.specs.Step.{State, Step, Goes, Fails, Skips, Comp, and_then, ◌>>=◌, pure, fail}
 use Rattle.sk_model.specs.Heap.{Location, Variable, at_root, read, write, store}
 use Rattle.sk_model.specs.Operators.{Operand, Number, OneBit, Bits, operand, operator, on_operands, number_operator, bit_operator, bits_operator, shift, divided}
 use Rattle.sk_model.specs.Eval.{Called, Calls, eval, target, literal, choose, binary}
-use Rattle.sk_model.specs.Exec.{Flow, Onward, Returns, exec_stmt, exec_all, one_by_one, unless_returned, onward}
+use Rattle.sk_model.specs.Exec.{Flow, Onward, Returns, exec_stmt, exec_all, unless_returned, onward}
 use Rattle.sk_model.specs.Run.{in_frame, body_of, filled_bodies, calls, outcome_of, run, first_slots, most_calls, nowhere, start}
 use Rattle.sk_model.proofs.Forms.{does_number, does_var, does_hole, does_binary, exec_declare, exec_assign, exec_assert}
 use Rattle.sk_model.specs.Obligations.{obligations}
 use Rattle.sk_model.specs.Meets.{cost_of, cost_of_obligation, cost_on, IsGreatestCost}
-use Rattle.sk_app.specs.Early.{prank, is_sum, is_equation, is_variable, is_int_ty, early_pstmt, early_pfun, early_funs, early_prog, is_none, is_absent, is_pharness, early_pparam}
+use Rattle.sk_app.specs.Early.{prank, is_variable, early_pstmt, early_pfun, early_funs, early_prog}
 use Rattle.sk_app.proofs.FillingEarly.{ranked, sum_ranked, equation_ranked, early_expr, variable_expr, early_stmt}
 
 -- a step that goes on does so with the cost that there was

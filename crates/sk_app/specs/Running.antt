@@ -1,6 +1,6 @@
 -- What the direct run of early programs goes by. All their values are integers, so the variables are a
 -- list of integers here, the heap stays empty and nothing costs.
-use Rattle.std.specs.Prelude.{Option, Some, None, true, false, ℕ, ◌≡◌, ◌≤◌, ◌<◌, ◌^◌, ℤ, pos, List, [], ◌∷◌, map, All, length, Result, Ok, Err, Bool}
+use Rattle.std.specs.Prelude.{Option, Some, true, false, ℕ, ◌≡◌, ◌≤◌, ◌<◌, ◌^◌, ℤ, pos, List, [], ◌∷◌, map, All, length, Result, Ok, Err, Bool}
 use Rattle.sk_base.specs.Word.{IsWord}
 use Rattle.sk_base.specs.declared.bounds.Bounds.{Bounds}
 use Rattle.sk_prog.specs.declared.value.Value.{Value}

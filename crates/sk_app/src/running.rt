@@ -1,11 +1,11 @@
 //! Runs early programs. Each number in one is an integer's, which typing sees to and no clause says: a
 //! number of another type ends as want of memory does, of which nothing is promised.
 
-ghost use Rattle.std.specs.Prelude.{map, pos, [], ◌≡◌, ◌<◌, ◌≤◌, ◌+ℤ◌, ◌*ℤ◌, ◌++◌, ◌-◌, IsTrue, IfOk, OnOk, ◌↔◌, length, replicate, slice_index_or, slice_set};
+ghost use Rattle.std.specs.Prelude.{map, pos, [], ◌≡◌, ◌<◌, ◌≤◌, ◌+ℤ◌, ◌*ℤ◌, ◌++◌, ◌-◌, IsTrue, IfOk, OnOk, ◌↔◌, length, replicate, slice_index_or};
 ghost use Rattle.sk_base.specs.Word.{wrapped, IsWord};
 ghost use Rattle.sk_prog.specs.declared.value.Value.TheVariants as value;
 ghost use Rattle.sk_model.specs.Values.{equal};
-ghost use Rattle.sk_model.specs.Heap.{blank};
+ghost use Rattle.sk_model.specs.Heap.{blank, written};
 ghost use Rattle.sk_model.specs.Eval.{eval};
 ghost use Rattle.sk_model.specs.Exec.{exec_stmt, exec_all};
 ghost use Rattle.sk_model.specs.Run.{run, in_frame, outcome_of};
@@ -132,7 +132,7 @@ impl Frame {
         requires there { slot < length self.old }
         requires words { AreNumbers bits self.old }
         requires range { IsWord bits number }
-        ensures value { self.new ≡ slice_set self.old slot (value.Int number) }
+        ensures value { self.new ≡ written self.old slot (value.Int number) }
         ensures len { length self.new ≡ length self.old }
         ensures words { AreNumbers bits self.new }
     {

@@ -19,7 +19,7 @@ use Rattle.sk_prog.specs.declared.stmt.PForm.TheFolds.{map-PForm}
 use Rattle.sk_prog.specs.declared.prog.FunKind.{FunKind}
 use Rattle.sk_prog.specs.declared.prog.FunKind.TheVariants as kind
 use Rattle.sk_prog.specs.declared.prog.Fun.{Fun}
-use Rattle.sk_model.specs.Parts.{Part, in_turn, pick, value, joined, rank}
+use Rattle.sk_model.specs.Parts.{Part, in_turn, pick, value, rank}
 use Rattle.sk_model.specs.Sites.{is_hole}
 use Rattle.sk_model.specs.Filled.{is_yes, eform_filled, expr_filled, any_filled, form_filled, stmt_filled, fun_filled}
 use Rattle.sk_model.specs.Stands.{Payment, standing, funs_stand, all_paid}

@@ -1,9 +1,8 @@
 -- What a filled expression does under a choice is what it does in a run, and it has no sites.
-use Rattle.std.proofs.Common.{◌≡◌, ℕ, suc, ◌+◌, List, [], ◌∷◌, map, Option, Some, None, Bool, true, false, ◌&&◌, refl, sym, ap, subst, ◌∙◌, arith}
+use Rattle.std.proofs.Common.{◌≡◌, ℕ, ◌+◌, List, [], ◌∷◌, map, Option, Bool, ◌&&◌, refl, sym, ap, subst, ◌∙◌}
 use Rattle.std.specs.Prelude.{IsTrue}
 use Rattle.std.specs.List.{list_all}
 use Rattle.std.proofs.lemmas.Bool.{false≢true, and_parts}
-use Rattle.sk_base.specs.declared.span.Span.{Span}
 use Rattle.sk_base.specs.declared.bounds.Bounds.{Bounds}
 use Rattle.sk_prog.specs.declared.ty.Ty.{Ty}
 use Rattle.sk_prog.specs.declared.expr.PExpr.{PExpr}
@@ -11,7 +10,7 @@ use Rattle.sk_prog.specs.declared.expr.PField.{PField}
 use Rattle.sk_prog.specs.declared.expr.PEForm.{PEForm}
 use Rattle.sk_prog.specs.declared.expr.PEForm.TheOpen as P
 use Rattle.sk_prog.specs.declared.expr.PEForm.TheViews as V
-use Rattle.sk_prog.specs.declared.expr.PEForm.TheFolds.{map-PEForm, map-PExpr, map-PField, fold-PEForm, fold-PExpr, fold-PField, fold-roll-PEForm, fold-roll-PExpr, fold-roll-PField, ind-PExpr}
+use Rattle.sk_prog.specs.declared.expr.PEForm.TheFolds.{map-PEForm, map-PExpr, map-PField, fold-PEForm, fold-PField, fold-roll-PEForm, fold-roll-PExpr, fold-roll-PField, ind-PExpr}
 use Rattle.sk_prog.specs.declared.prog.Prog.{Prog}
 use Rattle.sk_model.specs.Parts.{Part, counts, in_turn}
 use Rattle.sk_model.specs.Eval.{Calls, Does, does, does_form}

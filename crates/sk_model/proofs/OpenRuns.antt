@@ -1,5 +1,5 @@
 -- A run of a filled program under a choice is its run.
-use Rattle.std.proofs.Common.{◌≡◌, ℕ, zero, suc, ◌+◌, List, [], ◌∷◌, ◌++◌, map, Option, Some, None, Bool, true, false, ◌&&◌, refl, sym, ap, subst, ◌∙◌}
+use Rattle.std.proofs.Common.{◌≡◌, ℕ, zero, suc, ◌+◌, List, [], ◌∷◌, ◌++◌, map, Option, Some, None, Bool, refl, ap, subst, ◌∙◌}
 use Rattle.std.specs.Prelude.{IsTrue, if◌then◌else◌, nat_lt, count_by, ◌==◌, slice_get}
 use Rattle.std.specs.List.{list_all}
 use Rattle.std.proofs.lemmas.Bool.{and_parts}
@@ -7,22 +7,19 @@ use Rattle.sk_base.specs.declared.span.Span.{Span}
 use Rattle.sk_base.specs.declared.bounds.Bounds.{Bounds}
 use Rattle.sk_prog.specs.declared.ids.FunId.{FunId}
 use Rattle.sk_prog.specs.declared.value.Value.{Value}
-use Rattle.sk_prog.specs.declared.stmt.PStmt.{PStmt}
 use Rattle.sk_prog.specs.declared.prog.FunKind.{FunKind}
 use Rattle.sk_prog.specs.declared.prog.FunKind.TheVariants as kind
 use Rattle.sk_prog.specs.declared.prog.Fun.{Fun}
 use Rattle.sk_prog.specs.declared.prog.Prog.{Prog}
 use Rattle.sk_model.specs.declared.expanded.Choice.{Choice}
 use Rattle.sk_model.specs.declared.expanded.Expanded.{Expanded}
-use Rattle.sk_model.specs.declared.outcome.Outcome.{Outcome}
 use Rattle.sk_model.specs.Parts.{in_turn}
-use Rattle.sk_model.specs.Stands.{standing, all_paid}
 use Rattle.sk_model.specs.Fill.{minimize_of, before_body}
 use Rattle.sk_model.specs.Step.{Comp, fail}
 use Rattle.sk_model.specs.Eval.{Called, Calls}
-use Rattle.sk_model.specs.Exec.{Flow, exec_stmt, exec_all, one_by_one}
+use Rattle.sk_model.specs.Exec.{exec_stmt, one_by_one}
 use Rattle.sk_model.specs.Run.{Bodies, in_frame, body_of, calls, outcome_of, most_calls, nowhere, start, filled_bodies, run_by, run}
-use Rattle.sk_model.specs.Filled.{stmt_filled, fun_filled, is_filled}
+use Rattle.sk_model.specs.Filled.{fun_filled, is_filled}
 use Rattle.sk_model.specs.Open.{open_stmt, sites_before, open_body, open_bodies, run_open}
 use Rattle.sk_model.proofs.OpenStmts.{filled_turn}
 use Rattle.sk_model.proofs.OpenPaid.{none_paid}

@@ -1,5 +1,5 @@
 -- What a filled statement does under a choice is what it does in a run, and it has no sites.
-use Rattle.std.proofs.Common.{◌≡◌, ℕ, suc, ◌+◌, List, [], ◌∷◌, map, Option, Some, None, Bool, true, false, ◌&&◌, refl, sym, ap, subst, ◌∙◌, arith}
+use Rattle.std.proofs.Common.{◌≡◌, ℕ, ◌+◌, List, [], ◌∷◌, map, Option, Some, None, Bool, true, ◌&&◌, refl, sym, ap, subst, ◌∙◌}
 use Rattle.std.specs.Prelude.{IsTrue}
 use Rattle.std.specs.List.{list_all}
 use Rattle.std.proofs.lemmas.Bool.{false≢true, and_parts}
@@ -10,14 +10,14 @@ use Rattle.sk_prog.specs.declared.stmt.PStmt.{PStmt}
 use Rattle.sk_prog.specs.declared.stmt.PForm.{PForm}
 use Rattle.sk_prog.specs.declared.stmt.PForm.TheOpen as S
 use Rattle.sk_prog.specs.declared.stmt.PForm.TheViews as W
-use Rattle.sk_prog.specs.declared.stmt.PForm.TheFolds.{map-PForm, map-PStmt, fold-PForm, fold-PStmt, fold-roll-PForm, fold-roll-PStmt, ind-PStmt}
+use Rattle.sk_prog.specs.declared.stmt.PForm.TheFolds.{map-PForm, map-PStmt, fold-PForm, fold-roll-PForm, fold-roll-PStmt, ind-PStmt}
 use Rattle.sk_prog.specs.declared.prog.Prog.{Prog}
-use Rattle.sk_model.specs.Parts.{Part, counts, in_turn}
+use Rattle.sk_model.specs.Parts.{Part, in_turn}
 use Rattle.sk_model.specs.Step.{Comp}
 use Rattle.sk_model.specs.Eval.{Calls, Does, does}
-use Rattle.sk_model.specs.Exec.{Flow, exec_form, exec_stmt, exec_all, one_by_one, declare, assign, drop_value, branch, turns, return, assert, assume, minimize, any_meaning}
-use Rattle.sk_model.specs.Filled.{is_yes, expr_filled, any_filled, other_filled, form_filled, stmt_filled}
-use Rattle.sk_model.specs.Open.{any_part, any_open, open_expr, open_form, open_stmt}
+use Rattle.sk_model.specs.Exec.{Flow, exec_form, exec_stmt, one_by_one, declare, assign, drop_value, branch, turns, return, assert, assume, minimize, any_meaning}
+use Rattle.sk_model.specs.Filled.{expr_filled, any_filled, form_filled, stmt_filled}
+use Rattle.sk_model.specs.Open.{any_open, open_expr, open_form, open_stmt}
 use Rattle.sk_model.proofs.OpenExprs.{Says, none_in, all_say, filled_expr}
 
 module _ (prog : Prog) (bounds : Bounds) (values : List ℕ) (call : Calls) where

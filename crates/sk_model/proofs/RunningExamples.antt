@@ -3,20 +3,16 @@ use Rattle.std.proofs.Common.{arith, refl, ap, ◌∙◌, None}
 use Rattle.std.specs.Ordering.{int_eq}
 use Rattle.sk_prog.specs.declared.value.Value.TheViews.{outs-Array, outs-Bit, outs-Int, outs-Null, outs-Place}
 use Rattle.sk_model.specs.Values.{equal}
-use Rattle.std.specs.Prelude.{map, ℕ, ℤ, List, ◌++◌, count_by, ◌==◌, nat_lt, if◌then◌else◌, slice_get, ◌≡◌, [], ◌∷◌, pos, negsuc}
+use Rattle.std.specs.Prelude.{map, ℕ, ℤ, List, ◌++◌, count_by, ◌==◌, nat_lt, if◌then◌else◌, slice_get, ◌≡◌, [], ◌∷◌}
 use Rattle.std.proofs.lemmas.Grind.{common_steps}
 use Rattle.sk_base.specs.Word.{wrapped}
 use Rattle.sk_prog.specs.declared.value.Value.TheVariants as value
-use Rattle.sk_prog.specs.declared.expr.BinOp.TheVariants as op
-use Rattle.sk_prog.specs.declared.expr.PExpr.{PExpr}
 use Rattle.sk_prog.specs.declared.value.Value.TheFolds.{the_lemmas as value_lemmas}
-use Rattle.sk_prog.specs.declared.expr.PEForm.TheFolds.{the_lemmas as expr_lemmas}
-use Rattle.sk_prog.specs.declared.stmt.PForm.TheFolds.{the_lemmas as stmt_lemmas}
 use Rattle.sk_base.specs.declared.span.Span.{Span}
 use Rattle.sk_prog.specs.declared.value.Value.{Value}
 use Rattle.sk_prog.specs.declared.prog.Prog.{Prog}
 use Rattle.sk_model.specs.Step.{State, Fails, fail}
-use Rattle.sk_model.specs.Run.{calls, Bodies, filled_bodies, body_of, nowhere, outcome_of, start}
+use Rattle.sk_model.specs.Run.{calls, Bodies, body_of, nowhere, outcome_of, start}
 use Rattle.sk_model.specs.declared.outcome.Outcome.{Outcome}
 use Rattle.sk_model.specs.declared.outcome.Outcome.TheVariants as outcome
 use Rattle.sk_model.specs.declared.expanded.Expanded.{Expanded}

@@ -2,7 +2,7 @@
 -- right, and where it fails, it does so with the span of the innermost statement being executed.
 --
 -- It is said by one layer: the parts of a form have become what they do. What a call does is given.
-use Rattle.std.specs.Prelude.{ℕ, ◌+◌, ◌-◌, ◌==◌, ℤ, pos, negsuc, true, false, not, nat_le, if◌then◌else◌, List, [], ◌∷◌, ◌++◌, take, drop, length, slice_get, Option, Some, None}
+use Rattle.std.specs.Prelude.{ℕ, ◌+◌, ◌-◌, ◌==◌, pos, true, false, not, nat_le, if◌then◌else◌, List, [], ◌∷◌, ◌++◌, take, drop, length, slice_get, Option, Some, None}
 use Rattle.sk_base.specs.declared.span.Span.{Span}
 use Rattle.sk_base.specs.Word.{wrapped}
 use Rattle.sk_prog.specs.declared.ids.FunId.{FunId}
@@ -21,8 +21,8 @@ use Rattle.sk_prog.specs.declared.prog.ConstDef.{ConstDef}
 use Rattle.sk_prog.specs.declared.prog.ParamDef.{ParamDef}
 use Rattle.sk_prog.specs.declared.prog.Fun.{Fun}
 use Rattle.sk_prog.specs.declared.prog.Prog.{Prog}
-use Rattle.sk_model.specs.Step.{Goes, Comp, ◌>>=◌, pure, fail}
-use Rattle.sk_model.specs.Values.{elements, element, lengthened, padded, zero_of}
+use Rattle.sk_model.specs.Step.{Comp, ◌>>=◌, pure, fail}
+use Rattle.sk_model.specs.Values.{elements, element, padded}
 use Rattle.sk_model.specs.Operators.{operator, unary_operator, to_int}
 use Rattle.sk_model.specs.Heap.{blank, read, read_field, allocate, Variable, Field, Location, at_root, store}
 

@@ -21,7 +21,7 @@ use Rattle.sk_prog.specs.declared.stmt.PForm.TheFolds.{fold-PStmt}
 use Rattle.sk_prog.specs.declared.prog.Prog.{Prog}
 use Rattle.sk_model.specs.Step.{Goes, Comp, ◌>>=◌, pure, fail, skip}
 use Rattle.sk_model.specs.Values.{zero_of}
-use Rattle.sk_model.specs.Heap.{Location, write, store}
+use Rattle.sk_model.specs.Heap.{write, store}
 use Rattle.sk_model.specs.Eval.{Calls, Does, does, choose}
 
 -- whether a statement goes on to the next one, or returns from its function

@@ -1,6 +1,6 @@
 -- Whether a program is filled: it leaves nothing open. No hole and no pattern, no repeat, `minrepeat` or
 -- `reorder` stands in a function of it.
-use Rattle.std.specs.Prelude.{Bool, true, false, ◌&&◌, List, map, Option, Some, None}
+use Rattle.std.specs.Prelude.{Bool, true, false, ◌&&◌, Option, Some, None}
 use Rattle.std.specs.List.{list_all}
 use Rattle.sk_prog.specs.declared.expr.PExpr.{PExpr}
 use Rattle.sk_prog.specs.declared.expr.PEForm.TheOpen as P

@@ -1,7 +1,7 @@
 -- Variables, records of the heap, and what stands at a place that an assignment names.
 --
 -- `new` appends a record, and its place is the length of the heap before. A field of null fails.
-use Rattle.std.specs.Prelude.{ℕ, ◌+◌, pos, ℤ, List, [], ◌∷◌, ◌++◌, map, length, slice_get, slice_index_or, slice_set, Option, Some, None}
+use Rattle.std.specs.Prelude.{ℕ, zero, suc, ◌+◌, pos, ℤ, List, [], ◌∷◌, ◌++◌, map, length, slice_get, slice_index_or, slice_set, Option, Some, None}
 use Rattle.sk_base.specs.declared.span.Span.{Span}
 use Rattle.sk_prog.specs.declared.ids.StructId.{StructId}
 use Rattle.sk_prog.specs.declared.value.Value.{Value}
@@ -19,8 +19,16 @@ blank = value.Int (pos 0)
 abbrev pub read : ℕ → Comp Value
 read slot = λ s. Goes (slice_index_or s.slots slot blank) s
 
+-- The slots after a value is put into one. Those up to it that are not there come to be; in a typed
+-- program all are there.
+abbrev pub written : List Value → ℕ → Value → List Value
+written [] zero v = v ∷ []
+written [] (suc n) v = blank ∷ written [] n v
+written (w ∷ ws) zero v = v ∷ ws
+written (w ∷ ws) (suc n) v = w ∷ written ws n v
+
 abbrev pub write : ℕ → Value → Comp (Unit {0})
-write slot v = λ s. Goes tt (record s { slots = slice_set s.slots slot v })
+write slot v = λ s. Goes tt (record s { slots = written s.slots slot v })
 
 -- the record at a place
 abbrev pub record_at : State → ℕ → List Value

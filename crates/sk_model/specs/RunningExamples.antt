@@ -1,7 +1,6 @@
 -- Small programs, and what they do when they are run.
 use Rattle.std.specs.Prelude.{ℕ, ◌≡◌, pos, negsuc, Bool, true, false, List, [], ◌∷◌, Option, Some, None}
 use Rattle.sk_base.specs.declared.span.Span.{Span}
-use Rattle.sk_base.specs.declared.name.Name.{Name}
 use Rattle.sk_base.specs.declared.bounds.Bounds.{Bounds}
 use Rattle.sk_prog.specs.declared.ty.Elem.TheVariants as elem
 use Rattle.sk_prog.specs.declared.ty.Ty.{Ty}
