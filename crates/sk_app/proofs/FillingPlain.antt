@@ -1,8 +1,9 @@
 -- The holes of the program that an early tree means are integers, and its functions have the slots that they need.
-use Rattle.std.proofs.Common.{◌≡◌, ℕ, suc, max, ◌+◌, ◌-◌, ◌^◌, ◌<◌, Bool, List, [], ◌∷◌, ◌++◌, map, length, length-append, length-map, Option, Some, None, refl, sym, ap, subst, ◌∙◌, arith}
+use Rattle.std.proofs.Common.{◌≡◌, ℕ, suc, max, ◌+◌, ◌-◌, ◌^◌, Bool, List, [], ◌∷◌, ◌++◌, length, length-append, Option, Some, None, refl, sym, ap, subst, ◌∙◌, arith}
 use Rattle.std.specs.Prelude.{IsTrue, nat_lt, ◌&&◌}
 use Rattle.std.specs.List.{list_all}
 use Rattle.std.proofs.lemmas.Bool.{and_parts, and_from, false≢true, lt-ltb}
+use Rattle.std.proofs.lemmas.List.{length-map}
 use Rattle.std.proofs.lemmas.Nat.{pow_pos}
 use Rattle.sk_base.specs.declared.span.Span.{Span}
 use Rattle.sk_base.specs.declared.bounds.Bounds.{Bounds}
@@ -26,8 +27,8 @@ use Rattle.sk_types.specs.Types.{Grows, form_after, after, parameters}
 use Rattle.sk_app.specs.EarlyTypes.{Means, IsAt, AnyAt, MeansDeclare, MeansAssign, form_most, most_within, most, StmtMeans, AllMean, FunMeans, ItemsMean, Types}
 use Rattle.sk_model.specs.Parts.{value}
 use Rattle.sk_model.specs.Slots.{form_slots, stmt_slots, stmts_slots}
-use Rattle.sk_app.specs.Early.{is_sum, is_equation, prank, is_variable, is_int_ty, is_sum_pvalue, is_none, early_pform, early_pstmt, early_pfun, early_funs, early_prog}
-use Rattle.sk_app.specs.Filling.{IsPlainFun, ArePlainFuns, IsPlain, expr_ints, value_ints, form_ints, stmt_ints, stmts_ints}
+use Rattle.sk_app.specs.Early.{is_sum, prank, is_variable, is_int_ty, is_sum_pvalue, is_none, early_pform, early_pstmt, early_pfun, early_funs, early_prog}
+use Rattle.sk_app.specs.Filling.{ArePlainFuns, IsPlain, expr_ints, value_ints, form_ints, stmt_ints, stmts_ints}
 use Rattle.sk_app.proofs.FillingWhole.{ints_assign}
 use Rattle.sk_app.proofs.ShownMeans.{stmt, pstmt, by_stmt_means}
 use Rattle.sk_app.proofs.ShownLayers.{of_pdeclare, of_passign, of_passert}
@@ -138,7 +139,7 @@ funs_plain bounds (item.Fun g ∷ gs) (f ∷ fs) means early =
     let is = early_fun_parts f are.0 in
     let one = stmts_plain bounds f.slots 0 (parameters f.params) (params_int f.params is.params) f.body g.body means.0.body is.body in
     let head : FunMeans bounds g f = means.0 in
-    (record { ints = one.ints; slots = head.slots ∙ one.slots ∙ ap (λ n. max n (stmts_slots f.body)) (length-map _ f.params) }, funs_plain bounds gs fs means.1 are.1)
+    (record { ints = one.ints; slots = head.slots ∙ one.slots ∙ ap (λ n. max n (stmts_slots f.body)) (length-map f.params _) }, funs_plain bounds gs fs means.1 are.1)
 funs_plain bounds _ _ means early = absurd means
 
 pub prog_plain : (bounds : Bounds) (tree : Tree) (prog : Prog) → Types tree bounds prog → IsTrue (early_prog prog) → IsPlain prog

@@ -1,5 +1,5 @@
 -- Of an early program whose holes are integers, the words for early programs say what those for all programs say.
-use Rattle.std.proofs.Common.{◌≡◌, ℕ, suc, max, ◌+◌, ◌^◌, Bool, true, false, List, [], ◌∷◌, ◌++◌, map, length, Option, Some, None, refl, sym, ap, subst, ◌∙◌, arith}
+use Rattle.std.proofs.Common.{◌≡◌, ℕ, suc, max, ◌+◌, ◌^◌, Bool, false, List, [], ◌∷◌, ◌++◌, map, length, Option, Some, None, refl, sym, ap, subst, ◌∙◌}
 use Rattle.std.specs.Prelude.{IsTrue, not, nat_le, ◌&&◌, if◌then◌else◌}
 use Rattle.std.specs.List.{list_all}
 use Rattle.std.proofs.lemmas.Bool.{false≢true, and_parts}
@@ -26,15 +26,15 @@ use Rattle.sk_prog.specs.declared.prog.Prog.{Prog}
 use Rattle.sk_model.specs.declared.expanded.Site.{Site}
 use Rattle.sk_model.specs.declared.expanded.Choice.{Choice}
 use Rattle.sk_model.specs.declared.expanded.Expanded.{Expanded}
-use Rattle.sk_model.specs.Parts.{Part, value, total, rank}
+use Rattle.sk_model.specs.Parts.{Part, value, rank}
 use Rattle.sk_model.specs.Slots.{form_slots, stmt_slots, stmts_slots, with_body}
 use Rattle.sk_model.specs.Sites as Sites
 use Rattle.sk_model.specs.Expand as Expand
 use Rattle.sk_model.specs.Stands as Stands
 use Rattle.sk_model.specs.Fill as Fill
 use Rattle.sk_model.specs.Nodes as Nodes
-use Rattle.sk_app.specs.Early.{prank, is_variable, is_pharness, is_absent, is_none, is_int_ty, early_pparam, early_pstmt, early_pfun, early_funs, early_prog}
-use Rattle.sk_app.specs.EarlyFilling.{Open, eform_sites, expr_sites, form_sites, stmt_sites, stmts_sites, funs_sites, early_sites, early_expand, eform_part, expr_step, expr_part, value_part, form_part, stmt_step, stmt_part, fill_expr, fill_stmts, stmts_count, fill_funs, early_fill, eform_nodes, expr_nodes, form_nodes, stmt_nodes, stmts_nodes, funs_nodes, consts_nodes, early_nodes}
+use Rattle.sk_app.specs.Early.{prank, is_variable, is_pharness, is_absent, is_int_ty, early_pparam, early_pstmt, early_pfun, early_funs, early_prog}
+use Rattle.sk_app.specs.EarlyFilling.{Open, eform_sites, expr_sites, form_sites, stmt_sites, stmts_sites, funs_sites, early_sites, early_expand, eform_part, expr_step, expr_part, form_part, stmt_step, stmt_part, fill_expr, fill_stmts, fill_funs, early_fill, eform_nodes, expr_nodes, form_nodes, stmt_nodes, stmts_nodes, funs_nodes, consts_nodes, early_nodes}
 use Rattle.sk_app.specs.Filling.{IsEarlyExpansion, FromEarly, IsPlainFun, ArePlainFuns, IsPlain, is_int_type, eform_ints, expr_ints, form_ints, stmt_ints, stmts_ints}
 use Rattle.sk_app.proofs.FillingEarly.{ranked, sum_ranked, equation_ranked, early_expr, variable_expr, early_stmt}
 use Rattle.sk_app.proofs.FillingLaws.{early_body, early_parts, early_filled, variable_ranked}

@@ -33,7 +33,7 @@ module _ (A A' A'' : Type 0) (s : P.PEForm-F A A' A'' → A) (s' : P.PExpr-F A A
   abbrev of_field : PField → A''
   of_field = fold-PField A A' A'' s s' s''
 
-  expr_layer : (x : P.PEForm-F PEForm PExpr PField) (form : PEForm) → V.roll-PEForm x ≡ form → (span : Span) (t : Option Ty) → of_expr (record { span = span; ty = t; form = form }) ≡ s' (record { span = span; ty = t; form = s (map-PEForm PEForm PExpr PField A A' A'' of_form of_expr of_field x) })
+  pub expr_layer : (x : P.PEForm-F PEForm PExpr PField) (form : PEForm) → V.roll-PEForm x ≡ form → (span : Span) (t : Option Ty) → of_expr (record { span = span; ty = t; form = form }) ≡ s' (record { span = span; ty = t; form = s (map-PEForm PEForm PExpr PField A A' A'' of_form of_expr of_field x) })
   expr_layer x form is span t = subst (λ f. of_expr (record { span = span; ty = t; form = f }) ≡ s' (record { span = span; ty = t; form = s (map-PEForm PEForm PExpr PField A A' A'' of_form of_expr of_field x) })) is
       (fold-roll-PExpr A A' A'' s s' s'' (record { span = span; ty = t; form = V.roll-PEForm x })
       ∙ ap (λ a. s' (record { span = span; ty = t; form = a })) (fold-roll-PEForm A A' A'' s s' s'' x))
@@ -110,7 +110,7 @@ module _ (B B' : Type 0) (s : S.PForm-F B B' → B) (s' : S.PStmt-F B B' → B')
   abbrev of_stmt : PStmt → B'
   of_stmt = fold-PStmt B B' s s'
 
-  stmt_layer : (x : S.PForm-F PForm PStmt) (form : PForm) → W.roll-PForm x ≡ form → (span : Span) → of_stmt (record { span = span; form = form }) ≡ s' (record { span = span; form = s (map-PForm PForm PStmt B B' of_pform of_stmt x) })
+  pub stmt_layer : (x : S.PForm-F PForm PStmt) (form : PForm) → W.roll-PForm x ≡ form → (span : Span) → of_stmt (record { span = span; form = form }) ≡ s' (record { span = span; form = s (map-PForm PForm PStmt B B' of_pform of_stmt x) })
   stmt_layer x form is span = subst (λ f. of_stmt (record { span = span; form = f }) ≡ s' (record { span = span; form = s (map-PForm PForm PStmt B B' of_pform of_stmt x) })) is
       (fold-roll-PStmt B B' s s' (record { span = span; form = W.roll-PForm x })
       ∙ ap (λ b. s' (record { span = span; form = b })) (fold-roll-PForm B B' s s' x))

@@ -3,6 +3,8 @@ pub mod RunningExamples
 pub mod Layers
 pub mod Principle
 pub mod Bare
+pub mod Induction
+pub mod WhatStands
 pub mod FillingExamples
 pub mod OpenExprs
 pub mod OpenStmts
