@@ -33,12 +33,16 @@ use Rattle.sk_prog.specs.declared.prog.ParamDef.{ParamDef}
 use Rattle.sk_prog.specs.declared.prog.Fun.{Fun}
 use Rattle.sk_prog.specs.declared.prog.Prog.{Prog}
 use Rattle.sk_prog.specs.Fits.{ty_fits, any_ty_fits, eform_fits, layer_fits, pfield_fits, expr_fits, any_expr_fits, form_fits, stmt_fits, struct_fits, const_fits, param_fits, implements_fits, fun_fits, prog_fits}
-use Rattle.sk_types.specs.declared.rules.Class.{Class}
-use Rattle.sk_types.specs.declared.rules.Class.TheVariants as class
+use Rattle.sk_app.specs.declared.early_rules.Class.{Class}
+use Rattle.sk_app.specs.declared.early_rules.Class.TheVariants as class
 use Rattle.sk_types.specs.declared.scope.Variable.{Variable}
-use Rattle.sk_types.specs.Rules.{bit, class_of, result_of, number_takes, hole_takes, in_range}
+use Rattle.sk_types.specs.Rules.{bit, number_takes, in_range}
+use Rattle.sk_app.specs.EarlyRules.{class_of, result_of, hole_takes}
 use Rattle.sk_types.specs.Scope.{Nearest}
-use Rattle.sk_types.specs.Types.{HasType, Means, AnyAt, IsAt, MeansDeclare, MeansAssign, StmtMeans, AllMean, Grows, form_after, after, ParamsMean, parameters, variable_of, FunMeans, ItemsMean, Types}
+use Rattle.sk_types.specs.Types.{HasType, Grows, form_after, after, parameters, variable_of}
+use Rattle.sk_app.specs.EarlyTypes.{Means, AnyAt, IsAt, MeansDeclare, MeansAssign, StmtMeans, AllMean, ParamsMean, FunMeans, ItemsMean, Types}
+use Rattle.sk_app.proofs.Bridge.{to_early}
+use Rattle.sk_app.proofs.EarlyTrees.{reads_early}
 use Rattle.sk_app.specs.Early.{Rank, Operand, Other, peform_rank, prank, is_sum, is_equation, is_variable, is_int_ty, is_sum_pvalue, early_pform, early_pstmt, early_pparam, is_pharness, is_absent, early_pfun, early_funs, is_none}
 use Rattle.sk_app.specs.Built.{default_bounds}
 use Rattle.sk_app.specs.EarlyFit.{EarlyTextsFit}
@@ -266,8 +270,10 @@ items_fit q bounds _ _ means names early = absurd means
 pub early_texts_fit : EarlyTextsFit
 unfolding prog_fits
 early_texts_fit text prog typed =
-    let names = names_read text typed.is_tree.tokens typed.tree default_bounds prog typed.is_tree.lexed typed.is_tree.reads.spelt typed.types in
-    let early = prog_early default_bounds typed.tree prog typed.is_tree.early typed.types in
+    let reads = reads_early typed.is_tree.tokens typed.tree typed.is_tree.early typed.is_tree.reads in
+    let types = to_early typed.tree default_bounds prog typed.is_tree.early typed.types in
+    let names = names_read text typed.is_tree.tokens typed.tree default_bounds prog typed.is_tree.lexed reads.spelt types in
+    let early = prog_early default_bounds typed.tree prog typed.is_tree.early types in
     let are = early_all prog.funs (and_parts (is_none prog.structs && is_none prog.consts) (early_funs prog.funs) early).1 in
-    let fit : list_all (fun_fits prog) prog.funs ≡ true = items_fit prog default_bounds typed.tree.items prog.funs typed.types.funs names are in
-    λ i. list_all (struct_fits prog) (typed.types.structs i) && (list_all (const_fits prog) (typed.types.consts i) && fit i)
+    let fit : list_all (fun_fits prog) prog.funs ≡ true = items_fit prog default_bounds typed.tree.items prog.funs types.funs names are in
+    λ i. list_all (struct_fits prog) (types.structs i) && (list_all (const_fits prog) (types.consts i) && fit i)

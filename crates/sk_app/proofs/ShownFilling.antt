@@ -253,7 +253,7 @@ below_at n (v ∷ vs) (suc i) some h = below_at n vs i some h.1
 
 -- Where the tokens of a text read as a tree that means an early program, the layout of each of its fillings in range
 -- shows that filling.
-pub shown_filling : (text : List ℕ) (ts : List Token) (tree : Tree) (bounds : Bounds) (prog : Prog) (a : Choice) → AreTokens text ts → Reads ts tree → IsTrue (is_early tree) → Types tree bounds prog → IsTrue (early_prog prog) → bounds.cbits < bounds.int_bits → bounds.int_bits ≤ 32 → InRange (expand prog bounds) a → Shows (layout (fill (expand prog bounds) a)) bounds (fill (expand prog bounds) a)
+pub shown_filling : (text : List ℕ) (ts : List Token) (tree : Tree) (bounds : Bounds) (prog : Prog) (a : Choice) → AreTokens text ts → Reads ts tree → IsTrue (is_early tree) → Types tree bounds prog → IsTrue (early_prog prog) → bounds.cbits < bounds.int_bits → bounds.int_bits ≤ 32 → InRange (early_expand prog bounds) a → Shows (layout (early_fill (early_expand prog bounds) a)) bounds (early_fill (early_expand prog bounds) a)
 shown_filling text ts tree bounds prog a lexed reads_whole early_tree types early low narrow fits =
     let reads = reads_early ts tree early_tree reads_whole in
     let below : Below (2 ^ bounds.cbits) a.values = fits_below (2 ^ bounds.cbits) (early_sites bounds prog) a.values (sites_sized bounds prog early) fits.fits in
