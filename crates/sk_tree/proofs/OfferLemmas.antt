@@ -118,5 +118,4 @@ offered_reads = record {
     refl,
   );
   placed = ap (λ b. b && true) offering_placed;
-  within = subst (λ n. n ≤ 256) (sym offered_depth) (omega arith);
 }
