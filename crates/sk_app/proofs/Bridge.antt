@@ -94,18 +94,20 @@ slots_are context result f n is h = ap (whole.most f.body) is ∙ h
 
 fun_forth : (context : Context) (g : FunItem) (f : Fun) → FunMeans context.bounds g f → whole.FunMeans context (plain_fun g) f × (list_all stmt_steps g.body ≡ true)
 fun_forth context g f m =
-    let k = all_forth context f.result 0 (parameters f.params) f.body g.body m.body in
-    (record {
-      name = m.name;
-      kind = m.kind;
-      result = result_forth context g.result f.result m.result;
-      implements = implements_none context.top (signature_of f) g.implements f.implements m.implements.0 m.implements.1;
-      params = params_forth context g.params f.params m.params;
-      signature = may_forth f.kind f.params f.result (λ i. params_plain g.params f.params m.params i || result_plain g.result f.result m.result i) m.signature;
-      distinct = m.distinct;
-      body = subst (λ es. whole.AllMean context f.result 0 (parameters f.params) f.body es) (sym (plain_all g.body k.simple)) k.means;
-      slots = m.slots ∙ most_is f.body (parameters f.params) ∙ sym (slots_are context f.result f (length f.params) (sym (length-map f.params _)) k.count);
-    }, steps_all g.body k.simple)
+    let k = all_forth context f.result 0 (parameters f.params) f.body g.body m.body in (
+      record {
+        name = m.name;
+        kind = m.kind;
+        result = result_forth context g.result f.result m.result;
+        implements = implements_none context.top (signature_of f) g.implements f.implements m.implements.0 m.implements.1;
+        params = params_forth context g.params f.params m.params;
+        signature = may_forth f.kind f.params f.result (λ i. params_plain g.params f.params m.params i || result_plain g.result f.result m.result i) m.signature;
+        distinct = m.distinct;
+        body = subst (λ es. whole.AllMean context f.result 0 (parameters f.params) f.body es) (sym (plain_all g.body k.simple)) k.means;
+        slots = m.slots ∙ most_is f.body (parameters f.params) ∙ sym (slots_are context f.result f (length f.params) (sym (length-map f.params _)) k.count);
+      },
+      steps_all g.body k.simple,
+    )
 
 items_forth : (bounds : Bounds) (top : Top) (gs : List Item) (fs : List Fun) → ItemsMean bounds gs fs → whole.ItemsMean bounds top [] (plain_items gs) [] [] fs × (list_all item_steps gs ≡ true)
 items_forth bounds top [] [] m = (tt, refl)

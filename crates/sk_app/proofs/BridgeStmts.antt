@@ -264,8 +264,8 @@ module _ (context : Context) (result : Option Ty) where
   target_forth s t p e a =
       let w = word_of e.form a.target in
       let made : name_at w.0 (lookup s w.0) e.span t ≡ Some p =
-          sym (ap (λ (k : Part). k.at t) (part_is context.bounds s e) ∙ ap (λ f. (form_part context.bounds s f).at e.span t) w.1 ∙ ap (λ (g : FormPart). g.at e.span t) (form_word context.bounds s w.0))
-          ∙ complete context.bounds s p e t a.is_at.means a.is_at.type in
+      sym (ap (λ (k : Part). k.at t) (part_is context.bounds s e) ∙ ap (λ f. (form_part context.bounds s f).at e.span t) w.1 ∙ ap (λ (g : FormPart). g.at e.span t) (form_word context.bounds s w.0))
+      ∙ complete context.bounds s p e t a.is_at.means a.is_at.type in
       inl (record { is_at = at_forth s t p e a.is_at; target = target_word context s e w.0 w.1 ∙ type_named w.0 (lookup s w.0) e.span t p made })
 
   record FormGood (a : PForm) (from : ℕ) (s : List Variable) (f : Form) : Type 0 where

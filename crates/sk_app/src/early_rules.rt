@@ -134,4 +134,3 @@ pub fn hole_takes(ty: Ty) -> bool
         _ => false,
     }
 }
-

@@ -15,15 +15,15 @@ ghost use Rattle.sk_types.specs.Scope.{all_distinct};
 ghost use Rattle.sk_app.specs.EarlyTypes.{name_own, operation_own, may_be};
 ghost use Rattle.sk_prog.specs.declared.expr.PEForm.TheVariants.{Var, Binary};
 
+use crate::early_rules::{
+    Class, class_of, hole_takes, loose_takes, operand, result_of, result_own,
+};
 use sk_base::{Bounds, Boxed, List, Name, Span};
 use sk_prog::{
     BinOp, Elem, Fun, FunKind as PFunKind, PEForm, PExpr, PForm, PStmt, ParamDef, Prog, Ty,
 };
 use sk_tree::{
     Base, Declared, EForm, Expr, Form, FunItem, FunKind, Item, Param, Stmt, Tree, TyTree,
-};
-use crate::early_rules::{
-    Class, class_of, hole_takes, loose_takes, operand, result_of, result_own,
 };
 use sk_types::{
     Own, Place, Variable, in_range, is_taken, lookup, number_own, number_takes, operator_of, ty_eq,

@@ -1,6 +1,6 @@
 -- The sorts of the expressions of the examples.
 use Rattle.std.specs.Prelude.{if◌then◌else◌}
-use Rattle.std.proofs.Common.{◌≡◌, true, false, List, [], ◌∷◌, None, ap, ◌∙◌}
+use Rattle.std.proofs.Common.{◌≡◌, ◌<◌, ℕ, true, false, List, [], ◌∷◌, Some, None, sym, refl, ap, subst, ◌∙◌, inl, inr, arith}
 use Rattle.sk_tree.specs.declared.expr.Expr.{Expr}
 use Rattle.sk_prog.specs.declared.ty.Ty.{Ty}
 use Rattle.sk_types.specs.declared.rules.Own.TheVariants.{Loose, Firm}
@@ -8,7 +8,18 @@ use Rattle.sk_types.specs.declared.rules.Class.TheVariants.{Plus, Bitwise}
 use Rattle.sk_tree.specs.declared.token.Mark.TheVariants.{Plus as Sum}
 use Rattle.sk_types.specs.Rules.{int, bit, operand, operator_of}
 use Rattle.sk_types.specs.Sorts.{Sort, sort, own, firm, keeps, kept, any_binary}
-use Rattle.sk_types.specs.Examples.{context, scope, here, bits, a, b, hole, number, of_two}
+use Rattle.sk_types.specs.Examples.{context, scope, here, bits, a, b, hole, number, of_two, bit_b, integer_b, bits_one}
+use Rattle.sk_types.specs.Types.{EFormRule, eform_bare, is_bare, Means}
+use Rattle.sk_types.proofs.Layers.{FormMeans, form_means_are, rule, means_from}
+use Rattle.sk_types.proofs.Nearest.{lookup_nearest}
+use Rattle.sk_tree.specs.declared.expr.EForm.TheFolds.{the_lemmas}
+use Rattle.sk_prog.specs.declared.expr.PExpr.{PExpr}
+use Rattle.sk_prog.specs.declared.expr.PEForm.{PEForm}
+use Rattle.sk_prog.specs.declared.expr.PField.{PField}
+use Rattle.sk_prog.specs.declared.expr.PEForm.TheVariants as pform
+use Rattle.sk_prog.specs.declared.expr.PEForm.TheOpen as P
+use Rattle.sk_prog.specs.declared.expr.PEForm.TheViews.{roll-PEForm}
+use Rattle.std.proofs.lemmas.Grind.{common_steps}
 use Rattle.sk_types.proofs.SortLaws.{sort_number, sort_word, sort_hole, sort_binary}
 
 sort_a : sort context scope a ≡ firm int true
@@ -56,3 +67,26 @@ kept_bit = one_kept bit a (b ∷ []) _ sort_a ∙ kept_bit_b
 
 pub kept_loose : kept context scope bit (a ∷ hole ∷ b ∷ []) ≡ hole ∷ b ∷ []
 kept_loose = one_kept bit a (hole ∷ b ∷ []) _ sort_a ∙ one_kept bit hole (b ∷ []) _ (sort_hole context scope here None) ∙ ap (λ es. hole ∷ es) kept_bit_b
+
+-- Coercions
+
+by_rule : (p : PExpr) (e : Expr) (l : P.PEForm-F PEForm PExpr PField) → p.span ≡ e.span → roll-PEForm l ≡ p.form → rule context scope l p.ty e → Means context scope p e
+by_rule p e l at rolls r = means_from context scope p e at (subst (λ f. FormMeans context scope f p.ty e) rolls (subst (λ (M : EFormRule). M p.ty e) (sym (form_means_are context scope l)) r))
+
+means_b : Means context scope bit_b b
+means_b = by_rule bit_b b (P.Var 1 _) refl (pform.rolls-Var 1 _) (refl, bit, refl, lookup_nearest scope _ (record { slot = 1; ty = bit }) refl)
+
+bare_b : is_bare b ≡ true
+bare_b = grind (arith, common_steps, the_lemmas)
+
+pub widened_b : Means context scope integer_b b
+widened_b = by_rule integer_b b (P.ToInt bit_b) refl (pform.rolls-ToInt bit_b) (means_b, bare_b, record { own = own_b; operand = refl; result = refl })
+
+less : 1 < 2
+less = omega arith
+
+means_one : Means context scope (record { span = here; ty = Some bit; form = pform.Number 1 }) (number 1)
+means_one = by_rule (record { span = here; ty = Some bit; form = pform.Number 1 }) (number 1) (P.Number 1) refl (pform.rolls-Number 1) (refl, refl, refl)
+
+pub padded_one : Means context scope bits_one (number 1)
+padded_one = by_rule bits_one (number 1) (P.Pad (record { span = here; ty = Some bit; form = pform.Number 1 })) refl (pform.rolls-Pad _) (means_one, inr (inl (record { from = bit; to = bits 8; number = 1; literal = (refl, less); operand = refl; result = refl; element = refl })))

@@ -75,7 +75,7 @@ module _ (context : Context) (scope : List Variable) where
       same X Y Z u v w f k n (P.Pattern ps) = λ i t e. (g : Pattern) × (es : List Expr) × (e.form ≡ eform.Pattern g es) × (s : Ty) × (t ≡ Some s) × more_same v ps i × each_same v k s ps (kept context scope s es) i
       same X Y Z u v w f k n (P.Call g args) = λ i t e. (x : List ℕ) × (es : List Expr) × (e.form ≡ eform.Call x es) × (s : Signature) × IsCallee context.top scope x g s × arguments_same v k scope s.params args es i × (t ≡ s.result)
       same X Y Z u v w f k n (P.New s fields) = λ i t e. (x : List ℕ) × (es : List NewField) × (e.form ≡ eform.New x es) × (d : StructDef) × IsStruct context.top scope x s d × fields_same w n d fields es i × IsTrue (all_distinct (map (λ (y : NewField). y.name) es)) × (t ≡ Some (reference_to s))
-      same X Y Z u v w f k n (P.Braces ps) = λ i t e. (es : List Expr) × (e.form ≡ eform.Braces es) × (s : Ty) × each_same v k s ps es i × (r : Ty) × (array_of s (sym (length-map ps v) i) ≡ Some r) × (t ≡ Some r)
+      same X Y Z u v w f k n (P.Braces ps) = λ i t e. (es : List Expr) × (e.form ≡ eform.Braces es) × more_same v ps i × (s : Ty) × each_same v k s ps es i × (r : Ty) × (array_of s (sym (length-map ps v) i) ≡ Some r) × (t ≡ Some r)
       same X Y Z u v w f k n _ = refl
 
   pub means_is : (p : PExpr) → Means context scope p ≡ (λ e. (p.span ≡ e.span) × FormMeans p.form p.ty e)

@@ -15,6 +15,9 @@ use Rattle.sk_tree.specs.declared.item.Base.TheVariants as base
 use Rattle.sk_prog.specs.declared.ty.Ty.{Ty}
 use Rattle.sk_prog.specs.declared.ty.Ty.TheVariants as ty
 use Rattle.sk_prog.specs.declared.ty.Elem.TheVariants as elem
+use Rattle.sk_prog.specs.declared.expr.PExpr.{PExpr}
+use Rattle.sk_prog.specs.declared.expr.PEForm.{PEForm}
+use Rattle.sk_prog.specs.declared.expr.PEForm.TheVariants as pform
 use Rattle.sk_types.specs.declared.scope.Variable.{Variable}
 use Rattle.sk_types.specs.Rules.{int, bit}
 use Rattle.sk_types.specs.Scope.{Context}
@@ -102,3 +105,21 @@ large = of_two mark.Star (number 2147483647) (number 2147483647)
 
 abbrev pub too_large : Expr
 too_large = of_two mark.Star large N
+
+-- the same variables, with one of the constant's name
+abbrev pub hiding : List Variable
+hiding = record { name = codes "N"; ty = int } ∷ scope
+
+abbrev pub typed : Ty → PEForm → PExpr
+typed t f = record { span = here; ty = Some t; form = f }
+
+-- the variable `b`, and `b` where an integer is wanted
+abbrev pub bit_b : PExpr
+bit_b = typed bit (pform.Var 1 (codes "b"))
+
+abbrev pub integer_b : PExpr
+integer_b = typed int (pform.ToInt bit_b)
+
+-- 1 where `bit[8]` is wanted
+abbrev pub bits_one : PExpr
+bits_one = typed (bits 8) (pform.Pad (typed bit (pform.Number 1)))

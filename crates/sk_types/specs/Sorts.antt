@@ -135,10 +135,11 @@ abbrev pub any_unary : Option UnOp → Sort → Sort
 any_unary None a = wrong
 any_unary (Some o) a = unary_sort o a
 
--- Braces stand at an array with at least as many elements, each at the type of an element.
+-- Braces hold one expression or more. They stand at an array with at least as many elements, each at the type
+-- of an element.
 abbrev pub braces_at : List Sort → Ty → Option Ty → Bool
 braces_at es t None = false
-braces_at es t (Some u) = nat_le (length es) (count_of t) && list_all (λ (e : Sort). e.at u) es
+braces_at es t (Some u) = nat_le 1 (length es) && (nat_le (length es) (count_of t) && list_all (λ (e : Sort). e.at u) es)
 
 -- A pattern stands at a type where a string does that it keeps: one whose own type that is, or a loose one.
 abbrev pub may_keep : Own → Ty → Bool

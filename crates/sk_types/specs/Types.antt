@@ -219,7 +219,7 @@ module _ (context : Context) (scope : List Variable) where
   eform_means X Y Z u v w f k n (P.Paren a) t e = (x : Expr) × (e.form ≡ eform.Paren x) × k a x × (s : Ty) × ((v a).ty ≡ Some s) × (t ≡ Some s)
   eform_means X Y Z u v w f k n (P.Call g args) t e = (x : List ℕ) × (es : List Expr) × (e.form ≡ eform.Call x es) × (s : Signature) × IsCallee context.top scope x g s × ArgumentsMean v k scope s.params args es × (t ≡ s.result)
   eform_means X Y Z u v w f k n (P.New s fields) t e = (x : List ℕ) × (es : List NewField) × (e.form ≡ eform.New x es) × (d : StructDef) × IsStruct context.top scope x s d × FieldsMean n d fields es × IsTrue (all_distinct (map (λ (y : NewField). y.name) es)) × (t ≡ Some (reference_to s))
-  eform_means X Y Z u v w f k n (P.Braces ps) t e = (es : List Expr) × (e.form ≡ eform.Braces es) × (s : Ty) × EachMeans v k s ps es × (r : Ty) × (array_of s (length ps) ≡ Some r) × (t ≡ Some r)
+  eform_means X Y Z u v w f k n (P.Braces ps) t e = (es : List Expr) × (e.form ≡ eform.Braces es) × IsMore ps × (s : Ty) × EachMeans v k s ps es × (r : Ty) × (array_of s (length ps) ≡ Some r) × (t ≡ Some r)
   eform_means X Y Z u v w f k n (P.Member a s i) t e = (x : Expr) × (y : List ℕ) × (e.form ≡ eform.Member x y) × k a x × (own context scope x ≡ Firm (reference_to s)) × ((v a).ty ≡ Some (reference_to s)) × (d : StructDef) × (slice_get context.top.structs s.index ≡ Some d) × (r : Ty) × IsField d i y r × (t ≡ Some r)
   eform_means X Y Z u v w f k n (P.Index a i) t e = (x y : Expr) × (e.form ≡ eform.Index x y) × k a x × k i y × (s : Ty) × (own context scope x ≡ Firm s) × ((v a).ty ≡ Some s) × ((v i).ty ≡ Some int) × (r : Ty) × (element_of s ≡ Some r) × (t ≡ Some r)
   eform_means X Y Z u v w f k n (P.Slice a i m) t e = (x y z : Expr) × (e.form ≡ eform.Slice x y z) × k a x × k i y × (s : Ty) × (own context scope x ≡ Firm s) × ((v a).ty ≡ Some s) × ((v i).ty ≡ Some int) × (constant_number context scope z ≡ Some m) × (r : Ty) × (sliced s m ≡ Some r) × (t ≡ Some r)

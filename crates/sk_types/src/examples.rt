@@ -5,11 +5,12 @@ ghost use Rattle.sk_types.specs.declared.rules.Own.TheVariants.{Wrong, Loose, Fi
 ghost use Rattle.sk_types.specs.declared.rules.Fit.TheVariants.{Misfit, Same, Widens, Pads};
 ghost use Rattle.sk_types.specs.declared.rules.Class.TheVariants.{Plus, Bitwise};
 ghost use Rattle.sk_tree.specs.declared.token.Mark.TheVariants.{Minus, Star, Plus as Sum};
-ghost use Rattle.sk_types.specs.Rules.{int, bit, fit_of, join, operand};
+ghost use Rattle.sk_types.specs.Rules.{int, bit, fit_of, join, operand, is_grid, width_fits};
 ghost use Rattle.sk_types.specs.Constants.{whole_number, constant_number};
 ghost use Rattle.sk_types.specs.Sorts.{sort, own, kept};
 ghost use Rattle.sk_types.specs.Plain.{plain_stmt};
-ghost use Rattle.sk_types.specs.Examples.{context, scope, bits, ints, rows, a, b, N, hole, number, of_two, two_names, one_name_each, one_more, one_added, counted, turned, large, too_large};
+ghost use Rattle.sk_types.specs.Types.{Means};
+ghost use Rattle.sk_types.specs.Examples.{bounds, context, scope, hiding, integer_b, bits_one, bits, ints, rows, a, b, N, hole, number, of_two, two_names, one_name_each, one_more, one_added, counted, turned, large, too_large};
 
 /// The hole of `b + ??` is an integer, though `b` is a bit, and that of `b & ??` is a bit.
 pub fn a_hole_beside_a_bit()
@@ -42,6 +43,7 @@ pub fn arrays_of_arrays()
     ensures fewer { fit_of (rows 2 2) (rows 2 3) ≡ Pads }
     ensures same { fit_of (rows 2 3) (rows 2 3) ≡ Same }
     ensures other { fit_of (ints 3) (rows 2 3) ≡ Misfit }
+    ensures back { fit_of (ints 3) int ≡ Misfit }
     ensures single { fit_of int (rows 2 3) ≡ Misfit }
 {}
 
@@ -66,4 +68,22 @@ pub fn constants()
     ensures back { constant_number context scope (of_two Sum (of_two Minus (number 2) (number 3)) (number 1)) ≡ Some 0 }
     ensures beyond { whole_number context scope too_large ≡ None }
     ensures variable { constant_number context scope a ≡ None }
+    ensures named { constant_number context scope N ≡ Some 4 }
+    ensures hidden { constant_number context hiding N ≡ None }
+{}
+
+/// Arrays of arrays have at most 256 elements in all, and a hole has 1 to W - 1 bits.
+pub fn limits()
+    ensures most { is_grid 32 8 ≡ true }
+    ensures more { is_grid 33 8 ≡ false }
+    ensures longer { is_grid 1 65 ≡ false }
+    ensures widest { width_fits bounds (Some 31) ≡ true }
+    ensures wider { width_fits bounds (Some 32) ≡ false }
+    ensures none { width_fits bounds (Some 0) ≡ false }
+{}
+
+/// A bit where an integer is wanted stands under a coercion, and so does 1 where `bit[8]` is wanted.
+pub fn coercions()
+    ensures widened { Means context scope integer_b b }
+    ensures padded { Means context scope bits_one (number 1) }
 {}

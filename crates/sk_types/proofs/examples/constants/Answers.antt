@@ -1,4 +1,4 @@
-use Rattle.std.proofs.Common.{arith}
+use Rattle.std.proofs.Common.{arith, refl}
 use Rattle.std.proofs.lemmas.Grind.{common_steps}
 use Rattle.sk_tree.specs.declared.expr.EForm.TheFolds.{the_lemmas}
 use Rattle.sk_types.proofs.examples.constants.Goals as goal
@@ -17,3 +17,9 @@ returns-clause-beyond c = grind (arith, common_steps, the_lemmas)
 
 pub returns-clause-variable : goal.returns-clause-variable
 returns-clause-variable c = grind (arith, common_steps, the_lemmas)
+
+pub returns-clause-named : goal.returns-clause-named
+returns-clause-named c = grind (arith, common_steps, the_lemmas)
+
+pub returns-clause-hidden : goal.returns-clause-hidden
+returns-clause-hidden c = grind (arith, common_steps, the_lemmas)
