@@ -9,7 +9,7 @@ use Rattle.sk_prog.specs.declared.expr.PEForm.TheVariants as peform
 use Rattle.sk_prog.specs.declared.expr.PField.{PField}
 use Rattle.sk_prog.specs.declared.expr.PEForm.TheOpen as P
 use Rattle.sk_prog.specs.declared.expr.PEForm.TheViews.{roll-PEForm}
-use Rattle.sk_prog.specs.declared.expr.PEForm.TheFolds.{map-PEForm, fold-PEForm, fold-PField, fold-roll-PEForm, fold-roll-PExpr}
+use Rattle.sk_prog.specs.declared.expr.PEForm.TheFolds.{map-PEForm, fold-PEForm, fold-roll-PEForm, fold-roll-PExpr}
 use Rattle.sk_prog.specs.declared.stmt.PStmt.{PStmt}
 use Rattle.sk_prog.specs.declared.stmt.PForm.{PForm}
 use Rattle.sk_prog.specs.declared.stmt.PForm.TheVariants as pform

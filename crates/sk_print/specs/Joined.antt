@@ -1,5 +1,5 @@
 -- Texts that are written one after another, with the same bytes between two.
-use Rattle.std.specs.Prelude.{ℕ, List, [], ◌∷◌, ◌++◌, Bool, true, false}
+use Rattle.std.specs.Prelude.{ℕ, List, [], ◌++◌, Bool, true, false}
 use Rattle.std.specs.List.{flat_map, join_by}
 
 -- what stands before a text: nothing before the first

@@ -1,8 +1,7 @@
 //! The text of structs, constants, functions and whole programs.
 ghost use Rattle.std.specs.Prelude.{◌≡◌, ◌++◌, OnOk, IfOk, codes};
 ghost use Rattle.std.specs.List.{flat_map, join_by};
-ghost use Rattle.sk_print.specs.Joined.{joined_from, gap_between};
-ghost use Rattle.sk_print.specs.Layout.{ty_layout, expr_layout, line, stmt_layout, struct_field_layout, struct_layout, const_layout, ref_layout, param_layout, kind_layout, result_layout, implements_layout, head_layout, fun_layout, layout};
+ghost use Rattle.sk_print.specs.Layout.{line, struct_field_layout, struct_layout, const_layout, ref_layout, param_layout, kind_layout, result_layout, implements_layout, head_layout, fun_layout, layout};
 
 use crate::expr::{push_between, push_expr};
 use crate::name::{push_fun_name, push_ty};

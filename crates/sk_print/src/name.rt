@@ -1,6 +1,6 @@
 //! The text of names that are numbers in the program, and of types.
-ghost use Rattle.std.specs.Prelude.{◌≡◌, ◌++◌, OnOk, codes, decimal, slice_get};
-ghost use Rattle.sk_print.specs.Layout.{looked_up, struct_name, const_name, fun_name, field_among, field_name, elem_layout, length_layout, ty_layout};
+ghost use Rattle.std.specs.Prelude.{◌≡◌, ◌++◌, OnOk};
+ghost use Rattle.sk_print.specs.Layout.{struct_name, const_name, fun_name, field_among, field_name, elem_layout, length_layout, ty_layout};
 
 use sk_base::push_number;
 use sk_prog::{ConstId, Elem, FunId, Prog, StructDef, StructId, Ty};

@@ -1,5 +1,4 @@
-use Rattle.std.proofs.Common.{◌≡◌, ◌++◌, codes, append_assoc}
-use Rattle.sk_print.specs.Layout.{expr_layout}
+use Rattle.std.proofs.Common.{append_assoc}
 use Rattle.sk_print.proofs.Texts.{binary_text, cond_text, slice_text}
 use Rattle.sk_print.proofs.expr.+expr_text.Goals as goal
 

@@ -1,4 +1,4 @@
-use Rattle.std.proofs.Common.{◌≡◌, ◌++◌, append_assoc}
+use Rattle.std.proofs.Common.{append_assoc}
 use Rattle.sk_print.proofs.Mapped.{each_line_of}
 use Rattle.sk_print.proofs.item.push_fun.Goals as goal
 

@@ -1,4 +1,4 @@
-use Rattle.std.proofs.Common.{◌≡◌, ◌++◌, append_assoc}
+use Rattle.std.proofs.Common.{append_assoc}
 use Rattle.sk_print.proofs.item.push_head.Goals as goal
 
 pub returns : goal.returns

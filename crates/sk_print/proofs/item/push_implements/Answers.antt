@@ -1,5 +1,4 @@
-use Rattle.std.proofs.Common.{◌≡◌, ◌++◌, append_assoc}
-use Rattle.sk_print.specs.Layout.{implements_layout}
+use Rattle.std.proofs.Common.{append_assoc}
 use Rattle.sk_print.proofs.item.push_implements.Goals as goal
 
 pub returns-in_ok-push_fun_name-in-Some : goal.returns-in_ok-push_fun_name-in-Some

@@ -1,4 +1,4 @@
-use Rattle.std.proofs.Common.{◌≡◌, ◌++◌, append_assoc}
+use Rattle.std.proofs.Common.{append_assoc}
 use Rattle.sk_print.proofs.Texts.{minrepeat_text, reorder_text}
 use Rattle.sk_print.proofs.stmt.+stmt_text.Goals as goal
 

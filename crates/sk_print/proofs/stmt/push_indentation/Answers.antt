@@ -1,4 +1,4 @@
-use Rattle.std.proofs.Common.{◌≡◌, ◌++◌, ◌+◌, suc, arith, ap, ◌∙◌, sym, append_assoc, codes}
+use Rattle.std.proofs.Common.{◌≡◌, ◌+◌, suc, arith, codes}
 use Rattle.std.proofs.lemmas.Grind.{common_steps}
 use Rattle.sk_print.proofs.Mapped.{repeat_more}
 use Rattle.sk_print.proofs.stmt.push_indentation.Goals as goal
