@@ -1,6 +1,6 @@
 -- Early trees mean what they mean by the whole rules.
-use Rattle.std.proofs.Common.{◌≡◌, ℕ, Bool, true, false, List, [], ◌∷◌, ◌++◌, length, Option, Some, None, refl, sym, ap, subst, ◌∙◌}
-use Rattle.std.specs.Prelude.{map, not, ◌&&◌, ◌||◌, IsTrue}
+use Rattle.std.proofs.Common.{◌≡◌, ℕ, Bool, true, false, List, [], ◌∷◌, length, Option, Some, None, refl, sym, ap, subst, ◌∙◌}
+use Rattle.std.specs.Prelude.{map, not, ◌||◌, IsTrue}
 use Rattle.std.specs.List.{list_all, list_any}
 use Rattle.std.proofs.lemmas.List.{length-map}
 use Rattle.sk_base.specs.declared.bounds.Bounds.{Bounds}
@@ -8,8 +8,6 @@ use Rattle.sk_tree.specs.declared.item.Base.{Base}
 use Rattle.sk_tree.specs.declared.item.Base.TheVariants as base
 use Rattle.sk_tree.specs.declared.item.TyTree.{TyTree}
 use Rattle.sk_tree.specs.declared.item.Param.{Param}
-use Rattle.sk_tree.specs.declared.item.FunKind.{FunKind}
-use Rattle.sk_tree.specs.declared.item.FunKind.TheVariants as kind
 use Rattle.sk_tree.specs.declared.item.FunItem.{FunItem}
 use Rattle.sk_tree.specs.declared.item.Item.{Item}
 use Rattle.sk_tree.specs.declared.item.Item.TheVariants as item
@@ -27,16 +25,15 @@ use Rattle.sk_prog.specs.declared.prog.Prog.{Prog}
 use Rattle.sk_types.specs.Rules.{int, bit}
 use Rattle.sk_types.specs.Rules as rules
 use Rattle.sk_prog.specs.Spanless.{spanless_fun}
-use Rattle.sk_types.specs.Scope.{Signature, signature_of, Top, top_of, top_names, Known, Context, all_distinct}
-use Rattle.sk_types.specs.Sorts.{written_type}
-use Rattle.sk_types.specs.Plain.{plain_stmts, plain_fun, plain_items, item_steps, stmt_steps}
+use Rattle.sk_types.specs.Scope.{Signature, signature_of, Top, top_of, top_names, Context, all_distinct}
+use Rattle.sk_types.specs.Plain.{plain_fun, plain_items, item_steps, stmt_steps}
 use Rattle.sk_types.specs.Types as whole
 use Rattle.sk_types.specs.Types.{parameters, kind_of}
-use Rattle.sk_app.specs.EarlyTypes.{BaseMeans, TyMeans, ParamMeans, ParamsMean, ResultMeans, may_be, after_all, AllMean, FunMeans, ItemsMean, Types}
-use Rattle.sk_app.specs.Early.{early_stmt, early_param, is_int, is_harness, is_absent, early_fun, early_items, is_early, is_pharness, early_pparam, early_pfun, early_funs, is_none, early_prog}
+use Rattle.sk_app.specs.EarlyTypes.{BaseMeans, ParamsMean, ResultMeans, may_be, after_all, FunMeans, ItemsMean, Types}
+use Rattle.sk_app.specs.Early.{early_stmt, early_param, is_int, is_harness, is_absent, early_fun, early_items, is_early, is_pharness, early_funs, early_prog}
 use Rattle.sk_app.proofs.TypingLaws.{both_true, both}
 use Rattle.sk_app.proofs.TypingScopes.{most_is}
-use Rattle.sk_app.proofs.BridgeStmts.{ty_forth, ty_back, Integers, AreSimple, plain_all, steps_all, all_simple, AllGood, all_forth, all_back}
+use Rattle.sk_app.proofs.BridgeStmts.{ty_forth, ty_back, Integers, plain_all, steps_all, all_simple, all_forth, all_back}
 
 -- Signatures
 

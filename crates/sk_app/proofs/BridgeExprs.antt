@@ -1,8 +1,6 @@
 -- Expressions of early trees: the early relation and the whole one say the same of them.
-use Rattle.std.proofs.Common.{◌≡◌, ℕ, Bool, true, false, List, [], ◌∷◌, Option, Some, None, refl, sym, ap, subst, ◌∙◌, inl, inr}
-use Rattle.std.specs.Prelude.{map, ◌⊎◌, ◌&&◌, ◌||◌, nat_lt, IsTrue, if◌then◌else◌}
-use Rattle.sk_base.specs.declared.span.Span.{Span}
-use Rattle.sk_tree.specs.declared.token.Mark.{Mark}
+use Rattle.std.proofs.Common.{◌≡◌, ℕ, Bool, true, false, List, [], Option, Some, None, refl, sym, ap, subst, ◌∙◌}
+use Rattle.std.specs.Prelude.{map, nat_lt, IsTrue, if◌then◌else◌}
 use Rattle.sk_tree.specs.declared.expr.Expr.{Expr}
 use Rattle.sk_tree.specs.declared.expr.EForm.{EForm}
 use Rattle.sk_tree.specs.declared.expr.EForm.TheVariants as eform
@@ -24,14 +22,13 @@ use Rattle.sk_prog.specs.declared.expr.PEForm.TheViews.{roll-PEForm}
 use Rattle.sk_prog.specs.declared.expr.PEForm.TheFolds.{map-PEForm}
 use Rattle.sk_types.specs.declared.rules.Own.{Own}
 use Rattle.sk_types.specs.declared.rules.Own.TheVariants.{Wrong, Loose, Firm}
-use Rattle.sk_types.specs.declared.rules.Fit.{Fit}
 use Rattle.sk_types.specs.declared.rules.Fit.TheVariants.{Misfit, Same, Widens, Pads}
 use Rattle.sk_types.specs.declared.rules.Class.TheVariants as whole_class
 use Rattle.sk_types.specs.declared.scope.Variable.{Variable}
 use Rattle.sk_types.specs.declared.scope.Place.{Place}
 use Rattle.sk_types.specs.Rules as whole
 use Rattle.sk_types.specs.Rules.{int, bit, operator_of, number_takes}
-use Rattle.sk_types.specs.Scope.{lookup, Context, Top, Meaning, AVariable, AStruct, AConstant, AFunction, Nothing, variable_or, struct_or, constant_or, function_or, place_of, meaning_of, top_meaning}
+use Rattle.sk_types.specs.Scope.{lookup, Context, Top, Meaning, AVariable, AStruct, AConstant, AFunction, Nothing, variable_or, struct_or, constant_or, function_or, place_of, top_meaning}
 use Rattle.sk_types.specs.Sorts as sorts
 use Rattle.sk_types.specs.Sorts.{Sort}
 use Rattle.sk_types.specs.Types as whole_types
@@ -41,10 +38,10 @@ use Rattle.sk_types.proofs.Layers as whole_layers
 use Rattle.sk_app.specs.declared.early_rules.Class.{Class as EarlyClass}
 use Rattle.sk_app.specs.declared.early_rules.Class.TheVariants.{Plus, Arithmetic, Order, Equality, Bitwise, Special}
 use Rattle.sk_app.specs.EarlyRules.{class_of, operand, loose_takes, result_of, result_own, hole_takes}
-use Rattle.sk_app.specs.EarlyTypes.{EFormRule, ExprRule, MeansOperation, Means, eform_own, operation_own, name_own, own}
-use Rattle.sk_app.specs.Early.{Rank, Operand, Sum, Equation, Other, is_operand, is_sum, of_operands, of_sums, operator_rank, eform_rank, rank, poperator_rank}
+use Rattle.sk_app.specs.EarlyTypes.{EFormRule, MeansOperation, Means, eform_own, operation_own, name_own, own}
+use Rattle.sk_app.specs.Early.{Rank, Operand, Sum, Equation, Other, is_sum, of_operands, of_sums, eform_rank, rank, poperator_rank}
 use Rattle.sk_app.proofs.TypingLaws.{expr_law, pexpr_law, some_same, FormMeans, form_means_are, rule, means_parts, means_from}
-use Rattle.sk_app.proofs.TypingEarly.{form_rank, field_rank, form_rank_is, rank_is, rank_by, rank_operator, rank_binary}
+use Rattle.sk_app.proofs.TypingEarly.{form_rank, field_rank, form_rank_is, rank_is, rank_by, rank_operator}
 use Rattle.sk_app.proofs.BridgeRules.{Fine, class, operand_same, fine_left, fine_right, fine_result, result_of_same, loose_same, hole_same, number_same}
 
 result_own_same : (k : EarlyClass) (o : Own) → whole.result_own (class k) o ≡ result_own k o

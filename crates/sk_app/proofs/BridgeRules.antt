@@ -1,11 +1,9 @@
 -- The early rules of types and the whole ones: what an early rule gives is what the whole one gives.
-use Rattle.std.proofs.Common.{◌≡◌, ℕ, Bool, true, false, List, Option, Some, None, refl, sym, ap, subst, ◌∙◌}
+use Rattle.std.proofs.Common.{◌≡◌, ℕ, Bool, true, false, Option, Some, None, refl, sym, ap, ◌∙◌}
 use Rattle.std.specs.Prelude.{◌||◌, ◌&&◌, nat_lt, IsTrue, if◌then◌else◌}
 use Rattle.sk_prog.specs.declared.ty.Ty.{Ty}
 use Rattle.sk_prog.specs.declared.ty.Ty.TheVariants as ty
 use Rattle.sk_prog.specs.declared.ty.Elem.TheVariants as elem
-use Rattle.sk_prog.specs.declared.expr.BinOp.{BinOp}
-use Rattle.sk_prog.specs.declared.expr.BinOp.TheVariants as op
 use Rattle.sk_types.specs.declared.rules.Own.{Own}
 use Rattle.sk_types.specs.declared.rules.Own.TheVariants.{Wrong, Loose, Firm}
 use Rattle.sk_types.specs.declared.rules.Fit.TheVariants.{Misfit, Same, Widens, Pads}
@@ -15,9 +13,8 @@ use Rattle.sk_types.specs.Rules as whole
 use Rattle.sk_types.specs.Types as whole_types
 use Rattle.sk_app.specs.declared.early_rules.Class.{Class as EarlyClass}
 use Rattle.sk_app.specs.declared.early_rules.Class.TheVariants.{Plus, Arithmetic, Order, Equality, Bitwise, Special}
-use Rattle.sk_app.specs.EarlyRules.{class_of, joined, join, taken_as, joined_as, both_loose, operand, loose_takes, result_of, result_own, hole_takes}
+use Rattle.sk_app.specs.EarlyRules.{joined, join, taken_as, joined_as, both_loose, operand, loose_takes, result_of, result_own, hole_takes}
 use Rattle.sk_types.specs.Types.{Wanted, HasType}
-use Rattle.sk_app.specs.EarlyTypes.{operation_own, MeansOperation}
 use Rattle.sk_app.proofs.TypingLaws.{ty_same}
 
 -- an own type that is not wrong

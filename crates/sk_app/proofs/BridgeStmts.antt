@@ -1,6 +1,6 @@
 -- Statements of early trees: the early relation and the whole one say the same of them.
-use Rattle.std.proofs.Common.{◌≡◌, ◌≤◌, ◌<◌, ℕ, suc, ◌+◌, Bool, true, false, List, [], ◌∷◌, ◌++◌, length, Option, Some, None, refl, sym, ap, subst, ◌∙◌, inl, inr, arith}
-use Rattle.std.specs.Prelude.{map, max, ◌⊎◌, ◌&&◌, IsTrue, if◌then◌else◌}
+use Rattle.std.proofs.Common.{◌≡◌, ◌≤◌, ℕ, suc, ◌+◌, Bool, true, false, List, [], ◌∷◌, ◌++◌, length, Option, Some, None, refl, sym, ap, subst, ◌∙◌, inl, inr, arith}
+use Rattle.std.specs.Prelude.{map, max, ◌⊎◌, ◌&&◌, if◌then◌else◌}
 use Rattle.std.specs.List.{list_all}
 use Rattle.std.specs.Str.{bytes_eq}
 use Rattle.sk_base.specs.declared.span.Span.{Span}
@@ -30,16 +30,15 @@ use Rattle.sk_types.specs.declared.scope.Variable.{Variable}
 use Rattle.sk_types.specs.declared.scope.Place.{Place}
 use Rattle.sk_types.specs.Rules.{◌>>=◌, int, bit}
 use Rattle.sk_types.specs.Scope.{lookup, latest, is_taken, Context}
-use Rattle.sk_types.specs.Sorts.{written_type, target_type, variable_type}
+use Rattle.sk_types.specs.Sorts.{written_type}
 use Rattle.sk_types.specs.Plain.{Plainly, form_plain, plainly, plain_stmt, plain_stmts, form_steps, stmt_steps}
 use Rattle.sk_types.specs.Types as whole
 use Rattle.sk_types.specs.Types.{Grows, form_after, after, Room, form_room, room, most_of}
 use Rattle.sk_types.proofs.SortLaws.{target_word}
 use Rattle.sk_types.proofs.Layers as layers
-use Rattle.sk_types.proofs.Nearest.{nearest_lookup}
-use Rattle.sk_app.specs.EarlyTypes.{Means, IsAt, AnyAt, TargetForm, IsTarget, BaseMeans, TyMeans, after_all, StmtRule, FormRule, MeansDeclare, MeansAssign, StmtMeans, AllMean}
+use Rattle.sk_app.specs.EarlyTypes.{IsAt, AnyAt, TargetForm, IsTarget, BaseMeans, TyMeans, after_all, StmtRule, FormRule, StmtMeans, AllMean}
 use Rattle.sk_app.specs.Early.{Rank, Operand, Sum, Equation, Other, is_sum, is_equation, rank, is_name, is_int_base, is_int, is_sum_value, is_one_value, early_form, early_stmt}
-use Rattle.sk_app.specs.Typing.{Part, FormPart, form_part, part, name_at}
+use Rattle.sk_app.specs.Typing.{Part, FormPart, form_part, name_at}
 use Rattle.sk_app.proofs.TypingLaws.{both_true, some_same, if_some, ty_same, complete, part_is, form_word}
 use Rattle.sk_app.proofs.TypingScopes.{pstmt_law, after_form, after_form_is, after_is, adds_all}
 use Rattle.sk_app.proofs.TypingSteps.{ActMeans, act_rule, act_means_are, stmt_means_is}

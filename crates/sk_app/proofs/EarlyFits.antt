@@ -1,5 +1,5 @@
 -- A program that a text means, of those that are taken so far, is well-formed.
-use Rattle.std.proofs.Common.{◌≡◌, ℕ, zero, suc, Bool, true, false, ◌&&◌, not, List, [], ◌∷◌, ◌++◌, map, length, Option, Some, None, refl, sym, ap, ◌∙◌, subst}
+use Rattle.std.proofs.Common.{◌≡◌, ℕ, zero, suc, Bool, true, false, ◌&&◌, not, List, [], ◌∷◌, length, Option, Some, None, refl, sym, ap, ◌∙◌, subst}
 use Rattle.std.specs.Prelude.{IsTrue, nat_lt, nat_le, slice_get, if◌then◌else◌}
 use Rattle.std.specs.List.{list_all}
 use Rattle.std.proofs.lemmas.Bool.{and_parts, false≢true}
@@ -17,7 +17,7 @@ use Rattle.sk_tree.specs.declared.item.Param.{Param}
 use Rattle.sk_tree.specs.declared.item.FunItem.{FunItem}
 use Rattle.sk_tree.specs.declared.item.Item.{Item}
 use Rattle.sk_tree.specs.declared.item.Item.TheVariants as item
-use Rattle.sk_tree.specs.Names.{eform_names, expr_names, any_names, ty_names, declared_names, form_names, stmt_names, param_names, any_name, any_ty_names, fun_names, item_names, all_names}
+use Rattle.sk_tree.specs.Names.{eform_names, expr_names, any_names, ty_names, declared_names, form_names, stmt_names, param_names, any_name, any_ty_names, fun_names, item_names}
 use Rattle.sk_prog.specs.declared.ids.StructId.{StructId}
 use Rattle.sk_prog.specs.declared.ids.FunId.{FunId}
 use Rattle.sk_prog.specs.declared.ty.Ty.{Ty}
@@ -39,11 +39,11 @@ use Rattle.sk_types.specs.declared.scope.Variable.{Variable}
 use Rattle.sk_types.specs.Rules.{bit, number_takes, in_range}
 use Rattle.sk_app.specs.EarlyRules.{class_of, result_of, hole_takes}
 use Rattle.sk_types.specs.Scope.{Nearest}
-use Rattle.sk_types.specs.Types.{HasType, Grows, form_after, after, parameters, variable_of}
-use Rattle.sk_app.specs.EarlyTypes.{Means, AnyAt, IsAt, MeansDeclare, MeansAssign, StmtMeans, AllMean, ParamsMean, FunMeans, ItemsMean, Types}
+use Rattle.sk_types.specs.Types.{HasType, Grows, form_after, after, parameters}
+use Rattle.sk_app.specs.EarlyTypes.{Means, AnyAt, IsAt, MeansDeclare, MeansAssign, StmtMeans, AllMean, ParamsMean, FunMeans, ItemsMean}
 use Rattle.sk_app.proofs.Bridge.{to_early}
 use Rattle.sk_app.proofs.EarlyTrees.{reads_early}
-use Rattle.sk_app.specs.Early.{Rank, Operand, Other, peform_rank, prank, is_sum, is_equation, is_variable, is_int_ty, is_sum_pvalue, early_pform, early_pstmt, early_pparam, is_pharness, is_absent, early_pfun, early_funs, is_none}
+use Rattle.sk_app.specs.Early.{Rank, Operand, Other, peform_rank, prank, is_sum, is_variable, is_int_ty, is_sum_pvalue, early_pform, early_pstmt, early_pparam, is_pharness, is_absent, early_pfun, early_funs, is_none}
 use Rattle.sk_app.specs.Built.{default_bounds}
 use Rattle.sk_app.specs.EarlyFit.{EarlyTextsFit}
 use Rattle.sk_app.proofs.FillingEarly.{ranked, operator_ranked, sum_ranked, equation_ranked, variable_expr, early_stmt}

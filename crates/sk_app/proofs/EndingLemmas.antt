@@ -2,12 +2,10 @@
 use Rattle.std.proofs.Common.{ℕ, List, Option, Some, None, IfSome, ◌≤◌, ◌≡◌, length, subst, ap, ◌∙◌}
 use Rattle.std.specs.declared.alloc.Global.{Global}
 use Rattle.std.specs.declared.vec.Vec.{Vec}
-use Rattle.sk_model.specs.declared.expanded.Expanded.{Expanded}
 use Rattle.sk_app.specs.declared.prepare.Found.{Found}
 use Rattle.sk_app.specs.declared.prepare.Found.TheVariants as found
 use Rattle.sk_app.specs.declared.prepare.Prepared.{Prepared}
 use Rattle.sk_app.specs.declared.prepare.Prepared.TheVariants as prepared
-use Rattle.sk_app.specs.Built.{IsBuilt}
 use Rattle.sk_app.specs.Streams.{most_bytes}
 use Rattle.sk_app.specs.Prepared.{IsUnbuilt, Finds, IsPrepared}
 

@@ -1,5 +1,5 @@
 -- The tree that is read is what the tokens read as, and it is early; and each such tree is read.
-use Rattle.std.proofs.Common.{◌≡◌, ℕ, suc, ◌≤◌, true, false, ◌&&◌, List, [], ◌∷◌, ◌++◌, map, length, Option, Some, None, refl, sym, ap, ◌∙◌, subst, arith, append_assoc, append-nil, length-append, IsTrue}
+use Rattle.std.proofs.Common.{◌≡◌, ℕ, suc, true, false, ◌&&◌, List, [], ◌∷◌, ◌++◌, length, Option, Some, None, refl, sym, ap, ◌∙◌, subst, arith, append_assoc, append-nil, length-append, IsTrue}
 use Rattle.std.specs.List.{list_all}
 use Rattle.sk_base.specs.declared.span.Span.{Span}
 use Rattle.sk_tree.specs.declared.token.Token.{Token}
@@ -17,8 +17,6 @@ use Rattle.sk_tree.specs.declared.item.Tree.{Tree}
 use Rattle.sk_tree.specs.Phrase.{Sign, Each, Between}
 use Rattle.sk_app.specs.EarlySpelt.{SpeltParam, SpeltStmt, SpeltFun, SpeltItem, SpeltTree}
 use Rattle.sk_app.specs.EarlyPlaced.{stmt_placed, tree_placed}
-use Rattle.sk_tree.specs.Depth.{deepest}
-use Rattle.sk_app.specs.EarlyDepth.{param_depth, stmt_depth, tree_depth}
 use Rattle.sk_tree.specs.Reads.{Reads}
 use Rattle.sk_app.specs.EarlyReads.{EarlyReads}
 use Rattle.sk_app.proofs.EarlyTrees.{reads_early, early_reads}

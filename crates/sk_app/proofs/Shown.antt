@@ -23,8 +23,7 @@ use Rattle.sk_tree.specs.Spelt.{SpeltRef, SpeltKind}
 use Rattle.sk_app.specs.EarlySpelt.{SpeltStmt, SpeltParam, SpeltResult, SpeltFun, SpeltItem, SpeltTree}
 use Rattle.sk_app.specs.EarlyPlaced.{stmt_placed, item_placed, tree_placed}
 use Rattle.sk_tree.specs.Depth.{deepest, any_depth}
-use Rattle.sk_app.specs.EarlyDepth.{ty_depth, stmt_depth, param_depth, fun_depth, item_depth, tree_depth}
-use Rattle.sk_tree.specs.Depth.{most_levels}
+use Rattle.sk_app.specs.EarlyDepth.{ty_depth, stmt_depth, param_depth, fun_depth, item_depth}
 use Rattle.sk_tree.specs.Tokens.{tokens_of}
 use Rattle.sk_tree.specs.Names.{all_names}
 use Rattle.sk_prog.specs.declared.ty.Ty.{Ty}

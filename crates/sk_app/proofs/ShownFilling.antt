@@ -23,7 +23,6 @@ use Rattle.sk_tree.specs.Depth.{deepest, any_depth}
 use Rattle.sk_app.specs.EarlyDepth.{expr_depth, ty_depth, form_depth, stmt_depth, param_depth, item_depth}
 use Rattle.sk_tree.specs.Names.{any_names, ty_names, form_names, stmt_names, param_names, any_name, any_ty_names, item_names}
 use Rattle.sk_tree.specs.Tokens.{AreTokens}
-use Rattle.sk_tree.specs.Depth.{most_levels}
 use Rattle.sk_tree.specs.Reads.{Reads}
 use Rattle.sk_prog.specs.declared.ty.Ty.{Ty}
 use Rattle.sk_prog.specs.declared.expr.PExpr.{PExpr}

@@ -1,8 +1,8 @@
 -- How parts of a text that were read or written come together.
-use Rattle.std.proofs.Common.{ℕ, List, [], ◌++◌, ◌≡◌, ◌≤◌, ◌<◌, ◌+◌, Option, Some, None, length, take, refl, sym, ap, ◌∙◌, arith}
-use Rattle.std.specs.Prelude.{option_map, IfSome}
+use Rattle.std.proofs.Common.{ℕ, List, [], ◌++◌, ◌≡◌, ◌≤◌, ◌+◌, Option, Some, None, length, take, refl, sym, ap, ◌∙◌, arith}
+use Rattle.std.specs.Prelude.{option_map}
 use Rattle.std.proofs.lemmas.List.{append-nil, append_assoc, length-append}
-use Rattle.sk_base.specs.Stream.{Rose, greatest_count, NothingLeft, Counts, IsAppended}
+use Rattle.sk_base.specs.Stream.{Counts, IsAppended}
 use Rattle.sk_app.specs.Streams.{Appends, TakesFew, most_bytes}
 use Rattle.sk_app.specs.ReadStep.{Loses}
 

@@ -1,11 +1,10 @@
 -- What an early tree means is an early program.
-use Rattle.std.proofs.Common.{◌≡◌, ◌≤◌, ◌<◌, ℕ, Bool, true, false, List, [], ◌∷◌, ◌++◌, length, Option, Some, None, refl, sym, ap, subst, ◌∙◌, arith, append_assoc}
-use Rattle.std.specs.Prelude.{map, not, ◌&&◌, nat_lt, nat_le, slice_get}
+use Rattle.std.proofs.Common.{◌≡◌, ◌≤◌, ◌<◌, ℕ, Bool, true, List, [], ◌∷◌, ◌++◌, length, Option, Some, None, refl, sym, ap, subst, ◌∙◌, arith}
+use Rattle.std.specs.Prelude.{not, ◌&&◌, nat_lt, slice_get}
 use Rattle.std.specs.List.{list_all}
 use Rattle.std.proofs.lemmas.Bool.{lt-ltb, le-leb}
 use Rattle.std.proofs.lemmas.Option.{slice_get_within}
 use Rattle.std.proofs.lemmas.List.{length-map}
-use Rattle.sk_base.specs.declared.span.Span.{Span}
 use Rattle.sk_base.specs.declared.bounds.Bounds.{Bounds}
 use Rattle.sk_tree.specs.declared.token.Mark.{Mark}
 use Rattle.sk_tree.specs.declared.token.Mark.TheVariants as mark
@@ -38,7 +37,6 @@ use Rattle.sk_prog.specs.declared.expr.BinOp.{BinOp}
 use Rattle.sk_prog.specs.declared.expr.PExpr.{PExpr}
 use Rattle.sk_prog.specs.declared.expr.PEForm.{PEForm}
 use Rattle.sk_prog.specs.declared.expr.PField.{PField}
-use Rattle.sk_prog.specs.declared.expr.PEForm.TheVariants as pform
 use Rattle.sk_prog.specs.declared.expr.PEForm.TheOpen as PE
 use Rattle.sk_prog.specs.declared.expr.PEForm.TheViews.{roll-PEForm}
 use Rattle.sk_prog.specs.declared.expr.PEForm.TheFolds.{map-PEForm, fold-PEForm, fold-PField, fold-roll-PEForm, fold-roll-PExpr}
@@ -51,10 +49,10 @@ use Rattle.sk_prog.specs.declared.prog.ParamDef.{ParamDef}
 use Rattle.sk_prog.specs.declared.prog.Fun.{Fun}
 use Rattle.sk_prog.specs.declared.prog.Prog.{Prog}
 use Rattle.sk_types.specs.declared.scope.Variable.{Variable}
-use Rattle.sk_types.specs.Rules.{int, operator_of}
+use Rattle.sk_types.specs.Rules.{operator_of}
 use Rattle.sk_types.specs.Types.{Grows, form_after, after, parameters, kind_of}
-use Rattle.sk_app.specs.EarlyTypes.{EFormRule, ExprRule, Means, IsAt, AnyAt, IsTarget, TargetForm, BaseMeans, TyMeans, FormRule, StmtRule, after_all, form_means, StmtMeans, AllMean, ParamsMean, ParamMeans, ResultMeans, FunMeans, ItemsMean, Types, most}
-use Rattle.sk_app.specs.Early.{Rank, Operand, Sum, Equation, Other, is_sum, is_equation, operator_rank, eform_rank, rank, is_name, is_int_base, is_int, is_sum_value, is_one_value, early_form, early_stmt, early_param, is_harness, is_absent, early_fun, early_items, is_early, poperator_rank, peform_rank, prank, is_int_ty, variable_form, is_variable, is_sum_pvalue, early_pform, early_pstmt, early_pparam, is_pharness, early_pfun, early_funs, early_prog, is_none}
+use Rattle.sk_app.specs.EarlyTypes.{EFormRule, Means, AnyAt, BaseMeans, FormRule, StmtRule, after_all, StmtMeans, AllMean, ParamsMean, ParamMeans, ResultMeans, FunMeans, ItemsMean, Types, most}
+use Rattle.sk_app.specs.Early.{Rank, Operand, Other, is_sum, is_equation, operator_rank, eform_rank, rank, is_name, is_int_base, is_int, is_sum_value, is_one_value, early_form, early_stmt, early_param, is_harness, is_absent, early_fun, early_items, is_early, poperator_rank, peform_rank, prank, is_int_ty, variable_form, is_variable, is_sum_pvalue, early_pform, early_pstmt, early_pparam, is_pharness, early_pfun, early_funs, early_prog, is_none}
 use Rattle.sk_app.proofs.TypingLaws.{pexpr_law, both_true, both, rule, FormMeans, form_means_are, means_parts}
 use Rattle.sk_app.proofs.TypingScopes.{pstmt_law, after_form, after_form_is, after_is, adds_all, most_is}
 use Rattle.sk_app.proofs.TypingSteps.{act_rule, ActMeans, act_means_are, stmt_means_is}

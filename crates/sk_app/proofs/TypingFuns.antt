@@ -1,5 +1,5 @@
 -- What functions and trees become is what they mean, and nothing else is.
-use Rattle.std.proofs.Common.{◌≡◌, ℕ, Bool, true, false, List, [], ◌∷◌, length, Option, Some, None, refl, sym, ap, subst, ◌∙◌}
+use Rattle.std.proofs.Common.{◌≡◌, ℕ, true, List, [], ◌∷◌, length, Option, Some, None, refl, sym, ap, subst, ◌∙◌}
 use Rattle.std.specs.Prelude.{map, IsTrue}
 use Rattle.sk_base.specs.declared.bounds.Bounds.{Bounds}
 use Rattle.sk_tree.specs.declared.item.TyTree.{TyTree}
@@ -14,12 +14,12 @@ use Rattle.sk_prog.specs.declared.prog.Fun.{Fun}
 use Rattle.sk_prog.specs.declared.prog.Prog.{Prog}
 use Rattle.sk_types.specs.Types.{parameters, kind_of}
 use Rattle.sk_types.specs.Scope.{all_distinct}
-use Rattle.sk_app.specs.EarlyTypes.{ParamMeans, ParamsMean, ResultMeans, may_be, most, after_all, FunMeans, ItemsMean, Types}
+use Rattle.sk_app.specs.EarlyTypes.{ParamMeans, ParamsMean, ResultMeans, may_be, after_all, FunMeans, ItemsMean, Types}
 use Rattle.sk_app.specs.Early.{early_items, is_early}
-use Rattle.sk_app.specs.Typing.{◌>>=◌, ty_of, any_ty, make_all, makes, param_of, params_of, function, body_of, fun_with, fun_of, items_of, prog_of}
+use Rattle.sk_app.specs.Typing.{ty_of, any_ty, make_all, param_of, params_of, fun_with, fun_of, items_of, prog_of}
 use Rattle.sk_app.proofs.TypingLaws.{bind_some, some_same, if_some}
 use Rattle.sk_app.proofs.TypingScopes.{most_is}
-use Rattle.sk_app.proofs.TypingSteps.{base_means, means_base, AllGood, sound_all, all_complete}
+use Rattle.sk_app.proofs.TypingSteps.{base_means, means_base, sound_all, all_complete}
 
 param_sound : (p : Param) (d : ParamDef) → param_of p ≡ Some d → ParamMeans p d
 param_sound p d h =

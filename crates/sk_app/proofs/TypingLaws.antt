@@ -1,6 +1,6 @@
 -- What an expression becomes is what it means, and nothing else is.
-use Rattle.std.proofs.Common.{◌≡◌, ℕ, Bool, true, false, List, [], ◌∷◌, Option, Some, None, refl, sym, ap, subst, ◌∙◌}
-use Rattle.std.specs.Prelude.{map, ◌&&◌, if◌then◌else◌, nat_eq, option_and_then}
+use Rattle.std.proofs.Common.{◌≡◌, ℕ, Bool, true, false, List, Option, Some, None, refl, sym, ap, subst, ◌∙◌}
+use Rattle.std.specs.Prelude.{◌&&◌, if◌then◌else◌}
 use Rattle.std.proofs.lemmas.Bool.{eqb-true, eq-eqb}
 use Rattle.sk_base.specs.declared.span.Span.{Span}
 use Rattle.sk_base.specs.declared.bounds.Bounds.{Bounds}
@@ -9,8 +9,8 @@ use Rattle.sk_tree.specs.declared.expr.Expr.{Expr}
 use Rattle.sk_tree.specs.declared.expr.EForm.{EForm}
 use Rattle.sk_tree.specs.declared.expr.EForm.TheVariants as eform
 use Rattle.sk_tree.specs.declared.expr.EForm.TheOpen as E
-use Rattle.sk_tree.specs.declared.expr.EForm.TheViews.{roll-EForm, roll-Expr, roll-NewField}
-use Rattle.sk_tree.specs.declared.expr.EForm.TheFolds.{map-EForm, map-Expr, fold-EForm, fold-NewField, fold-roll-EForm, fold-roll-Expr, ind-Expr}
+use Rattle.sk_tree.specs.declared.expr.EForm.TheViews.{roll-EForm, roll-Expr}
+use Rattle.sk_tree.specs.declared.expr.EForm.TheFolds.{map-EForm, fold-EForm, fold-NewField, fold-roll-EForm, fold-roll-Expr, ind-Expr}
 use Rattle.sk_tree.specs.declared.expr.NewField.{NewField}
 use Rattle.sk_prog.specs.declared.ty.Ty.{Ty}
 use Rattle.sk_prog.specs.declared.ty.Ty.TheVariants as ty
@@ -22,21 +22,21 @@ use Rattle.sk_prog.specs.declared.expr.PEForm.{PEForm}
 use Rattle.sk_prog.specs.declared.expr.PField.{PField}
 use Rattle.sk_prog.specs.declared.expr.PEForm.TheVariants as pform
 use Rattle.sk_prog.specs.declared.expr.PEForm.TheOpen as PE
-use Rattle.sk_prog.specs.declared.expr.PEForm.TheViews.{roll-PEForm, roll-PExpr, roll-PField}
-use Rattle.sk_prog.specs.declared.expr.PEForm.TheFolds.{map-PEForm, map-PExpr, rec-PEForm, rec-PField, rec-roll-PEForm, rec-roll-PExpr, ind-PExpr}
+use Rattle.sk_prog.specs.declared.expr.PEForm.TheViews.{roll-PEForm, roll-PExpr}
+use Rattle.sk_prog.specs.declared.expr.PEForm.TheFolds.{map-PEForm, rec-PEForm, rec-PField, rec-roll-PEForm, rec-roll-PExpr, ind-PExpr}
 use Rattle.sk_types.specs.declared.rules.Own.{Own}
 use Rattle.sk_types.specs.declared.rules.Own.TheVariants.{Wrong, Loose, Firm}
 use Rattle.sk_app.specs.declared.early_rules.Class.{Class}
 use Rattle.sk_app.specs.declared.early_rules.Class.TheVariants.{Plus, Arithmetic, Order, Equality, Bitwise, Special}
 use Rattle.sk_types.specs.declared.scope.Variable.{Variable}
 use Rattle.sk_types.specs.declared.scope.Place.{Place}
-use Rattle.sk_types.specs.Rules.{int, bit, elem_eq, ty_eq, operator_of, number_takes, in_range}
-use Rattle.sk_app.specs.EarlyRules.{fits, class_of, operand, result_of, result_own, loose_takes, is_integer, is_bit, hole_takes}
+use Rattle.sk_types.specs.Rules.{elem_eq, ty_eq, operator_of, number_takes, in_range}
+use Rattle.sk_app.specs.EarlyRules.{fits, class_of, operand, result_of, loose_takes, hole_takes}
 use Rattle.sk_types.specs.Scope.{lookup, Nearest}
 use Rattle.sk_types.specs.Types.{HasType, Wanted}
-use Rattle.sk_app.specs.EarlyTypes.{ExprRule, EFormRule, FieldRule, MeansOperation, eform_means, expr_means, field_means, Means, IsAt, own, eform_own, operation_own}
+use Rattle.sk_app.specs.EarlyTypes.{ExprRule, EFormRule, FieldRule, eform_means, expr_means, field_means, Means, IsAt, own, eform_own, operation_own}
 use Rattle.sk_types.proofs.Nearest.{nearest_lookup, lookup_nearest}
-use Rattle.sk_app.specs.Typing.{◌>>=◌, Part, FormPart, typed, number_at, hole_at, name_at, wanted, operands_at, operation_at, eform_part, expr_part, form_part, part}
+use Rattle.sk_app.specs.Typing.{◌>>=◌, Part, FormPart, typed, number_at, hole_at, name_at, wanted, operation_at, eform_part, expr_part, form_part, part}
 
 -- Types that are the same
 

@@ -1,6 +1,6 @@
 -- What statements and functions become is what they mean, and nothing else is.
 use Rattle.std.proofs.Common.{◌≡◌, ℕ, Bool, true, false, List, [], ◌∷◌, ◌++◌, length, Option, Some, None, refl, sym, ap, subst, ◌∙◌}
-use Rattle.std.specs.Prelude.{map, if◌then◌else◌, IsTrue, option_and_then}
+use Rattle.std.specs.Prelude.{if◌then◌else◌}
 use Rattle.sk_base.specs.declared.span.Span.{Span}
 use Rattle.sk_base.specs.declared.bounds.Bounds.{Bounds}
 use Rattle.sk_tree.specs.declared.expr.Expr.{Expr}
@@ -20,17 +20,17 @@ use Rattle.sk_prog.specs.declared.stmt.PStmt.{PStmt}
 use Rattle.sk_prog.specs.declared.stmt.PForm.{PForm}
 use Rattle.sk_prog.specs.declared.stmt.PForm.TheVariants as act
 use Rattle.sk_prog.specs.declared.stmt.PForm.TheOpen as S
-use Rattle.sk_prog.specs.declared.stmt.PForm.TheViews.{roll-PForm, roll-PStmt}
+use Rattle.sk_prog.specs.declared.stmt.PForm.TheViews.{roll-PForm}
 use Rattle.sk_prog.specs.declared.stmt.PForm.TheFolds.{map-PForm, rec-PForm, rec-roll-PForm, rec-roll-PStmt}
 use Rattle.sk_types.specs.declared.scope.Variable.{Variable}
 use Rattle.sk_types.specs.declared.scope.Place.{Place}
-use Rattle.sk_types.specs.Rules.{int, bit, ty_eq}
+use Rattle.sk_types.specs.Rules.{int, bit}
 use Rattle.sk_app.specs.EarlyRules.{fits}
-use Rattle.sk_types.specs.Scope.{lookup, is_taken, Nearest}
+use Rattle.sk_types.specs.Scope.{lookup, is_taken}
 use Rattle.sk_types.specs.Types.{Grows, form_after, after}
-use Rattle.sk_app.specs.EarlyTypes.{IsAt, AnyAt, TargetForm, IsTarget, BaseMeans, TyMeans, after_all, StmtRule, FormRule, MeansDeclare, MeansAssign, form_means, stmt_means, StmtMeans, AllMean}
-use Rattle.sk_app.specs.Typing.{◌>>=◌, Part, FormPart, typed, name_at, part, form_part, value_at, any_at, base_ty, ty_of, Made, makes, declare, declare_names, assign_to, assign, make_form, make, make_all}
-use Rattle.sk_app.proofs.TypingLaws.{bind_some, some_same, if_some, ty_same, ty_self, sound, complete, part_is, form_word, FormMeans, FormGood, sound_name, means_from}
+use Rattle.sk_app.specs.EarlyTypes.{IsAt, AnyAt, TargetForm, IsTarget, BaseMeans, after_all, StmtRule, FormRule, MeansDeclare, form_means, stmt_means, StmtMeans, AllMean}
+use Rattle.sk_app.specs.Typing.{◌>>=◌, Part, FormPart, typed, name_at, form_part, value_at, any_at, base_ty, ty_of, Made, makes, declare, declare_names, assign_to, assign, make_form, make, make_all}
+use Rattle.sk_app.proofs.TypingLaws.{bind_some, some_same, if_some, ty_same, ty_self, sound, complete, part_is, form_word, FormMeans, sound_name, means_from}
 use Rattle.sk_app.proofs.TypingScopes.{pstmt_law, after_form, after_form_is, after_is}
 
 -- Types that are written

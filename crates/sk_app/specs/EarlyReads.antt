@@ -1,5 +1,5 @@
 -- Which early tree tokens read as, in the words on early trees.
-use Rattle.std.specs.Prelude.{◌≤◌, IsTrue, List}
+use Rattle.std.specs.Prelude.{IsTrue, List}
 use Rattle.sk_tree.specs.declared.token.Token.{Token}
 use Rattle.sk_tree.specs.declared.item.Tree.{Tree}
 use Rattle.sk_app.specs.EarlySpelt.{SpeltTree}

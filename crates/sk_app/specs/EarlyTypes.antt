@@ -1,8 +1,7 @@
 -- Which typed program an early tree means: the relation between tree and program with the few forms of early
 -- trees and no coercions. On early trees it is the whole one, which proofs/Bridge shows.
-use Rattle.std.specs.Prelude.{◌≡◌, ℕ, max, Bool, true, false, not, ◌&&◌, IsTrue, List, [], ◌∷◌, ◌++◌, map, length, Option, Some, None}
-use Rattle.std.specs.List.{list_all, list_any}
-use Rattle.std.specs.Str.{bytes_eq}
+use Rattle.std.specs.Prelude.{◌≡◌, ℕ, max, Bool, true, false, not, IsTrue, List, [], ◌∷◌, map, length, Option, Some, None}
+use Rattle.std.specs.List.{list_all}
 use Rattle.sk_base.specs.declared.bounds.Bounds.{Bounds}
 use Rattle.sk_tree.specs.declared.token.Mark.{Mark}
 use Rattle.sk_tree.specs.declared.expr.Expr.{Expr}
@@ -19,8 +18,6 @@ use Rattle.sk_tree.specs.declared.item.Base.{Base}
 use Rattle.sk_tree.specs.declared.item.Base.TheVariants as base
 use Rattle.sk_tree.specs.declared.item.TyTree.{TyTree}
 use Rattle.sk_tree.specs.declared.item.Param.{Param}
-use Rattle.sk_tree.specs.declared.item.FunKind.{FunKind}
-use Rattle.sk_tree.specs.declared.item.FunKind.TheVariants as kind
 use Rattle.sk_tree.specs.declared.item.FunItem.{FunItem}
 use Rattle.sk_tree.specs.declared.item.Item.{Item}
 use Rattle.sk_tree.specs.declared.item.Item.TheVariants as item

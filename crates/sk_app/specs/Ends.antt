@@ -1,8 +1,8 @@
 -- What the sink holds after an ending, and which endings there are for a text.
-use Rattle.std.specs.Prelude.{ℕ, ◌≡◌, ◌⊎◌, Bool, true, false, List, Option}
+use Rattle.std.specs.Prelude.{ℕ, ◌≡◌, Bool, true, false, List, Option}
 use Rattle.sk_base.specs.Stream.{Rose}
 use Rattle.sk_app.specs.declared.ending.Ending.{Ending}
-use Rattle.sk_app.specs.declared.ending.Ending.TheVariants.{Completed, NoCompletion, NotALine, ReadFault, WriteFault, TooLong, Memory, NotBuilt}
+use Rattle.sk_app.specs.declared.ending.Ending.TheVariants.{Completed, NoCompletion, ReadFault, WriteFault, TooLong, Memory, NotBuilt}
 use Rattle.sk_app.specs.Streams.{Appends, AppendsPrefix}
 
 -- a text of this kind was appended to what the sink held

@@ -1,5 +1,5 @@
 -- What one read adds to the text.
-use Rattle.std.specs.Prelude.{ℕ, ◌+◌, ◌<◌, ◌≤◌, ◌≡◌, List, ◌++◌, length, take, Option, option_map, Result, Ok, Err}
+use Rattle.std.specs.Prelude.{ℕ, ◌≤◌, ◌≡◌, List, ◌++◌, length, Option, option_map, Result, Ok, Err}
 use Rattle.std.specs.declared.alloc.AllocError.{AllocError}
 use Rattle.sk_base.specs.Stream.{Counts, NothingLeft, Rose}
 use Rattle.sk_app.specs.declared.text.Step.{Step}

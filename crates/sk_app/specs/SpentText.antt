@@ -1,6 +1,6 @@
 -- What is written where a budget is spent. The lines of a certificate, where one is asked for, are still to
 -- be defined.
-use Rattle.std.specs.Prelude.{ℕ, true, false, List, [], ◌∷◌, ◌++◌, Bool, codes}
+use Rattle.std.specs.Prelude.{ℕ, true, false, List, [], ◌++◌, Bool, codes}
 use Rattle.std.specs.Fmt.{decimal, signed_decimal}
 use Rattle.std.specs.List.{flat_map, join_by}
 use Rattle.sk_prog.specs.declared.value.Value.{Value}

@@ -1,5 +1,5 @@
 -- What reading a whole source gives, and what writing a whole text leaves.
-use Rattle.std.specs.Prelude.{ℕ, ◌+◌, ◌<◌, ◌≤◌, ◌≡◌, List, [], ◌++◌, length, Option, option_map, IfSome}
+use Rattle.std.specs.Prelude.{ℕ, ◌+◌, ◌<◌, ◌≤◌, ◌≡◌, List, ◌++◌, length, Option, option_map, IfSome}
 use Rattle.sk_base.specs.Stream.{Rose}
 use Rattle.sk_app.specs.declared.text.Reading.{Reading}
 use Rattle.sk_app.specs.declared.text.Reading.TheVariants.{Whole, Long, Failed}

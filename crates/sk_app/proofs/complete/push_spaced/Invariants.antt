@@ -1,4 +1,4 @@
-use Rattle.std.proofs.Common.{◌≡◌, ◌++◌, ℕ, length}
+use Rattle.std.proofs.Common.{◌≡◌, ◌++◌, length}
 use Rattle.sk_app.specs.ResultText.{spaced}
 use Rattle.sk_app.proofs.complete.push_spaced.Given as goal
 

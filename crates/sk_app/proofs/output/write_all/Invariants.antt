@@ -1,4 +1,4 @@
-use Rattle.std.proofs.Common.{ℕ, length}
+use Rattle.std.proofs.Common.{length}
 use Rattle.sk_app.proofs.StreamLemmas.{IsWriting}
 use Rattle.sk_app.proofs.output.write_all.Given as goal
 

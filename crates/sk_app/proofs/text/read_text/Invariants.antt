@@ -1,4 +1,4 @@
-use Rattle.std.proofs.Common.{ℕ, length, ◌-◌}
+use Rattle.std.proofs.Common.{length, ◌-◌}
 use Rattle.sk_app.proofs.StreamLemmas.{HasRead}
 use Rattle.sk_app.proofs.text.read_text.Given as goal
 
