@@ -194,6 +194,7 @@ pub Makes-from_added : (old new : Graph) (i : ℕ) (n : Node) → IsWellFormed o
 Makes-from_added old new i n before wf may h = record {
   grows = h.grows;
   found = h.found;
+  alone = h.alone;
   sort = record { node = n; found = h.found; sort = refl };
   only = h.only;
   children = may;
