@@ -1,5 +1,5 @@
 -- Marks of the nodes below some roots, and copies of nodes.
-use Rattle.std.proofs.Common.{◌≡◌, ◌≢◌, ℕ, zero, suc, ◌+◌, ◌<◌, ◌≤◌, Bool, true, false, List, [], ◌∷◌, ◌++◌, Option, Some, None, length, take, slice_get, slice_set, slice_index, get_or, fold, All, Contains, refl, sym, ap, subst, ◌∙◌, arith, ◌⊎◌, ⊎_elim, inl, inr, replicate, true≢false, IsTrue}
+use Rattle.std.proofs.Common.{◌≡◌, ℕ, zero, suc, ◌+◌, ◌<◌, ◌≤◌, Bool, true, false, List, [], ◌∷◌, ◌++◌, Some, length, take, slice_get, slice_set, slice_index, get_or, All, Contains, refl, sym, ap, subst, ◌∙◌, arith, ◌⊎◌, ⊎_elim, inl, inr, replicate, true≢false, IsTrue}
 use Rattle.std.proofs.lemmas.List.{get_or_append_left, get_or_at, length-append, length-take, length-replicate}
 use Rattle.std.proofs.lemmas.Option.{none-some, same_Some, slice_get_within, get_or_from_slice_get, slice_get-get_or}
 use Rattle.std.proofs.lemmas.Bool.{cases_lt}
@@ -8,10 +8,9 @@ use Rattle.sk_dag.specs.declared.node.BoolId.{BoolId}
 use Rattle.sk_dag.specs.declared.node.Node.{Node}
 use Rattle.sk_dag.specs.declared.node.Node.TheVariants.{Flag, Word, HoleBit, HoleWord, InputBit, InputWord, Not, And, Or, Xor, BoolMux, Mux, Add, Sub, Mul, Div, Rem, Lt, Eq, CostZero, CostAdd, CostLe}
 use Rattle.sk_dag.specs.declared.value.Value.{Value}
-use Rattle.sk_base.specs.Word.{IsWord}
 use Rattle.sk_dag.specs.Graph.{Graph, Grows, HasSort, HasBool, Sort, sort_of, MayFollow}
 use Rattle.sk_dag.specs.Eval.{Makes, Keeps, IsNode, value_at, value_of, graph_values, as_bool, bool_value}
-use Rattle.sk_dag.specs.Reach.{children, Each, Reaches, root, child, with_marks, IsMarked, MarksReached, IsClosed, new_bool, renumbered, StandsFor, StandForMarked, AddsAtMost, CopiesMarked, OnlyMarked, IsCopied, IsGrafted}
+use Rattle.sk_dag.specs.Reach.{children, Each, Reaches, root, child, with_marks, IsMarked, MarksReached, IsClosed, new_bool, renumbered, StandsFor, StandForMarked, AddsAtMost, CopiesMarked, OnlyMarked, IsCopied}
 use Rattle.sk_dag.proofs.EvalLemmas.{Grows-refl, Grows-trans, slice_get-grows}
 
 -- ---- lists of children

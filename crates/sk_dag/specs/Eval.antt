@@ -1,5 +1,5 @@
 -- The value of each node.
-use Rattle.std.specs.Prelude.{take, ◌≡◌, ◌⊎◌, ◌<ℤ◌, ◌≤ℤ◌, neg_ℤ, Some, slice_get, ℕ, ◌+◌, ◌-◌, ◌^◌, ◌==◌, ◌%◌, min, nat_le, nat_lt, List, [], ◌∷◌, ◌++◌, Bool, true, false, not, ◌&&◌, ◌||◌, ℤ, pos, ◌+ℤ◌, ◌-ℤ◌, ◌*ℤ◌, int_lt, fold, slice_index, slice_index_or, unsigned_abs, if◌then◌else◌}
+use Rattle.std.specs.Prelude.{take, ◌≡◌, ◌⊎◌, Some, slice_get, ℕ, ◌+◌, ◌-◌, ◌^◌, min, nat_le, nat_lt, List, [], ◌∷◌, ◌++◌, Bool, false, not, ◌&&◌, ◌||◌, ℤ, pos, ◌+ℤ◌, ◌-ℤ◌, ◌*ℤ◌, int_lt, fold, slice_index, slice_index_or, unsigned_abs, if◌then◌else◌}
 use Rattle.std.specs.Ordering.{int_eq}
 use Rattle.sk_dag.specs.declared.env.Env.{Env}
 use Rattle.sk_base.specs.Word.{wrapped, IsWord}

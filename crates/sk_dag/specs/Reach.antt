@@ -1,5 +1,5 @@
 -- The nodes that a node stands on, and copies of nodes over other numbers.
-use Rattle.std.specs.Prelude.{◌≡◌, ℕ, ◌<◌, Bool, true, List, [], ◌∷◌, Option, Some, length, slice_get, slice_index, slice_set, fold, Contains, ◌↔◌, ⊤, ◌⊎◌, IsTrue}
+use Rattle.std.specs.Prelude.{◌≡◌, ℕ, ◌<◌, Bool, true, List, [], ◌∷◌, Some, length, slice_get, slice_index, slice_set, fold, Contains, ◌↔◌, ⊤, ◌⊎◌, IsTrue}
 use Rattle.sk_dag.specs.declared.env.Env.{Env}
 use Rattle.sk_dag.specs.declared.node.BoolId.{BoolId}
 use Rattle.sk_dag.specs.declared.node.WordId.{WordId}

@@ -1,4 +1,4 @@
-use Rattle.std.proofs.Common.{◌≡◌, ◌<◌, ◌∷◌, [], arith, length, refl}
+use Rattle.std.proofs.Common.{◌∷◌, [], arith, refl}
 use Rattle.std.proofs.lemmas.Option.{slice_get_within}
 use Rattle.sk_dag.proofs.ReachLemmas.{IsClosed-reached, root_stands, StandsFor-bool, IsCopied-marked}
 use Rattle.sk_dag.proofs.graph.Dag.graft.Goals as goal
