@@ -2,3 +2,5 @@ pub mod ExtensionLaws
 pub mod GateLaws
 pub mod BitLaws
 pub mod WordLaws
+pub mod EachLaws
+pub mod ProductLaws
