@@ -74,3 +74,7 @@ chosen_step v s a b i x y z c long la lb ex ey is before =
         ≡ (if t then bits_word v (take i a) + 2 ^ i * digit (bit_true v (at a i)) else bits_word v (take i b) + 2 ^ i * digit (bit_true v (at b i)))
     by true = refl
     by false = refl
+
+-- a sum with the opposite of a word and 1
+pub subtracted : (s p fits a b o S : ℕ) → s + p * fits ≡ a + S + 1 → S ≡ o → o + b + 1 ≡ p → s + p * fits + b ≡ a + p
+subtracted s p fits a b o S sum e opposite = omega (arith, sum, e, opposite)

@@ -4,3 +4,4 @@ pub mod BitLaws
 pub mod WordLaws
 pub mod EachLaws
 pub mod ProductLaws
+pub mod DivisionLaws

@@ -10,6 +10,7 @@ mod fold;
 mod gate;
 mod gates;
 mod product;
+mod quotient;
 #[cfg(test)]
 mod tests;
 mod words;
@@ -18,6 +19,7 @@ pub use bit::Bit;
 pub use bits::{and_bits, full_adder, mux_bits, or_bits, sum_bit, xor_bits};
 pub use convert::literal;
 pub use each::{and_each, mux_each, not_each, padded, zeros};
-pub use gates::{adder, and, less, multiplier, mux, xor};
+pub use gates::{adder, and, divider, less, multiplier, mux, xor};
 pub use product::mul_bits;
+pub use quotient::{div_bits, subtract_bits};
 pub use words::{add_bits, add_carry, less_bits};
