@@ -153,6 +153,37 @@ divided_step v left divisor tops taken S S2 S3 from lower difference rest next f
     twice : bits_word v (take low taken) + 2 ^ low * digit (bit_true v (at taken low)) < 2 * (bits_word v (take low divisor) + 2 ^ low * bits_word v (drop low divisor))
     twice = rw (sym first, sym second, value) (omega (arith, below, small (bit_true v next)))
 
+undivided : (taken p lower upper : ℕ) → taken < p → nat_eq upper 0 ≡ false → IsDivided taken (lower + p * upper) 0 taken
+undivided taken p lower zero h e = absurd (true≢false e)
+undivided taken p lower (suc n) h e = record { whole = omega arith; below = omega (arith, h) }
+
+-- One step where a bit of the divisor above those compared is known to be true: what was taken is below the divisor.
+pub divided_shut : (v : ℕ → Bool) (left divisor tops taken S from rest : List Bit) (next clear : Bit) (low : ℕ)
+    → length left ≤ length divisor → length taken ≡ length left + 1 → low ≡ min (length taken) (length divisor) → bits_word v taken ≡ digit (bit_true v next) + 2 * bits_word v left
+    → S ≡ taken → from ≡ take low S → rest ≡ from → clear ≡ at tops (length divisor - low) → clear ≡ Constant false
+    → AreTops v divisor tops
+    → IsDivided (digit (bit_true v next) + 2 * bits_word v left) (bits_word v divisor) (digit (bit_true v clear)) (bits_word v rest)
+divided_shut v left divisor tops taken S from rest next clear low short one is_low value es ef er ec shut tops_are = ⊎_elim partly whole (cases_lt low (length taken))
+  where
+    upper : nat_eq (bits_word v (drop low divisor)) 0 ≡ false
+    upper =
+        let e : length divisor - (length divisor - low) ≡ low = omega (arith, is_low) in
+        sym (ap (bit_true v) (sym shut ∙ ec) ∙ tops_are (length divisor - low) (omega arith) ∙ ap (λ k. nat_eq (bits_word v (drop k divisor)) 0) e)
+
+    partly : low < length taken → IsDivided (digit (bit_true v next) + 2 * bits_word v left) (bits_word v divisor) (digit (bit_true v clear)) (bits_word v rest)
+    partly l =
+        let none : bits_word v (drop low divisor) ≡ 0 = word_nil v (drop low divisor) (drop_all low divisor (omega (arith, is_low, l))) in
+        absurd (true≢false (sym (ap (λ n. nat_eq n 0) none) ∙ upper))
+
+    whole : length taken ≤ low → IsDivided (digit (bit_true v next) + 2 * bits_word v left) (bits_word v divisor) (digit (bit_true v clear)) (bits_word v rest)
+    whole l =
+        let same : rest ≡ taken = er ∙ ef ∙ ap (take low) es ∙ take_all low taken l in
+        let lt : bits_word v (take low taken) < 2 ^ low = bits_low_below v taken low (omega (arith, is_low)) in
+        let is_all : bits_word v (take low taken) ≡ bits_word v taken = ap (bits_word v) (take_all low taken l) in
+        let second = bits_split v divisor low (omega (arith, is_low)) in
+        let zero_digit : digit (bit_true v clear) ≡ 0 = ap (λ z. digit (bit_true v z)) shut in
+        rw (same, zero_digit, sym value, second) (undivided (bits_word v taken) (2 ^ low) (bits_word v (take low divisor)) (bits_word v (drop low divisor)) (omega (arith, lt, is_all)) upper)
+
 pub divided_none : (v : ℕ → Bool) (a quotient left divisor : List Bit) → length quotient ≡ length a → left ≡ [] → 1 ≤ bits_word v divisor
     → IsDivided (bits_word v (drop (length a - 0) a)) (bits_word v divisor) (bits_word v (drop (length a - 0) quotient)) (bits_word v left)
 divided_none v a quotient left divisor long none some =

@@ -1,4 +1,4 @@
-ghost use Rattle.std.specs.Prelude.{◌≡◌, ℕ, ◌+◌, ◌-◌, ◌*◌, ◌^◌, ◌≤◌, ◌<◌, Bool, false, length, take, min, slice_index_or, IfOk, OnErr};
+ghost use Rattle.std.specs.Prelude.{◌≡◌, ℕ, ◌+◌, ◌-◌, ◌*◌, ◌^◌, ◌≤◌, ◌<◌, Bool, false, length, take, min, slice_index_or, IsTrue, IfOk, OnErr};
 ghost use Rattle.sk_gates.specs.Bits.{bit_true, reach, AreOver};
 ghost use Rattle.sk_gates.specs.Extension.{Adds, Continues};
 ghost use Rattle.sk_gates.specs.Words.{digit, bits_word, quotient_of, remainder_of};
@@ -90,8 +90,19 @@ fn lesser(m: usize, n: usize) -> usize
     if m < n { m } else { n }
 }
 
+// Whether a bit is known to be false.
+fn is_false(bit: Bit) -> bool
+    ensures { IsTrue result → bit ≡ Constant false }
+{
+    match bit {
+        Bit::Constant(known) => !known,
+        Bit::Literal(_) => false,
+    }
+}
+
 // One step of a division: the digit of the quotient, and what is left of twice what was left before and the next bit.
-// Where the divisor is not 0 that has no more bits than the divisor.
+// Where the divisor is not 0 that has no more bits than the divisor. Where its upper bits are known not to be false the
+// step adds nothing.
 #[tactic(auto, using(crate::proofs::ExtensionLaws::growing))]
 fn divide_step(
     alloc: Global,
@@ -118,11 +129,15 @@ fn divide_step(
     let taken = with_lowest(alloc, next, left)?;
     let low = lesser(taken.len(), divisor.len());
     let from = lowest(taken.as_slice(), low);
+    let clear = bit_at(tops, divisor.len() - low);
+    if is_false(clear) {
+        let unchanged = List::from_slice(alloc, from)?;
+        return Ok((clear, unchanged));
+    }
     let lower = lowest(divisor, low);
     let (difference, fits) = subtract_bits(alloc, to, from, lower)?;
     let over = bit_or_false(taken.as_slice(), low);
     let enough = or_bits(to, fits, over)?;
-    let clear = bit_at(tops, divisor.len() - low);
     let digit = and_bits(to, enough, clear)?;
     let rest = mux_each(alloc, to, digit, difference.as_slice(), from)?;
     Ok((digit, rest))
