@@ -4,22 +4,20 @@ use Rattle.std.specs.List.{list_all}
 use Rattle.std.specs.Prelude.{nat_le}
 use Rattle.sk_base.specs.declared.span.Span.{Span}
 use Rattle.sk_tree.specs.declared.token.Token.{Token}
-use Rattle.sk_tree.specs.declared.token.Kind.TheVariants as kind
 use Rattle.sk_tree.specs.declared.token.Mark.{Mark}
 use Rattle.sk_tree.specs.declared.token.Mark.TheVariants as mark
-use Rattle.sk_tree.specs.declared.token.Key.TheVariants as key
 use Rattle.sk_tree.specs.declared.expr.Expr.{Expr}
 use Rattle.sk_tree.specs.declared.expr.EForm.{EForm}
 use Rattle.sk_tree.specs.declared.expr.EForm.TheVariants as eform
 use Rattle.sk_tree.specs.declared.expr.NewField.{NewField}
 use Rattle.sk_tree.specs.declared.expr.EForm.TheOpen as E
 use Rattle.sk_tree.specs.declared.expr.EForm.TheViews.{roll-EForm}
-use Rattle.sk_tree.specs.declared.expr.EForm.TheFolds.{map-EForm, fold-EForm, fold-Expr, fold-NewField, fold-roll-EForm, fold-roll-Expr}
+use Rattle.sk_tree.specs.declared.expr.EForm.TheFolds.{map-EForm, fold-EForm, fold-NewField, fold-roll-EForm, fold-roll-Expr}
 use Rattle.sk_tree.specs.declared.stmt.Stmt.{Stmt}
 use Rattle.sk_tree.specs.declared.stmt.Form.{Form}
 use Rattle.sk_tree.specs.declared.stmt.Form.TheOpen as F
 use Rattle.sk_tree.specs.declared.stmt.Form.TheViews.{roll-Form}
-use Rattle.sk_tree.specs.declared.stmt.Form.TheFolds.{map-Form, fold-Form, fold-Stmt, fold-roll-Form, fold-roll-Stmt}
+use Rattle.sk_tree.specs.declared.stmt.Form.TheFolds.{map-Form, fold-Form, fold-roll-Form, fold-roll-Stmt}
 use Rattle.sk_tree.specs.declared.stmt.Declared.{Declared}
 use Rattle.sk_tree.specs.declared.item.Base.{Base}
 use Rattle.sk_tree.specs.declared.item.Base.TheVariants as base
@@ -29,7 +27,7 @@ use Rattle.sk_tree.specs.declared.item.FunItem.{FunItem}
 use Rattle.sk_tree.specs.declared.item.Item.{Item}
 use Rattle.sk_tree.specs.declared.item.Item.TheVariants as item
 use Rattle.sk_tree.specs.declared.item.Tree.{Tree}
-use Rattle.sk_tree.specs.Phrase.{Phrase, Nothing, Given, One, Sign, Keyword, ◌▸◌, Each, Behind, Between, Perhaps}
+use Rattle.sk_tree.specs.Phrase.{Phrase, Nothing, Given, Sign, ◌▸◌, Each, Behind, Between, Perhaps}
 use Rattle.sk_tree.specs.Spelt as whole
 use Rattle.sk_tree.specs.Placed as standing
 use Rattle.sk_tree.specs.Depth as depth
@@ -40,7 +38,7 @@ use Rattle.sk_app.specs.EarlySpelt as early
 use Rattle.sk_app.specs.EarlyPlaced as early_standing
 use Rattle.sk_app.specs.EarlyDepth as early_depth
 use Rattle.sk_app.specs.EarlyReads.{EarlyReads}
-use Rattle.sk_app.specs.Early.{Rank, Operand, Sum, Equation, Other, is_operand, is_sum, is_equation, of_operands, of_sums, operator_rank, eform_rank, rank, is_name, is_int_base, is_int, is_sum_value, is_one_value, early_form, early_stmt, early_param, is_harness, is_absent, early_fun, early_items, is_early}
+use Rattle.sk_app.specs.Early.{Rank, Operand, Sum, Equation, Other, is_sum, is_equation, of_operands, of_sums, operator_rank, eform_rank, rank, is_name, is_int_base, is_int, is_sum_value, is_one_value, early_form, early_stmt, early_param, is_harness, is_absent, early_fun, early_items, is_early}
 use Rattle.sk_app.proofs.ReadingLayers.{layer_stmt, by_form}
 use Rattle.sk_app.proofs.ReadingLayers as layers
 

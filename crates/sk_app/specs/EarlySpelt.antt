@@ -22,7 +22,7 @@ use Rattle.sk_tree.specs.declared.item.FunItem.{FunItem}
 use Rattle.sk_tree.specs.declared.item.Item.{Item}
 use Rattle.sk_tree.specs.declared.item.Item.TheVariants as item
 use Rattle.sk_tree.specs.declared.item.Tree.{Tree}
-use Rattle.sk_tree.specs.Phrase.{Phrase, Nothing, One, Sign, Keyword, ◌▸◌, Each, Between, Perhaps}
+use Rattle.sk_tree.specs.Phrase.{Phrase, One, Sign, Keyword, ◌▸◌, Each, Between, Perhaps}
 use Rattle.sk_tree.specs.Spelt.{Spans, SpeltRef, SpeltKind}
 
 -- The forms of an expression. A step is given the parts (X, Y, Z) and how each of them is spelt.

@@ -12,27 +12,23 @@ ghost use Rattle.sk_app.specs.Built.{default_bounds, bits_count, most_bits, IsSm
 ghost use Rattle.sk_app.specs.ResultText.{spaced, completion_lines, completed_text, none_text};
 ghost use Rattle.sk_app.specs.Early.{early_prog};
 ghost use Rattle.sk_app.specs.Filling.{IsEarlyExpansion};
-ghost use Rattle.sk_app.specs.Running.{first_params};
 ghost use Rattle.sk_app.specs.Prepared.{IsFound, IsUnbuilt};
 
 use crate::filling::{expand_early, fill_early, is_within};
 use crate::prepare::Found;
 use crate::reader::read_early;
-use crate::search::search;
+use crate::search::{is_searchable, search};
 use crate::typing::check_early;
 use sk_base::{Bounds, List, push_number};
 use sk_lexer::{LexFault, tokens};
 use sk_model::{Choice, Expanded};
 use sk_print::print;
-use sk_prog::{Fun, Prog};
+use sk_prog::Prog;
 use sk_tree::{Token, Tree};
 use std::alloc::{AllocError, Global};
 
 /// The greatest number of nodes of an expansion that is taken so far.
 const MOST_NODES: usize = 4096;
-
-/// The greatest number of bits of holes and arguments that are tried so far.
-const MOST_BITS: u128 = 15;
 
 /// The bounds that hold where nothing sets them.
 fn default_bounds() -> Bounds
@@ -101,19 +97,8 @@ fn has_few_bits(expanded: &Expanded) -> bool
     requires { IsEarlyExpansion expanded.now default_bounds }
     ensures { IsTrue result ↔ (bits_count expanded.now default_bounds ≤ most_bits) }
 {
-    let holes = expanded.sites.len() as u128;
-    let params = params_of(expanded.prog.funs.as_slice()) as u128;
-    holes * 5 + params * 5 <= MOST_BITS
-}
-
-/// How many parameters the first function has.
-fn params_of(funs: &[Fun]) -> usize
-    ensures { result ≡ first_params funs.now }
-{
-    match funs.split_first() {
-        Some((fun, _)) => fun.params.len(),
-        None => 0,
-    }
+    let bounds = default_bounds();
+    is_searchable(expanded, &bounds)
 }
 
 /// Whether an early expansion is small enough to try all its fillings on all its inputs.
