@@ -1,13 +1,11 @@
 -- The values of the nodes of a graph that grows.
-use Rattle.std.proofs.Common.{◌≡◌, ℕ, zero, suc, ◌+◌, ◌<◌, ◌≤◌, min, Bool, true, false, List, [], ◌∷◌, ◌++◌, Option, Some, None, length, take, drop, slice_get, get_or, refl, sym, ap, subst, ◌∙◌, arith, ◌⊎◌, ⊎_elim, inl, inr, ℤ, pos, negsuc, unsigned_abs, if◌then◌else◌, IfSome}
-use Rattle.std.proofs.lemmas.List.{take-append-le, take_at, take_all, take-append-drop, length-append, length-take, get_or_append_left, get_or_at, append_assoc, get_or-append_right, take-take, get_or_past, length-take-le}
+use Rattle.std.proofs.Common.{◌≡◌, ℕ, zero, suc, ◌+◌, ◌<◌, ◌≤◌, Bool, true, false, List, [], ◌∷◌, ◌++◌, Some, length, take, drop, slice_get, get_or, refl, sym, ap, subst, ◌∙◌, arith, ◌⊎◌, ⊎_elim, inl, inr, ℤ, pos, if◌then◌else◌}
+use Rattle.std.proofs.lemmas.List.{take_all, take-append-drop, length-append, length-take, get_or_append_left, get_or_at, take-take, get_or_past, length-take-le}
 use Rattle.std.proofs.lemmas.List.Sums.{fold-append, fold_more}
-use Rattle.std.proofs.lemmas.Option.{none-some, same_Some, slice_get_within, get_or_from_slice_get, slice_get-get_or}
+use Rattle.std.proofs.lemmas.Option.{none-some, slice_get_within, get_or_from_slice_get, slice_get-get_or}
 use Rattle.std.specs.List.{fold}
 use Rattle.std.proofs.lemmas.Bool.{cases_lt}
 use Rattle.std.proofs.lemmas.Int.{ints}
-use Rattle.std.proofs.Math.Nat.{mod-le}
-use Rattle.std.specs.Int.RustNames.{int_rem}
 use Rattle.sk_base.proofs.Words.{half_pos, half_le, IsWord-wrapped}
 use Rattle.sk_base.specs.Word.{IsWord}
 use Rattle.sk_dag.specs.declared.env.Env.{Env}
@@ -194,6 +192,7 @@ pub Makes-from_added : (old new : Graph) (i : ℕ) (n : Node) → IsWellFormed o
 Makes-from_added old new i n before wf may h = record {
   grows = h.grows;
   found = h.found;
+  alone = h.alone;
   sort = record { node = n; found = h.found; sort = refl };
   only = h.only;
   children = may;

@@ -1,5 +1,5 @@
 -- What a new node leaves of a graph.
-use Rattle.std.proofs.Common.{◌≡◌, ℕ, zero, suc, ◌+◌, ◌<◌, Bool, true, false, List, [], ◌∷◌, ◌++◌, Option, Some, None, length, take, slice_get, get_or, refl, sym, ap, subst, ◌∙◌, inl, inr, ◌⊎◌, ⊎_elim, arith, if◌then◌else◌, true≢false}
+use Rattle.std.proofs.Common.{◌≡◌, ℕ, zero, suc, ◌<◌, Bool, true, false, List, [], ◌∷◌, ◌++◌, Some, length, take, slice_get, get_or, refl, sym, ap, subst, ◌∙◌, inl, inr, ◌⊎◌, ⊎_elim, arith, if◌then◌else◌, true≢false}
 use Rattle.std.proofs.lemmas.List.{take-append-le, take_at, take_all}
 use Rattle.std.proofs.lemmas.Option.{none-some, same_Some, slice_get_within, get_or_from_slice_get}
 use Rattle.std.proofs.lemmas.Map.Keys.{any_passes_from_place, apart_from_distinct}
@@ -12,6 +12,7 @@ use Rattle.sk_dag.specs.declared.node.Node.{Node}
 pub record IsAdded (old new : Graph) (i : ℕ) (node : Node) : Type 0 where
   pub grows : Grows old new
   pub found : slice_get new.nodes i ≡ Some node
+  pub alone : (k : ℕ) → slice_get new.nodes k ≡ Some node → k ≡ i
   pub only : (k : ℕ) (m : Node) → slice_get new.nodes k ≡ Some m → (slice_get old.nodes k ≡ Some m) ⊎ (m ≡ node)
   pub known : (k : ℕ) → slice_get old.nodes k ≡ Some node → (i ≡ k) × (new ≡ old)
 
@@ -74,7 +75,7 @@ module _ (eq : Node → Node → Bool) where
 
   pub IsAdded-insert_key : ((x y : Node) → eq x y ≡ true → x ≡ y) → ((x : Node) → eq x x ≡ true) → (old : Graph) (ks : List Node) (i : ℕ) (n k : Node) → ks ≡ insert_key eq old.nodes n → slice_get ks i ≡ Some k → eq n k ≡ true → IsDistinct eq ks → IsAdded old (record { bits = old.bits; nodes = ks }) i n
   IsAdded-insert_key same self old ks i n k is at equal distinct =
-      record { grows = record { bits = refl; nodes = rw is (take-insert_key old.nodes n) }; found = found; only = only; known = known }
+      record { grows = record { bits = refl; nodes = rw is (take-insert_key old.nodes n) }; found = found; alone = λ k h. one_number self ks distinct k i n h found; only = only; known = known }
     where
       found : slice_get ks i ≡ Some n
       found = at ∙ ap Some (sym (same n k equal))

@@ -1,5 +1,5 @@
 -- `==` of nodes is equality.
-use Rattle.std.proofs.Common.{◌≡◌, Bool, true, false, rules, arith, eqb, sym, refl, ap, ◌∙◌}
+use Rattle.std.proofs.Common.{◌≡◌, true, rules}
 use Rattle.sk_dag.specs.declared.node.Node.{Node}
 use Rattle.sk_dag.specs.declared.node.Node.TheVariants.{Flag, Word, HoleBit, HoleWord, InputBit, InputWord, Not, And, Or, Xor, BoolMux, Mux, Add, Sub, Mul, Div, Rem, Lt, Eq, CostZero, CostAdd, CostLe}
 use Rattle.sk_dag.specs.contracts.node.NodePartialEq.TheImpl as node_eq

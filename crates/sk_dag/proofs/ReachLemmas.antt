@@ -1,5 +1,5 @@
 -- Marks of the nodes below some roots, and copies of nodes.
-use Rattle.std.proofs.Common.{◌≡◌, ◌≢◌, ℕ, zero, suc, ◌+◌, ◌<◌, ◌≤◌, Bool, true, false, List, [], ◌∷◌, ◌++◌, Option, Some, None, length, take, slice_get, slice_set, slice_index, get_or, fold, All, Contains, refl, sym, ap, subst, ◌∙◌, arith, ◌⊎◌, ⊎_elim, inl, inr, replicate, true≢false}
+use Rattle.std.proofs.Common.{◌≡◌, ℕ, zero, suc, ◌+◌, ◌<◌, ◌≤◌, Bool, true, false, List, [], ◌∷◌, ◌++◌, Some, length, take, slice_get, slice_set, slice_index, get_or, All, Contains, refl, sym, ap, subst, ◌∙◌, arith, ◌⊎◌, ⊎_elim, inl, inr, replicate, true≢false, IsTrue}
 use Rattle.std.proofs.lemmas.List.{get_or_append_left, get_or_at, length-append, length-take, length-replicate}
 use Rattle.std.proofs.lemmas.Option.{none-some, same_Some, slice_get_within, get_or_from_slice_get, slice_get-get_or}
 use Rattle.std.proofs.lemmas.Bool.{cases_lt}
@@ -8,11 +8,10 @@ use Rattle.sk_dag.specs.declared.node.BoolId.{BoolId}
 use Rattle.sk_dag.specs.declared.node.Node.{Node}
 use Rattle.sk_dag.specs.declared.node.Node.TheVariants.{Flag, Word, HoleBit, HoleWord, InputBit, InputWord, Not, And, Or, Xor, BoolMux, Mux, Add, Sub, Mul, Div, Rem, Lt, Eq, CostZero, CostAdd, CostLe}
 use Rattle.sk_dag.specs.declared.value.Value.{Value}
-use Rattle.sk_base.specs.Word.{IsWord}
 use Rattle.sk_dag.specs.Graph.{Graph, Grows, HasSort, HasBool, Sort, sort_of, MayFollow}
 use Rattle.sk_dag.specs.Eval.{Makes, Keeps, IsNode, value_at, value_of, graph_values, as_bool, bool_value}
-use Rattle.sk_dag.specs.Reach.{children, Each, Reaches, root, child, with_marks, IsMarked, MarksReached, IsClosed, new_bool, renumbered, StandsFor, StandForMarked}
-use Rattle.sk_dag.proofs.EvalLemmas.{Grows-refl, Grows-trans}
+use Rattle.sk_dag.specs.Reach.{children, Each, Reaches, root, child, with_marks, IsMarked, MarksReached, IsClosed, new_bool, renumbered, StandsFor, StandForMarked, AddsAtMost, CopiesMarked, OnlyMarked, IsCopied}
+use Rattle.sk_dag.proofs.EvalLemmas.{Grows-refl, Grows-trans, slice_get-grows}
 
 -- ---- lists of children
 
@@ -359,3 +358,93 @@ root_stands marks numbers r reached copied there =
 pub StandsFor-bool : {from into : Graph} (numbers : List ℕ) (a : BoolId) → StandsFor from into a.index (slice_index numbers a.index) → (g : Graph) → Grows into g → (e : Env) → bool_value g e (new_bool numbers a) ≡ bool_value from e a
 unfolding bool_value
 StandsFor-bool numbers a h g more e = ap as_bool (h.value g more e)
+
+-- ---- what is copied, and nothing else
+
+-- a copy is the same over lists that agree on the children
+renumbered-same : (p q : List ℕ) (n : Node) → Each (λ c. slice_index p c ≡ slice_index q c) (children n) → renumbered p n ≡ renumbered q n
+renumbered-same p q (Flag b) h = refl
+renumbered-same p q (Word z) h = refl
+renumbered-same p q (HoleBit site k) h = refl
+renumbered-same p q (HoleWord site) h = refl
+renumbered-same p q (InputBit i) h = refl
+renumbered-same p q (InputWord i) h = refl
+renumbered-same p q (Not a) h = rw h.0
+renumbered-same p q (And a b) h = rw (h.0, h.1.0)
+renumbered-same p q (Or a b) h = rw (h.0, h.1.0)
+renumbered-same p q (Xor a b) h = rw (h.0, h.1.0)
+renumbered-same p q (BoolMux c a b) h = rw (h.0, h.1.0, h.1.1.0)
+renumbered-same p q (Mux c a b) h = rw (h.0, h.1.0, h.1.1.0)
+renumbered-same p q (Add a b) h = rw (h.0, h.1.0)
+renumbered-same p q (Sub a b) h = rw (h.0, h.1.0)
+renumbered-same p q (Mul a b) h = rw (h.0, h.1.0)
+renumbered-same p q (Div a b) h = rw (h.0, h.1.0)
+renumbered-same p q (Rem a b) h = rw (h.0, h.1.0)
+renumbered-same p q (Lt a b) h = rw (h.0, h.1.0)
+renumbered-same p q (Eq a b) h = rw (h.0, h.1.0)
+renumbered-same p q CostZero h = refl
+renumbered-same p q (CostAdd c g x) h = rw (h.0, h.1.0, h.1.1.0)
+renumbered-same p q (CostLe c limit) h = rw h.0
+
+renumbered-push : (numbers : List ℕ) (j : ℕ) (n : Node) → Each (λ c. c < length numbers) (children n) → renumbered (numbers ++ j ∷ []) n ≡ renumbered numbers n
+renumbered-push numbers j n h =
+    renumbered-same (numbers ++ j ∷ []) numbers n
+    (each_map _ _ (children n) (λ c l. get_or_append_left numbers (j ∷ []) 0 c l) h)
+
+pub CopiesMarked-none : (from into : Graph) (marks : List Bool) → CopiesMarked from into marks [] 0
+CopiesMarked-none from into marks = record { before = λ i m l. absurd (omega (arith, l)); copies = λ i m l. absurd (omega (arith, l)) }
+
+pub CopiesMarked-push : {from a b : Graph} (marks : List Bool) (numbers : List ℕ) (i j : ℕ) (n : Node) → Keeps a b → length numbers ≡ i → IsNode from i n → CopiesMarked from a marks numbers i → (IsMarked marks i → slice_get b.nodes j ≡ Some (renumbered numbers n)) → CopiesMarked from b marks (numbers ++ j ∷ []) (i + 1)
+CopiesMarked-push {from} {a} {b} marks numbers i j n keeps long node copied new = record {
+  before = λ k m l at. ⊎_elim (λ (below : k < i). copied.before k m below at) (λ (above : i ≤ k). last_before k m (omega arith) at) (cases_lt k i);
+  copies = λ k m l mark at.
+      ⊎_elim
+      (λ (below : k < i).
+      let place : slice_index (numbers ++ j ∷ []) k ≡ slice_index numbers k = get_or_append_left numbers (j ∷ []) 0 k (omega (arith, long)) in
+      let copy = slice_get-grows (keeps.later b (Grows-refl b)) (slice_index numbers k) (renumbered numbers m) (copied.copies k m below mark at) in
+      let within = each_map _ _ (children m) (λ c (d : c < k). omega (arith, long)) (copied.before k m below at) in
+      ap (slice_get b.nodes) place ∙ copy ∙ ap Some (sym (renumbered-push numbers j m within)))
+      (λ (above : i ≤ k).
+      let e : k ≡ i = omega arith in
+      let place : slice_index (numbers ++ j ∷ []) k ≡ j = get_or_at numbers j [] 0 k (omega (arith, long)) in
+      let within = each_map _ _ (children m) (λ c (d : c < k). omega (arith, long)) (last_before k m e at) in
+      ap (slice_get b.nodes) place ∙ new (subst (IsMarked marks) e mark) ∙ ap Some (ap (renumbered numbers) (same k m e at) ∙ sym (renumbered-push numbers j m within)))
+      (cases_lt k i);
+}
+  where
+    same : (k : ℕ) (m : Node) → k ≡ i → slice_get from.nodes k ≡ Some m → n ≡ m
+    same k m e at = same_Some n m (sym node.found ∙ ap (slice_get from.nodes) (sym e) ∙ at)
+
+    last_before : (k : ℕ) (m : Node) → k ≡ i → slice_get from.nodes k ≡ Some m → Each (λ c. c < k) (children m)
+    last_before k m e at =
+        subst (λ l. Each (λ c. c < l) (children m)) (sym e)
+        (subst (λ x. Each (λ c. c < i) (children x)) (same k m e at) (children_before from.bits from.nodes i n node.before))
+
+pub OnlyMarked-none : (old : Graph) (marks : List Bool) (numbers : List ℕ) → OnlyMarked old old marks numbers 0
+OnlyMarked-none old marks numbers = record { each = λ k m h. inl h }
+
+pub OnlyMarked-push : {old a b : Graph} (marks : List Bool) (numbers : List ℕ) (i j : ℕ) → length numbers ≡ i → i < length marks → AddsAtMost (get_or marks i false) a b j → OnlyMarked old a marks numbers i → OnlyMarked old b marks (numbers ++ j ∷ []) (i + 1)
+OnlyMarked-push {old} {a} {b} marks numbers i j long within adds only = record {
+  each = λ k m h.
+      ⊎_elim
+      (λ p.
+      ⊎_elim (λ q. inl q)
+      (λ q.
+      let place = get_or_append_left numbers (j ∷ []) 0 q.0 (omega (arith, long, q.1)) in
+      inr (q.0, omega (arith, q.1), q.2, place ∙ q.3))
+      (only.each k m p))
+      (λ p. inr (i, omega arith, marked_here marks i within p.0, get_or_at numbers j [] 0 i (omega (arith, long)) ∙ sym p.1))
+      (adds.only k m h);
+}
+
+-- and so of what the roots stand on, where that is marked
+pub IsCopied-marked : {from old new : Graph} (marks : List Bool) (numbers : List ℕ) (roots : List BoolId) → MarksReached from.nodes roots marks → CopiesMarked from new marks numbers (length from.nodes) → OnlyMarked old new marks numbers (length from.nodes) → IsCopied from old new roots numbers
+IsCopied-marked {from} {old} {new} marks numbers roots reached copied only = record {
+  copies = λ i m r at. copied.copies i m (slice_get_within from.nodes i m at) ((reached.exact i).1 r) at;
+  only = λ k m h. ⊎_elim (λ p. inl p) (λ p. inr (p.0, (reached.exact p.0).0 p.2, p.3)) (only.each k m h);
+}
+
+pub AddsAtMost-made : {a b : Graph} {i : ℕ} {n : Node} (flag : Bool) → IsTrue flag → Makes a b i n → AddsAtMost flag a b i
+AddsAtMost-made {a} {b} flag set made = record {
+  only = λ k m h. ⊎_elim (λ p. inl p) (λ p. inr (set, made.alone k (h ∙ ap Some p))) (made.only k m h);
+}

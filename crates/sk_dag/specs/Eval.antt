@@ -1,5 +1,5 @@
 -- The value of each node.
-use Rattle.std.specs.Prelude.{take, ◌≡◌, ◌⊎◌, ◌<ℤ◌, ◌≤ℤ◌, neg_ℤ, Some, slice_get, ℕ, ◌+◌, ◌-◌, ◌^◌, ◌==◌, ◌%◌, min, nat_le, nat_lt, List, [], ◌∷◌, ◌++◌, Bool, true, false, not, ◌&&◌, ◌||◌, ℤ, pos, ◌+ℤ◌, ◌-ℤ◌, ◌*ℤ◌, int_lt, fold, slice_index, slice_index_or, unsigned_abs, if◌then◌else◌}
+use Rattle.std.specs.Prelude.{take, ◌≡◌, ◌⊎◌, Some, slice_get, ℕ, ◌+◌, ◌-◌, ◌^◌, min, nat_le, nat_lt, List, [], ◌∷◌, ◌++◌, Bool, false, not, ◌&&◌, ◌||◌, ℤ, pos, ◌+ℤ◌, ◌-ℤ◌, ◌*ℤ◌, int_lt, fold, slice_index, slice_index_or, unsigned_abs, if◌then◌else◌}
 use Rattle.std.specs.Ordering.{int_eq}
 use Rattle.sk_dag.specs.declared.env.Env.{Env}
 use Rattle.sk_base.specs.Word.{wrapped, IsWord}
@@ -95,6 +95,7 @@ cost_value g e a = cost_at (graph_values g e) a
 pub record Makes (old new : Graph) (i : ℕ) (node : Node) : Type 0 where
   pub grows : Grows old new
   pub found : slice_get new.nodes i ≡ Some node
+  pub alone : (k : ℕ) → slice_get new.nodes k ≡ Some node → k ≡ i
   pub sort : HasSort new.nodes i (sort_of node)
   pub only : (k : ℕ) (m : Node) → slice_get new.nodes k ≡ Some m → (slice_get old.nodes k ≡ Some m) ⊎ (m ≡ node)
   pub children : MayFollow old.bits old.nodes node

@@ -1,5 +1,5 @@
 -- What a shape is seen as in an environment, and which shapes a graph can hold.
-use Rattle.std.specs.Prelude.{◌≡◌, ℕ, Bool, true, List, [], ◌∷◌, Option, Some, None, slice_get, if◌then◌else◌, ⊤, All}
+use Rattle.std.specs.Prelude.{◌≡◌, ℕ, true, List, [], ◌∷◌, Option, Some, None, slice_get, if◌then◌else◌, ⊤, All}
 use Rattle.sk_dag.specs.declared.env.Env.{Env}
 use Rattle.sk_dag.specs.declared.node.BoolId.{BoolId}
 use Rattle.sk_dag.specs.declared.shape.Targets.{Targets}

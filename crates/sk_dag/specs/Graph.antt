@@ -1,5 +1,5 @@
 -- A graph as its nodes in order, and what may stand in it.
-use Rattle.std.specs.Prelude.{◌≡◌, ℕ, ◌<◌, ◌≤◌, List, Option, Some, None, length, take, slice_get, ⊤}
+use Rattle.std.specs.Prelude.{◌≡◌, ℕ, ◌≤◌, List, Some, length, take, slice_get, ⊤}
 use Rattle.sk_base.specs.Word.{IsWord}
 use Rattle.sk_dag.specs.declared.node.BoolId.{BoolId}
 use Rattle.sk_dag.specs.declared.node.WordId.{WordId}

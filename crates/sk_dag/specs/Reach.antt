@@ -1,5 +1,5 @@
 -- The nodes that a node stands on, and copies of nodes over other numbers.
-use Rattle.std.specs.Prelude.{◌≡◌, ℕ, ◌<◌, Bool, true, List, [], ◌∷◌, Option, Some, length, slice_get, slice_index, slice_set, fold, Contains, ◌↔◌, ⊤}
+use Rattle.std.specs.Prelude.{◌≡◌, ℕ, ◌<◌, Bool, true, List, [], ◌∷◌, Some, length, slice_get, slice_index, slice_set, fold, Contains, ◌↔◌, ⊤, ◌⊎◌, IsTrue}
 use Rattle.sk_dag.specs.declared.env.Env.{Env}
 use Rattle.sk_dag.specs.declared.node.BoolId.{BoolId}
 use Rattle.sk_dag.specs.declared.node.WordId.{WordId}
@@ -105,3 +105,28 @@ pub record StandsFor (from into : Graph) (i j : ℕ) : Type 0 where
 pub record StandForMarked (from into : Graph) (marks : List Bool) (numbers : List ℕ) (n : ℕ) : Type 0 where
   pub length : length numbers ≡ n
   pub each : (i : ℕ) → i < n → IsMarked marks i → StandsFor from into i (slice_index numbers i)
+
+-- each node of the new graph is one of the old graph's; where the flag is set, one may be new, and has number i
+pub record AddsAtMost (flag : Bool) (old new : Graph) (i : ℕ) : Type 0 where
+  pub only : (k : ℕ) (m : Node) → slice_get new.nodes k ≡ Some m → (slice_get old.nodes k ≡ Some m) ⊎ (IsTrue flag × (k ≡ i))
+
+-- for each marked node below number n the list has the number of its copy; children stand before their parents
+pub record CopiesMarked (from into : Graph) (marks : List Bool) (numbers : List ℕ) (n : ℕ) : Type 0 where
+  pub before : (i : ℕ) (m : Node) → i < n → slice_get from.nodes i ≡ Some m → Each (λ c. c < i) (children m)
+  pub copies : (i : ℕ) (m : Node) → i < n → IsMarked marks i → slice_get from.nodes i ≡ Some m → slice_get into.nodes (slice_index numbers i) ≡ Some (renumbered numbers m)
+
+-- each node of the new graph is one of the old graph's, or has the number that the list gives to a marked node below n
+pub record OnlyMarked (old new : Graph) (marks : List Bool) (numbers : List ℕ) (n : ℕ) : Type 0 where
+  pub each : (k : ℕ) (m : Node) → slice_get new.nodes k ≡ Some m → (slice_get old.nodes k ≡ Some m) ⊎ ((i : ℕ) × (i < n) × IsMarked marks i × (slice_index numbers i ≡ k))
+
+-- the list names in the new graph a copy of each node of another graph that the roots stand on; all other nodes of
+-- the new graph are those of the old one
+pub record IsCopied (from old new : Graph) (roots : List BoolId) (numbers : List ℕ) : Type 0 where
+  pub copies : (i : ℕ) (m : Node) → Reaches from.nodes roots i → slice_get from.nodes i ≡ Some m → slice_get new.nodes (slice_index numbers i) ≡ Some (renumbered numbers m)
+  pub only : (k : ℕ) (m : Node) → slice_get new.nodes k ≡ Some m → (slice_get old.nodes k ≡ Some m) ⊎ ((i : ℕ) × Reaches from.nodes roots i × (slice_index numbers i ≡ k))
+
+-- the new graph is the old one with copies of what the root of another graph stands on, and this is the root's copy
+pub record IsGrafted (from old new : Graph) (root made : BoolId) : Type 0 where
+  pub numbers : List ℕ
+  pub copied : IsCopied from old new (root ∷ []) numbers
+  pub answer : new_bool numbers root ≡ made

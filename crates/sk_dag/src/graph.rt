@@ -37,7 +37,7 @@ impl Dag {
     ghost use Rattle.sk_dag.specs.Word.{quotient, remainder, bit_of};
     ghost use Rattle.sk_dag.specs.Graph.{Graph, Grows, IsWellFormed, MayFollow, HasBool, HasWord, HasCost};
     ghost use Rattle.sk_dag.specs.Eval.{entry, Makes, Keeps, IsNode, IsMade, charge, values, value_at, graph_values, bool_value, word_value, cost_value, HoldsMachineWords};
-    ghost use Rattle.sk_dag.specs.Reach.{children, Each, IsClosed, MarksReached, StandForMarked, renumbered};
+    ghost use Rattle.sk_dag.specs.Reach.{children, Each, IsClosed, MarksReached, StandForMarked, renumbered, AddsAtMost, CopiesMarked, OnlyMarked, IsGrafted};
     ghost use Rattle.sk_dag.specs.declared.node.Node.TheVariants.{Flag, Word, HoleBit, HoleWord, InputBit, InputWord, Not, And, Or, Xor, BoolMux, Mux, Add, Sub, Mul, Div, Rem, Lt, Eq, CostZero, CostAdd, CostLe};
 
     /// An empty graph, which takes no memory.
@@ -484,6 +484,7 @@ impl Dag {
         requires follows { IsTrue wanted → MayFollow self.old.bits self.old.nodes (renumbered numbers.now node) }
         ensures keeps { Keeps self.old self.new }
         ensures copied { IsTrue wanted → IfOk result (λ i. Makes self.old self.new i (renumbered numbers.now node)) }
+        ensures only { IfOk result (λ i. AddsAtMost wanted self.old self.new i) }
     {
         if !wanted {
             return Ok(0);
@@ -498,6 +499,8 @@ impl Dag {
         requires closed { IsClosed other.now.nodes marks.now }
         ensures keeps { Keeps self.old self.new }
         ensures copied { IfOk result (λ numbers. StandForMarked other.now self.new marks.now numbers.items (length other.now.nodes)) }
+        ensures copies { IfOk result (λ numbers. CopiesMarked other.now self.new marks.now numbers.items (length other.now.nodes)) }
+        ensures only { IfOk result (λ numbers. OnlyMarked self.old self.new marks.now numbers.items (length other.now.nodes)) }
     {
         let mut numbers = Vec::with_capacity(self.alloc, other.len())?;
         for i in 0..other.len() {
@@ -515,6 +518,7 @@ impl Dag {
         ensures value { IfOk result (λ made. (g : Graph) → Grows self.new g → (e : Env) →
             bool_value g e made ≡ bool_value other.now e root) }
         ensures there { IfOk result (λ made. HasBool self.new.nodes made) }
+        ensures copied { IfOk result (λ made. IsGrafted other.now self.old self.new root made) }
         ensures keeps { Keeps self.old self.new }
     {
         let marks = other.reached(&[root])?;

@@ -210,3 +210,22 @@ module _ (v : ℕ → Bool) (a b : List Lit) (x y X Y : List Bit) (ex : X ≡ x)
       ∙ ap (λ k. is_less s k (bits_word v x) (bits_word v y)) la
       ∙ ap (λ k. is_less s (length a) k (bits_word v y)) is_a
       ∙ ap (λ k. is_less s (length a) (word v a) k) is_b
+
+  pub product_said : (s S : List Bit) (r : List Lit) → S ≡ s → bits_word v s ≡ (bits_word v X * bits_word v Y) % 2 ^ length X → word v r ≡ bits_word v S
+      → word v r ≡ (word v a * word v b) % 2 ^ length a
+  product_said s S r es p q =
+      q ∙ ap (bits_word v) es ∙ p
+      ∙ ap (λ z. (bits_word v z * bits_word v Y) % 2 ^ length z) ex
+      ∙ ap (λ z. (bits_word v x * bits_word v z) % 2 ^ length x) ey
+      ∙ ap (λ k. (bits_word v x * bits_word v y) % 2 ^ k) la
+      ∙ ap (λ k. (k * bits_word v y) % 2 ^ length a) is_a
+      ∙ ap (λ k. (word v a * k) % 2 ^ length a) is_b
+
+  pub division_is : (f : ℕ → ℕ → ℕ) (s S : List Bit) (r : List Lit) → S ≡ s → bits_word v s ≡ f (bits_word v X) (bits_word v Y) → word v r ≡ bits_word v S
+      → word v r ≡ f (word v a) (word v b)
+  division_is f s S r es p q =
+      q ∙ ap (bits_word v) es ∙ p
+      ∙ ap (λ z. f (bits_word v z) (bits_word v Y)) ex
+      ∙ ap (λ z. f (bits_word v x) (bits_word v z)) ey
+      ∙ ap (λ k. f k (bits_word v y)) is_a
+      ∙ ap (λ k. f (word v a) k) is_b

@@ -1,3 +1,4 @@
 pub mod Extension
 pub mod Bits
 pub mod Words
+pub mod Division

@@ -3,11 +3,13 @@ ghost use Rattle.sk_clause.specs.Meaning.{lit_true};
 ghost use Rattle.sk_clause.specs.Problem.{IsWithin};
 ghost use Rattle.sk_gates.specs.Bits.{differ, choose};
 ghost use Rattle.sk_gates.specs.Extension.{Adds, Continues};
-ghost use Rattle.sk_gates.specs.Words.{digit, word, is_less};
+ghost use Rattle.sk_gates.specs.Words.{digit, word, is_less, quotient_of, remainder_of};
 
 use crate::bit::Bit;
 use crate::bits::{and_bits, mux_bits, xor_bits};
 use crate::convert::{as_bits, as_literals, literal};
+use crate::product::mul_bits;
+use crate::quotient::div_bits;
 use crate::words::{add_bits, less_bits};
 use sk_base::List;
 use sk_clause::{Clauses, Lit};
@@ -111,4 +113,59 @@ pub fn less(
     let below = less_bits(to, x.as_slice(), y.as_slice(), signed)?;
     let r = literal(to, below)?;
     Ok(r)
+}
+
+/// The product of two numbers, in as many bits as they have: what is above is dropped. The least bit is first.
+#[tactic(auto, using(crate::proofs::ExtensionLaws::growing))]
+pub fn multiplier(
+    alloc: Global,
+    to: &mut Clauses,
+    a: &[Lit],
+    b: &[Lit],
+) -> Result<List<Lit>, AllocError>
+    requires some { 1 ≤ length a.now }
+    requires most { length a.now ≤ 64 }
+    requires lengths { length a.now ≡ length b.now }
+    requires a { IsWithin to.old.vars a.now }
+    requires b { IsWithin to.old.vars b.now }
+    ensures length { IfOk result (λ r. length r ≡ length a.now) }
+    ensures within { IfOk result (λ r. IsWithin to.new.vars r) }
+    ensures gate { IfOk result (λ r. Adds to.old to.new (λ v. word v r ≡ (word v a.now * word v b.now) % 2 ^ length a.now)) }
+    ensures err { OnErr result (Continues to.old to.new) }
+{
+    let x = as_bits(alloc, a)?;
+    let y = as_bits(alloc, b)?;
+    let product = mul_bits(alloc, to, x.as_slice(), y.as_slice())?;
+    let r = as_literals(alloc, to, product.as_slice())?;
+    Ok(r)
+}
+
+/// The quotient and the remainder of two numbers from 0, in as many bits as they have, and both 0 where the divisor is 0.
+/// The least bit is first.
+#[tactic(auto, using(crate::proofs::ExtensionLaws::growing))]
+pub fn divider(
+    alloc: Global,
+    to: &mut Clauses,
+    a: &[Lit],
+    b: &[Lit],
+) -> Result<(List<Lit>, List<Lit>), AllocError>
+    requires some { 1 ≤ length a.now }
+    requires most { length a.now ≤ 64 }
+    requires lengths { length a.now ≡ length b.now }
+    requires a { IsWithin to.old.vars a.now }
+    requires b { IsWithin to.old.vars b.now }
+    ensures quotient_length { IfOk result (λ r. length r.0 ≡ length a.now) }
+    ensures remainder_length { IfOk result (λ r. length r.1 ≡ length a.now) }
+    ensures quotient_within { IfOk result (λ r. IsWithin to.new.vars r.0) }
+    ensures remainder_within { IfOk result (λ r. IsWithin to.new.vars r.1) }
+    ensures gate { IfOk result (λ r. Adds to.old to.new (λ v.
+        (word v r.0 ≡ quotient_of (word v a.now) (word v b.now)) × (word v r.1 ≡ remainder_of (word v a.now) (word v b.now)))) }
+    ensures err { OnErr result (Continues to.old to.new) }
+{
+    let x = as_bits(alloc, a)?;
+    let y = as_bits(alloc, b)?;
+    let (quotient, remainder) = div_bits(alloc, to, x.as_slice(), y.as_slice())?;
+    let q = as_literals(alloc, to, quotient.as_slice())?;
+    let r = as_literals(alloc, to, remainder.as_slice())?;
+    Ok((q, r))
 }

@@ -5,9 +5,12 @@
 mod bit;
 mod bits;
 mod convert;
+mod each;
 mod fold;
 mod gate;
 mod gates;
+mod product;
+mod quotient;
 #[cfg(test)]
 mod tests;
 mod words;
@@ -15,5 +18,8 @@ mod words;
 pub use bit::Bit;
 pub use bits::{and_bits, full_adder, mux_bits, or_bits, sum_bit, xor_bits};
 pub use convert::literal;
-pub use gates::{adder, and, less, mux, xor};
+pub use each::{and_each, mux_each, not_each, padded, zeros};
+pub use gates::{adder, and, divider, less, multiplier, mux, xor};
+pub use product::mul_bits;
+pub use quotient::{div_bits, subtract_bits};
 pub use words::{add_bits, add_carry, less_bits};

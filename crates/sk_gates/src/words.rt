@@ -20,7 +20,7 @@ pub fn bit_at(bits: &[Bit], i: usize) -> Bit
 }
 
 // The lowest n bits.
-fn lowest(bits: &[Bit], n: usize) -> &[Bit]
+pub fn lowest(bits: &[Bit], n: usize) -> &[Bit]
     requires { n ≤ length bits.now }
     ensures bits { result.now ≡ take n bits.now }
     ensures within { (vars : ℕ) → AreOver vars bits.now → AreOver vars result.now }

@@ -2,6 +2,14 @@
 #![tactic(auto)]
 
 #[cfg(test)]
+mod building;
+#[cfg(test)]
+mod copies;
+#[cfg(test)]
+mod long;
+#[cfg(test)]
 mod makers;
 #[cfg(test)]
 mod rules;
+#[cfg(test)]
+mod words;

@@ -1,34 +1,102 @@
-//! One call of each maker and evaluator, with ample memory.
-use sk_base::List;
-use sk_dag::{Dag, Env};
-use std::alloc::{AllocError, Global};
+//! Each maker and each evaluator, with ample memory.
 
-fn scalars(alloc: Global, x: i64, y: i64) -> Result<Env, AllocError> {
-    let choice = List::new(alloc);
-    let input = List::from_slice(alloc, &[x, y])?;
-    Ok(Env { choice, input })
+use crate::building::{env_of, graph_of, put, value};
+use sk_dag::{BoolId, CostId, Node, Value, WordId};
+use std::test::Fail;
+
+const YES: BoolId = BoolId { index: 0 };
+
+const NO: BoolId = BoolId { index: 1 };
+
+const MOST: WordId = WordId { index: 2 };
+
+const X: WordId = WordId { index: 3 };
+
+const Y: WordId = WordId { index: 4 };
+
+const LESS: WordId = WordId { index: 5 };
+
+const FREE: CostId = CostId { index: 6 };
+
+const COST: CostId = CostId { index: 7 };
+
+// The nodes of a graph of 6 bits, and the value of each where the holes are 13, which is 1101 in
+// binary, and 2^64 - 1, and the scalars of the input -7 and 2.
+const NODES: &[(Node, Value)] = &[
+    (Node::Flag(true), Value::Bit(true)),
+    (Node::Flag(false), Value::Bit(false)),
+    (Node::Word(31), Value::Int(31)),
+    (Node::InputWord(0), Value::Int(-7)),
+    (Node::InputWord(1), Value::Int(2)),
+    (Node::Sub(X, Y), Value::Int(-9)),
+    (Node::CostZero, Value::Cost(0)),
+    (Node::CostAdd(FREE, YES, MOST), Value::Cost(31)),
+    // What is missing counts as 0, and a hole has 64 bits.
+    (Node::HoleBit(0, 0), Value::Bit(true)),
+    (Node::HoleBit(0, 1), Value::Bit(false)),
+    (Node::HoleBit(0, 64), Value::Bit(false)),
+    (Node::HoleBit(1, 63), Value::Bit(true)),
+    (Node::HoleBit(2, 0), Value::Bit(false)),
+    (Node::HoleWord(0), Value::Int(13)),
+    (Node::HoleWord(1), Value::Int(-1)),
+    (Node::HoleWord(2), Value::Int(0)),
+    (Node::InputBit(0), Value::Bit(true)),
+    (Node::InputBit(2), Value::Bit(false)),
+    (Node::InputWord(2), Value::Int(0)),
+    (Node::Not(YES), Value::Bit(false)),
+    (Node::And(YES, NO), Value::Bit(false)),
+    (Node::Or(YES, NO), Value::Bit(true)),
+    (Node::Xor(YES, NO), Value::Bit(true)),
+    (Node::Xor(YES, YES), Value::Bit(false)),
+    (Node::BoolMux(YES, NO, YES), Value::Bit(false)),
+    (Node::BoolMux(NO, NO, YES), Value::Bit(true)),
+    (Node::Mux(YES, X, Y), Value::Int(-7)),
+    (Node::Mux(NO, X, Y), Value::Int(2)),
+    // 33, -217 and -4.5, wrapped or cut.
+    (Node::Add(MOST, Y), Value::Int(-31)),
+    (Node::Mul(X, MOST), Value::Int(-25)),
+    (Node::Div(LESS, Y), Value::Int(-4)),
+    (Node::Rem(LESS, Y), Value::Int(-1)),
+    (Node::Lt(X, Y), Value::Bit(true)),
+    (Node::Lt(Y, X), Value::Bit(false)),
+    (Node::Eq(X, Y), Value::Bit(false)),
+    // Only what is above 0 is added, and only where it is to be.
+    (Node::CostAdd(COST, YES, X), Value::Cost(31)),
+    (Node::CostAdd(COST, NO, MOST), Value::Cost(31)),
+    (Node::CostAdd(COST, YES, Y), Value::Cost(33)),
+    (Node::CostLe(COST, 30), Value::Bit(false)),
+    (Node::CostLe(COST, 31), Value::Bit(true)),
+];
+
+// The table. Proofs see no row of it.
+fn nodes() -> &'static [(Node, Value)] {
+    NODES
 }
 
-// At 6 bits 31 + 1 is -32.
 #[test]
-fn words_that_are_given(rt: HostRuntime) -> Result<(), AllocError> {
-    let mut dag = Dag::new(rt.alloc(), 6);
-    let a = dag.word(31)?;
-    let b = dag.word(1)?;
-    let sum = dag.add(a, b)?;
-    let env = scalars(rt.alloc(), 0, 0)?;
-    assert_eq!(rt; dag.eval_word(sum, &env)?, -32);
+fn each_maker(rt: HostRuntime) -> Result<(), Fail> {
+    let mut dag = graph_of(&rt, rt.alloc(), 6, &[])?;
+    let env = env_of(rt.alloc(), &[13, u64::MAX], &[-7, 2])?;
+    for (node, wanted) in nodes() {
+        let index = put(&rt, &mut dag, *node)?;
+        assert_eq!(rt; value(&rt, &dag, index, &env)?, *wanted, "{node:?}");
+    }
+    assert_eq!(rt; dag.len(), 40);
     Ok(())
 }
 
+// An equal node is the old one.
 #[test]
-fn chosen_words(rt: HostRuntime) -> Result<(), AllocError> {
-    let mut dag = Dag::new(rt.alloc(), 6);
-    let c = dag.input_bit(1)?;
-    let x = dag.input_word(0)?;
-    let y = dag.word(9)?;
-    let chosen = dag.mux(c, x, y)?;
-    let env = scalars(rt.alloc(), 5, 0)?;
-    assert_eq!(rt; dag.eval_word(chosen, &env)?, 9);
+fn each_node_once(rt: HostRuntime) -> Result<(), Fail> {
+    let mut dag = graph_of(&rt, rt.alloc(), 6, &[])?;
+    for (node, _) in nodes() {
+        put(&rt, &mut dag, *node)?;
+    }
+    let mut i = 0usize;
+    for (node, _) in nodes() {
+        assert_eq!(rt; put(&rt, &mut dag, *node)?, i, "{node:?}");
+        i = i.saturating_add(1);
+    }
+    assert_eq!(rt; dag.len(), 40);
     Ok(())
 }

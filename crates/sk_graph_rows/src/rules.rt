@@ -1,69 +1,276 @@
-//! One graph for each kind of rule, and the node that its root becomes.
-use sk_dag::{Dag, Node};
-use sk_simplify::{Simplified, simplify};
-use std::alloc::AllocError;
+//! What each rule of the simplifier makes of its left side.
 
-// The node that a root became.
-fn root_node(made: &Simplified, root: usize) -> Option<Node> {
-    let id = made.roots.as_slice().get(root)?;
-    if id.index < made.dag.len() {
-        Some(*made.dag.node(id.index))
-    } else {
-        None
+use crate::building::{graph_of, has_bool, has_cost, has_word, put};
+use crate::words::{operator, words};
+use sk_dag::{BoolId, CostId, Dag, Node, WordId};
+use sk_simplify::simplify;
+use std::alloc::Global;
+use std::process::Abort;
+use std::test::Fail;
+
+// The nodes that every row may speak of, under their numbers: no rule fits any of them.
+const LEAVES: &[Node] = &[
+    Node::Flag(true),
+    Node::Flag(false),
+    Node::InputBit(0),
+    Node::InputBit(1),
+    Node::Not(A),
+    Node::Word(0),
+    Node::Word(1),
+    Node::Word(20),
+    Node::Word(17),
+    Node::InputWord(2),
+    Node::InputWord(3),
+    Node::CostZero,
+    Node::CostAdd(ZERO_COST, A, X),
+    Node::HoleBit(0, 3),
+    Node::Word(-27),
+    Node::Word(3),
+];
+
+const T: BoolId = BoolId { index: 0 };
+
+const F: BoolId = BoolId { index: 1 };
+
+const A: BoolId = BoolId { index: 2 };
+
+const B: BoolId = BoolId { index: 3 };
+
+const NOT_A: BoolId = BoolId { index: 4 };
+
+const ZERO: WordId = WordId { index: 5 };
+
+const ONE: WordId = WordId { index: 6 };
+
+const TWENTY: WordId = WordId { index: 7 };
+
+const SEVENTEEN: WordId = WordId { index: 8 };
+
+const X: WordId = WordId { index: 9 };
+
+const Y: WordId = WordId { index: 10 };
+
+const ZERO_COST: CostId = CostId { index: 11 };
+
+const COST: CostId = CostId { index: 12 };
+
+const HOLE: BoolId = BoolId { index: 13 };
+
+// The rules, by their left sides: of a commutative operator with the operands in either order.
+const ROWS: &[(Node, Node)] = &[
+    // The negation of a flag, and of a negation.
+    (Node::Not(T), Node::Flag(false)),
+    (Node::Not(F), Node::Flag(true)),
+    (Node::Not(NOT_A), Node::InputBit(0)),
+    // `and` with a flag, with itself, with its negation.
+    (Node::And(F, A), Node::Flag(false)),
+    (Node::And(A, F), Node::Flag(false)),
+    (Node::And(T, A), Node::InputBit(0)),
+    (Node::And(A, T), Node::InputBit(0)),
+    (Node::And(A, A), Node::InputBit(0)),
+    (Node::And(A, NOT_A), Node::Flag(false)),
+    (Node::And(NOT_A, A), Node::Flag(false)),
+    // `or` of the same.
+    (Node::Or(T, A), Node::Flag(true)),
+    (Node::Or(A, T), Node::Flag(true)),
+    (Node::Or(F, A), Node::InputBit(0)),
+    (Node::Or(A, F), Node::InputBit(0)),
+    (Node::Or(A, A), Node::InputBit(0)),
+    (Node::Or(A, NOT_A), Node::Flag(true)),
+    (Node::Or(NOT_A, A), Node::Flag(true)),
+    // `xor` with a flag, with itself.
+    (Node::Xor(F, A), Node::InputBit(0)),
+    (Node::Xor(A, F), Node::InputBit(0)),
+    (Node::Xor(T, A), Node::Not(A)),
+    (Node::Xor(A, T), Node::Not(A)),
+    (Node::Xor(A, A), Node::Flag(false)),
+    // `xor` with t of a negation is what is negated.
+    (Node::Xor(NOT_A, T), Node::InputBit(0)),
+    // A choice on a flag, and one between equal branches.
+    (Node::BoolMux(T, A, B), Node::InputBit(0)),
+    (Node::BoolMux(F, A, B), Node::InputBit(1)),
+    (Node::BoolMux(HOLE, A, A), Node::InputBit(0)),
+    (Node::Mux(T, X, Y), Node::InputWord(2)),
+    (Node::Mux(F, X, Y), Node::InputWord(3)),
+    (Node::Mux(HOLE, X, X), Node::InputWord(2)),
+    // A choice between t and f is its condition.
+    (Node::BoolMux(A, T, F), Node::InputBit(0)),
+    // Operators over constant words, at 6 bits.
+    (Node::Add(TWENTY, SEVENTEEN), Node::Word(-27)),
+    (Node::Sub(TWENTY, SEVENTEEN), Node::Word(3)),
+    (Node::Mul(TWENTY, SEVENTEEN), Node::Word(20)),
+    (Node::Div(TWENTY, SEVENTEEN), Node::Word(1)),
+    (Node::Rem(TWENTY, SEVENTEEN), Node::Word(3)),
+    (Node::Div(TWENTY, ZERO), Node::Word(0)),
+    (Node::Rem(TWENTY, ZERO), Node::Word(0)),
+    (Node::Lt(TWENTY, SEVENTEEN), Node::Flag(false)),
+    (Node::Lt(SEVENTEEN, TWENTY), Node::Flag(true)),
+    (Node::Eq(TWENTY, SEVENTEEN), Node::Flag(false)),
+    // 0 added or taken away, and a word less itself.
+    (Node::Add(ZERO, X), Node::InputWord(2)),
+    (Node::Add(X, ZERO), Node::InputWord(2)),
+    (Node::Sub(X, ZERO), Node::InputWord(2)),
+    (Node::Sub(X, X), Node::Word(0)),
+    // Products with 0 and 1.
+    (Node::Mul(ZERO, X), Node::Word(0)),
+    (Node::Mul(X, ZERO), Node::Word(0)),
+    (Node::Mul(ONE, X), Node::InputWord(2)),
+    (Node::Mul(X, ONE), Node::InputWord(2)),
+    // A word beside itself.
+    (Node::Eq(X, X), Node::Flag(true)),
+    (Node::Lt(X, X), Node::Flag(false)),
+    // A cost with nothing to add.
+    (Node::CostAdd(COST, F, X), Node::CostAdd(ZERO_COST, A, X)),
+    (Node::CostAdd(COST, A, ZERO), Node::CostAdd(ZERO_COST, A, X)),
+    // A cost of 0 is at most any limit.
+    (Node::CostLe(ZERO_COST, 0), Node::Flag(true)),
+    (Node::CostLe(ZERO_COST, 7), Node::Flag(true)),
+    // Operands in the order of their numbers.
+    (Node::And(B, A), Node::And(A, B)),
+    (Node::Or(B, A), Node::Or(A, B)),
+    (Node::Xor(B, A), Node::Xor(A, B)),
+    (Node::Add(Y, X), Node::Add(X, Y)),
+    (Node::Mul(Y, X), Node::Mul(X, Y)),
+    (Node::Eq(Y, X), Node::Eq(X, Y)),
+];
+
+fn leaves() -> &'static [Node] {
+    LEAVES
+}
+
+// The rows. Proofs see none of them.
+fn rows() -> &'static [(Node, Node)] {
+    ROWS
+}
+
+// A truth value that tells a node from every other: the node itself, or a comparison of it.
+fn rooted(rt: &impl Abort, dag: &mut Dag, index: usize) -> Result<BoolId, Fail> {
+    if has_word(dag, WordId { index }) {
+        let other = put(rt, dag, Node::InputWord(9))?;
+        let root = put(rt, dag, Node::Lt(WordId { index }, WordId { index: other }))?;
+        return Ok(BoolId { index: root });
     }
+    if has_cost(dag, CostId { index }) {
+        let root = put(rt, dag, Node::CostLe(CostId { index }, 9))?;
+        return Ok(BoolId { index: root });
+    }
+    Ok(BoolId { index })
 }
 
-// At 6 bits 8 * 8 is 0.
-#[test]
-fn folded_words(rt: HostRuntime) -> Result<(), AllocError> {
-    let mut dag = Dag::new(rt.alloc(), 6);
-    let zero = dag.word(0)?;
-    let eight = dag.word(8)?;
-    let square = dag.mul(eight, eight)?;
-    let root = dag.eq(square, zero)?;
-    let made = simplify(rt.alloc(), &dag, &[root])?;
-    assert!(rt; root_node(&made, 0) == Some(Node::Flag(true)));
+// Simplifies two nodes of a graph: they become one.
+fn expect_one(
+    rt: &impl Abort,
+    alloc: Global,
+    dag: &mut Dag,
+    left: Node,
+    right: Node,
+) -> Result<(), Fail> {
+    let left_index = put(rt, dag, left)?;
+    let right_index = put(rt, dag, right)?;
+    let left_root = rooted(rt, dag, left_index)?;
+    let right_root = rooted(rt, dag, right_index)?;
+    assert!(rt; has_bool(dag, left_root));
+    assert!(rt; has_bool(dag, right_root));
+    let made = simplify(alloc, dag, &[left_root, right_root])?;
+    let left_made = made.roots.as_slice().get(0);
+    let right_made = made.roots.as_slice().get(1);
+    assert!(rt;
+        left_made.is_some() && left_made == right_made,
+        "{left:?} becomes {right:?}"
+    );
     Ok(())
 }
 
-// `not (xor t a)` is a.
 #[test]
-fn truth_values(rt: HostRuntime) -> Result<(), AllocError> {
-    let mut dag = Dag::new(rt.alloc(), 6);
-    let truth = dag.flag(true)?;
-    let a = dag.input_bit(0)?;
-    let other = dag.xor(truth, a)?;
-    let root = dag.not(other)?;
-    let made = simplify(rt.alloc(), &dag, &[root])?;
-    assert!(rt; root_node(&made, 0) == Some(Node::InputBit(0)));
+fn each_left_side(rt: HostRuntime) -> Result<(), Fail> {
+    for (left, right) in rows() {
+        let mut dag = graph_of(&rt, rt.alloc(), 6, leaves())?;
+        expect_one(&rt, rt.alloc(), &mut dag, *left, *right)?;
+    }
     Ok(())
 }
 
-// `lt (mul 1 (add 0 a)) a` is false.
+// The table of words again, over constants.
 #[test]
-fn words(rt: HostRuntime) -> Result<(), AllocError> {
-    let mut dag = Dag::new(rt.alloc(), 6);
-    let a = dag.input_word(0)?;
-    let zero = dag.word(0)?;
-    let sum = dag.add(zero, a)?;
-    let one = dag.word(1)?;
-    let product = dag.mul(one, sum)?;
-    let root = dag.lt(product, a)?;
-    let made = simplify(rt.alloc(), &dag, &[root])?;
-    assert!(rt; root_node(&made, 0) == Some(Node::Flag(false)));
+fn folded_words(rt: HostRuntime) -> Result<(), Fail> {
+    for (bits, x, y, wanted) in words() {
+        for i in 0..5 {
+            let mut dag = graph_of(&rt, rt.alloc(), *bits, &[Node::Word(*x)])?;
+            let second = put(&rt, &mut dag, Node::Word(*y))?;
+            let left = operator(i, WordId { index: 0 }, WordId { index: second });
+            expect_one(&rt, rt.alloc(), &mut dag, left, Node::Word(wanted[i]))?;
+        }
+    }
     Ok(())
 }
 
-// `cost_le (cost_add cost_zero f a) 5` is true.
+// Rules over what rules have made: the last node of each graph.
+const NESTED: &[(&[Node], Node)] = &[
+    // `eq (mul 8 8) 0` at 6 bits.
+    (
+        &[
+            Node::Word(8),
+            Node::Mul(WordId { index: 0 }, WordId { index: 0 }),
+            Node::Word(0),
+            Node::Eq(WordId { index: 1 }, WordId { index: 2 }),
+        ],
+        Node::Flag(true),
+    ),
+    // `not (xor t a)`.
+    (
+        &[
+            Node::Flag(true),
+            Node::InputBit(0),
+            Node::Xor(BoolId { index: 0 }, BoolId { index: 1 }),
+            Node::Not(BoolId { index: 2 }),
+        ],
+        Node::InputBit(0),
+    ),
+    // `lt (mul 1 (add 0 a)) a`.
+    (
+        &[
+            Node::InputWord(0),
+            Node::Word(0),
+            Node::Add(WordId { index: 1 }, WordId { index: 0 }),
+            Node::Word(1),
+            Node::Mul(WordId { index: 3 }, WordId { index: 2 }),
+            Node::Lt(WordId { index: 4 }, WordId { index: 0 }),
+        ],
+        Node::Flag(false),
+    ),
+    // `cost_le (cost_add cost_zero f a) 5`.
+    (
+        &[
+            Node::CostZero,
+            Node::Flag(false),
+            Node::InputWord(0),
+            Node::CostAdd(
+                CostId { index: 0 },
+                BoolId { index: 1 },
+                WordId { index: 2 },
+            ),
+            Node::CostLe(CostId { index: 3 }, 5),
+        ],
+        Node::Flag(true),
+    ),
+];
+
+fn nested() -> &'static [(&'static [Node], Node)] {
+    NESTED
+}
+
 #[test]
-fn costs(rt: HostRuntime) -> Result<(), AllocError> {
-    let mut dag = Dag::new(rt.alloc(), 6);
-    let a = dag.input_word(0)?;
-    let zero = dag.cost_zero()?;
-    let never = dag.flag(false)?;
-    let cost = dag.cost_add(zero, never, a)?;
-    let root = dag.cost_le(cost, 5)?;
-    let made = simplify(rt.alloc(), &dag, &[root])?;
-    assert!(rt; root_node(&made, 0) == Some(Node::Flag(true)));
+fn rules_over_rules(rt: HostRuntime) -> Result<(), Fail> {
+    for (nodes, wanted) in nested() {
+        let dag = graph_of(&rt, rt.alloc(), 6, nodes)?;
+        let root = BoolId {
+            index: dag.len().saturating_sub(1),
+        };
+        assert!(rt; has_bool(&dag, root));
+        let made = simplify(rt.alloc(), &dag, &[root])?;
+        let index = made.roots.as_slice().get(0).map_or(0, |id| id.index);
+        assert!(rt; index < made.dag.len());
+        assert_eq!(rt; *made.dag.node(index), *wanted);
+    }
     Ok(())
 }

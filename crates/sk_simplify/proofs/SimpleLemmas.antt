@@ -8,11 +8,11 @@ use Rattle.sk_dag.specs.declared.node.Node.TheVariants.{Flag, Word, HoleBit, Hol
 use Rattle.sk_dag.specs.declared.value.Value.{Value}
 use Rattle.sk_dag.specs.Graph.{Graph, Grows, IsWellFormed, HasSort, HasBool, Sort, BoolSort, WordSort, CostSort, sort_of, MayFollow}
 use Rattle.sk_dag.specs.Eval.{Makes, Keeps, IsNode, IsShaped, bool_value, value_of, graph_values}
-use Rattle.sk_dag.specs.Reach.{IsMarked, IsClosed, MarksReached, StandsFor, StandForMarked, renumbered, new_bool}
+use Rattle.sk_dag.specs.Reach.{IsMarked, IsClosed, MarksReached, StandsFor, StandForMarked, OnlyMarked, renumbered, new_bool}
 use Rattle.sk_dag.proofs.EvalLemmas.{Grows-trans, slice_get-grows, Keeps-bits, value_at-shaped}
 use Rattle.sk_dag.proofs.ReachLemmas.{copy_sort, copy_value, root_marked, StandsFor-bool}
 use Rattle.sk_simplify.specs.Rules.{left_side, IsSimple}
-use Rattle.sk_simplify.specs.Reduct.{IsSame, IsKnown, IsFresh, IsReordered, IsWorth, KeepsRoots}
+use Rattle.sk_simplify.specs.Reduct.{IsSame, IsKnown, IsFresh, IsReordered, IsWorth, KeepsRoots, OnlyBelow}
 
 -- ---- no rule fits
 
@@ -155,3 +155,15 @@ pub roots_within : (nodes : List Node) (numbers : List ℕ) (roots : List BoolId
 roots_within nodes numbers roots all e k d l =
     let there = all k d l in
     omega (arith, slice_get_within nodes _ there.node there.found)
+
+-- ---- nothing else
+
+pub OnlyBelow-made : {from old new : Graph} (marks : List Bool) (numbers : List ℕ) (roots : List BoolId) → MarksReached from.nodes roots marks → old.nodes ≡ [] → StandForMarked from new marks numbers (length from.nodes) → OnlyMarked old new marks numbers (length from.nodes) → OnlyBelow from roots new
+OnlyBelow-made {from} {old} {new} marks numbers roots reached none copied only = record {
+  numbers = numbers;
+  each = λ k m h.
+      ⊎_elim
+      (λ (p : slice_get old.nodes k ≡ Some m). absurd (none-some m (sym (ap (λ l. slice_get l k) none) ∙ p)))
+      (λ p. (p.0, (reached.exact p.0).0 p.2, p.3, subst (StandsFor from new p.0) p.3 (copied.each p.0 p.1 p.2)))
+      (only.each k m h);
+}

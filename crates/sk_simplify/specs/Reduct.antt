@@ -1,5 +1,5 @@
 -- What a node becomes by a rule, and what simplifying a graph keeps.
-use Rattle.std.specs.Prelude.{◌≡◌, ℕ, Bool, false, List, Some, length, slice_get, nat_lt}
+use Rattle.std.specs.Prelude.{◌≡◌, ℕ, Bool, false, List, Some, length, slice_get, slice_index, nat_lt}
 use Rattle.sk_dag.specs.declared.env.Env.{Env}
 use Rattle.sk_dag.specs.declared.node.BoolId.{BoolId}
 use Rattle.sk_dag.specs.declared.node.Node.{Node}
@@ -7,6 +7,7 @@ use Rattle.sk_dag.specs.declared.node.Node.TheVariants.{And, Or, Xor, Add, Mul, 
 use Rattle.sk_dag.specs.declared.value.Value.{Value}
 use Rattle.sk_dag.specs.Graph.{Graph, Grows, HasSort, HasBool, Sort, BoolSort, WordSort, CostSort, sort_of, MayFollow}
 use Rattle.sk_dag.specs.Eval.{bool_value, graph_values, value_at, value_of, as_bool, as_word, as_cost}
+use Rattle.sk_dag.specs.Reach.{Reaches, StandsFor}
 use Rattle.sk_simplify.specs.declared.reduced.Reduced.{Reduced}
 use Rattle.sk_simplify.specs.declared.reduced.Reduced.TheVariants.{Known, Fresh}
 use Rattle.sk_simplify.specs.Rules.{left_side}
@@ -59,3 +60,8 @@ pub record KeepsRoots (old : Graph) (roots : List BoolId) (new : Graph) (made : 
   pub length : length made ≡ length roots
   pub there : (k : ℕ) (m : BoolId) → slice_get made k ≡ Some m → HasBool new.nodes m
   pub value : (k : ℕ) (r m : BoolId) → slice_get roots k ≡ Some r → slice_get made k ≡ Some m → (g : Graph) → Grows new g → (e : Env) → bool_value g e m ≡ bool_value old e r
+
+-- each node of the new graph stands for one of the old graph that the roots stand on, and no two for the same
+pub record OnlyBelow (old : Graph) (roots : List BoolId) (new : Graph) : Type 0 where
+  pub numbers : List ℕ
+  pub each : (k : ℕ) (m : Node) → slice_get new.nodes k ≡ Some m → (i : ℕ) × Reaches old.nodes roots i × (slice_index numbers i ≡ k) × StandsFor old new i k

@@ -1,9 +1,9 @@
 //! Puts nodes into a graph in which no rule fits any node.
 
-ghost use Rattle.std.specs.Prelude.{◌≡◌, ◌≤◌, ◌<◌, false, length, IfOk, IsTrue};
+ghost use Rattle.std.specs.Prelude.{◌≡◌, ◌≤◌, ◌<◌, false, true, length, IfOk, IsTrue};
 ghost use Rattle.sk_dag.specs.Graph.{MayFollow};
 ghost use Rattle.sk_dag.specs.Eval.{Keeps};
-ghost use Rattle.sk_dag.specs.Reach.{children, Each, renumbered};
+ghost use Rattle.sk_dag.specs.Reach.{AddsAtMost, children, Each, renumbered};
 ghost use Rattle.sk_simplify.specs.Rules.{IsSimple};
 ghost use Rattle.sk_simplify.specs.Reduct.{IsReduct, IsReordered, IsWorth, is_swapped};
 
@@ -103,6 +103,7 @@ fn place(new: &mut Dag, node: Node) -> Result<usize, AllocError>
     ensures simple { IsSimple new.new }
     ensures keeps { Keeps new.old new.new }
     ensures worth { IfOk result (λ i. IsWorth new.new node i) }
+    ensures only { IfOk result (λ i. AddsAtMost true new.old new.new i) }
 {
     let bits = new.int_bits();
     match reduce(new, bits, ordered(node)) {
@@ -127,6 +128,7 @@ pub(crate) fn place_wanted(
     ensures simple { IsSimple new.new }
     ensures keeps { Keeps new.old new.new }
     ensures placed { IsTrue wanted → IfOk result (λ i. IsWorth new.new (renumbered numbers.now node) i) }
+    ensures only { IfOk result (λ i. AddsAtMost wanted new.old new.new i) }
 {
     if !wanted {
         return Ok(0);

@@ -3,9 +3,9 @@
 ghost use Rattle.std.specs.Prelude.{◌≡◌, ◌<◌, All, IfOk, length, map};
 ghost use Rattle.sk_dag.specs.Graph.{HasBool};
 ghost use Rattle.sk_dag.specs.Eval.{Keeps};
-ghost use Rattle.sk_dag.specs.Reach.{IsClosed, StandForMarked, new_bool};
+ghost use Rattle.sk_dag.specs.Reach.{IsClosed, OnlyMarked, StandForMarked, new_bool};
 ghost use Rattle.sk_simplify.specs.Rules.{IsSimple};
-ghost use Rattle.sk_simplify.specs.Reduct.{KeepsRoots};
+ghost use Rattle.sk_simplify.specs.Reduct.{KeepsRoots, OnlyBelow};
 
 use crate::place::place_wanted;
 use sk_base::List;
@@ -34,6 +34,7 @@ fn rebuild(
     ensures simple { IsSimple new.new }
     ensures keeps { Keeps new.old new.new }
     ensures copied { IfOk result (λ numbers. StandForMarked dag.now new.new marks.now numbers.items (length dag.now.nodes)) }
+    ensures only { IfOk result (λ numbers. OnlyMarked new.old new.new marks.now numbers.items (length dag.now.nodes)) }
 {
     let mut numbers = Vec::with_capacity(alloc, dag.len())?;
     for i in 0..dag.len() {
@@ -65,12 +66,14 @@ fn new_roots(alloc: Global, roots: &[BoolId], numbers: &[usize]) -> Result<List<
 }
 
 /// The same truth values over a new graph of the same width, in which no node is an instance of a
-/// rule's left side. The new graph has only nodes that the roots need; each is made once.
+/// rule's left side. Each node of the new graph stands for one that the roots stand on, and no two
+/// for the same.
 pub fn simplify(alloc: Global, dag: &Dag, roots: &[BoolId]) -> Result<Simplified, AllocError>
     requires { All (HasBool dag.now.nodes) roots.now }
     ensures width { IfOk result (λ made. made.dag.bits ≡ dag.now.bits) }
     ensures simple { IfOk result (λ made. IsSimple made.dag) }
     ensures roots { IfOk result (λ made. KeepsRoots dag.now roots.now made.dag made.roots) }
+    ensures only { IfOk result (λ made. OnlyBelow dag.now roots.now made.dag) }
 {
     let marks = dag.reached(roots)?;
     let mut new = Dag::new(alloc, dag.int_bits());

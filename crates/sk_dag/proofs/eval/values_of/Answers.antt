@@ -1,4 +1,4 @@
-use Rattle.std.proofs.Common.{◌≡◌, take, length, arith, ◌≤◌, false}
+use Rattle.std.proofs.Common.{arith, false}
 use Rattle.sk_dag.specs.Eval.{values}
 use Rattle.sk_dag.specs.declared.node.Node.TheVariants.{Flag}
 use Rattle.sk_dag.proofs.EvalLemmas.{values_more, HoldsMachineWords-values}

@@ -1,7 +1,6 @@
-use Rattle.std.proofs.Common.{◌≡◌, ◌∙◌, ◌<◌, ◌≤◌, ◌-◌, suc, length, arith, subst, ap, Some, slice_get, get_or, ℕ, false}
+use Rattle.std.proofs.Common.{◌≡◌, ◌<◌, ◌-◌, suc, length, arith, subst, false}
 use Rattle.std.proofs.lemmas.Option.{slice_get-get_or}
 use Rattle.sk_dag.specs.declared.node.Node.TheVariants.{Flag}
-use Rattle.sk_dag.specs.Reach.{children}
 use Rattle.sk_dag.proofs.ReachLemmas.{MarksFrom, MarksFrom-start, MarksFrom-marked, MarksFrom-unmarked, MarksReached-done, marked_here, each_map}
 use Rattle.sk_dag.proofs.reach.mark_reached.Goals as goal
 

@@ -1,6 +1,6 @@
-use Rattle.std.proofs.Common.{◌≡◌, ◌*◌, ◌^◌, ◌%◌, ◌<◌, arith, ap, ◌∙◌, pos, to_z, of_z, w64}
+use Rattle.std.proofs.Common.{◌≡◌, ◌*◌, ◌^◌, ◌%◌, ◌<◌, arith, ◌∙◌, pos, to_z, of_z, w64}
 use Rattle.std.proofs.lemmas.Int.{ints}
-use Rattle.sk_base.specs.Word.{wrapped, half}
+use Rattle.sk_base.specs.Word.{half}
 use Rattle.sk_base.proofs.Words.{half_pos, half_le}
 use Rattle.sk_dag.proofs.WordLemmas.{power_half, wrapped-rem}
 use Rattle.sk_dag.proofs.word.wrap_unsigned.Goals as goal

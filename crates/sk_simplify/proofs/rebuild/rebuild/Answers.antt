@@ -1,7 +1,7 @@
 use Rattle.std.proofs.Common.{◌≡◌, ◌∙◌, ◌<◌, length, arith, sym}
 use Rattle.sk_dag.specs.Reach.{IsMarked}
 use Rattle.sk_dag.proofs.EvalLemmas.{Keeps-trans, Keeps-bits}
-use Rattle.sk_dag.proofs.ReachLemmas.{copy_may, StandForMarked-push, marked_here, true_here}
+use Rattle.sk_dag.proofs.ReachLemmas.{copy_may, StandForMarked-push, OnlyMarked-push, marked_here, true_here}
 use Rattle.sk_simplify.proofs.SimpleLemmas.{StandsFor-worth}
 use Rattle.sk_simplify.proofs.rebuild.rebuild.Goals as goal
 
@@ -16,6 +16,7 @@ place_wanted-requires-clause-follows c = λ t.
 pub loop-i-preserved : goal.loop-i-preserved
 loop-i-preserved c =
     let bits : c.args.dag.now.bits ≡ c.loop-i.new.bits = c.requires.width ∙ sym (Keeps-bits c.loop-i.invariant.keeps) in
+    let within : c.loop-i.i < length c.args.marks.now = omega (arith, c.requires.closed.length, c.len-i-end.ensures) in
     let items = c.in_ok-push.ensures.items in
     record {
       keeps = Keeps-trans c.loop-i.invariant.keeps c.place_wanted.ensures.keeps;
@@ -26,4 +27,7 @@ loop-i-preserved c =
           (λ (m : IsMarked c.args.marks.now c.loop-i.i).
           StandsFor-worth c.args.marks.now c.loop-i.numbers.items c.loop-i.i _ c.node.result.now c.requires.closed bits c.node.ensures c.loop-i.invariant.copied c.place_wanted.ensures.keeps m
           (rw c.deref.ensures.value at (c.in_ok-number.ensures.placed (true_here c.args.marks.now c.loop-i.i m)))));
+      only =
+          rw items
+          (OnlyMarked-push c.args.marks.now c.loop-i.numbers.items c.loop-i.i _ c.loop-i.invariant.copied.length within c.in_ok-number.ensures.only c.loop-i.invariant.only);
     }

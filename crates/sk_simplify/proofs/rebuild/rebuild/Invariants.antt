@@ -1,5 +1,5 @@
 use Rattle.sk_dag.specs.Eval.{Keeps}
-use Rattle.sk_dag.specs.Reach.{StandForMarked}
+use Rattle.sk_dag.specs.Reach.{OnlyMarked, StandForMarked}
 use Rattle.sk_simplify.specs.Rules.{IsSimple}
 use Rattle.sk_simplify.proofs.rebuild.rebuild.Given as goal
 
@@ -8,4 +8,5 @@ invariant-loop-i l = record {
   keeps : Keeps l.fn.new l.new;
   simple : IsSimple l.new;
   copied : StandForMarked l.dag l.new l.marks l.numbers.items l.i;
+  only : OnlyMarked l.fn.new l.new l.marks l.numbers.items l.i;
 }

@@ -1,7 +1,7 @@
 use Rattle.std.proofs.Common.{◌∙◌}
 use Rattle.sk_dag.proofs.EvalLemmas.{Keeps-bits}
 use Rattle.sk_dag.proofs.ReachLemmas.{IsClosed-reached}
-use Rattle.sk_simplify.proofs.SimpleLemmas.{KeepsRoots-made, roots_within}
+use Rattle.sk_simplify.proofs.SimpleLemmas.{KeepsRoots-made, OnlyBelow-made, roots_within}
 use Rattle.sk_simplify.proofs.rebuild.simplify.Goals as goal
 
 pub rebuild-requires-clause-closed : goal.rebuild-requires-clause-closed
@@ -17,3 +17,9 @@ pub returns-clause-roots : goal.returns-clause-roots
 returns-clause-roots c =
     let copied = rw c.as_slice.ensures at c.in_ok-numbers.ensures.copied in
     rw (c.in_ok-made.ensures, c.deref.ensures.value) (KeepsRoots-made _ _ _ c.requires c.in_ok-marks.ensures copied)
+
+pub returns-clause-only : goal.returns-clause-only
+returns-clause-only c =
+    let copied = rw c.as_slice.ensures at c.in_ok-numbers.ensures.copied in
+    let only = rw c.as_slice.ensures at c.in_ok-numbers.ensures.only in
+    OnlyBelow-made _ _ c.args.roots.now c.in_ok-marks.ensures c.new-new.ensures.nodes copied only

@@ -1,7 +1,7 @@
 use Rattle.std.proofs.Common.{◌≡◌, ◌∙◌, ◌<◌, length, arith, sym}
 use Rattle.sk_dag.specs.Reach.{IsMarked}
 use Rattle.sk_dag.proofs.EvalLemmas.{Keeps-trans, Keeps-bits}
-use Rattle.sk_dag.proofs.ReachLemmas.{copy_may, StandsFor-made, StandForMarked-push, marked_here, true_here}
+use Rattle.sk_dag.proofs.ReachLemmas.{copy_may, StandsFor-made, StandForMarked-push, CopiesMarked-push, OnlyMarked-push, marked_here, true_here}
 use Rattle.sk_dag.proofs.graph.Dag.copy_marked.Goals as goal
 
 pub copy_wanted-requires-clause-follows : goal.copy_wanted-requires-clause-follows
@@ -15,6 +15,7 @@ copy_wanted-requires-clause-follows c = λ t.
 pub loop-i-preserved : goal.loop-i-preserved
 loop-i-preserved c =
     let bits : c.args.other.now.bits ≡ c.loop-i.self.bits = c.requires.width ∙ sym (Keeps-bits c.loop-i.invariant.keeps) in
+    let within : c.loop-i.i < length c.args.marks.now = omega (arith, c.requires.closed.length, c.len-i-end.ensures) in
     let items = c.in_ok-push.ensures.items in
     record {
       keeps = Keeps-trans c.loop-i.invariant.keeps c.copy_wanted.ensures.keeps;
@@ -24,4 +25,12 @@ loop-i-preserved c =
           (λ (m : IsMarked c.args.marks.now c.loop-i.i).
           StandsFor-made c.args.marks.now c.loop-i.numbers.items c.loop-i.i c.node.result.now c.requires.closed bits c.node.ensures c.loop-i.invariant.copied m
           (rw c.deref.ensures.value at (c.in_ok-number.ensures.copied (true_here c.args.marks.now c.loop-i.i m)))));
+      copies =
+          rw items
+          (CopiesMarked-push c.args.marks.now c.loop-i.numbers.items c.loop-i.i _ c.node.result.now c.copy_wanted.ensures.keeps c.loop-i.invariant.copied.length c.node.ensures c.loop-i.invariant.copies
+          (λ (m : IsMarked c.args.marks.now c.loop-i.i).
+          (rw c.deref.ensures.value at (c.in_ok-number.ensures.copied (true_here c.args.marks.now c.loop-i.i m))).found));
+      only =
+          rw items
+          (OnlyMarked-push c.args.marks.now c.loop-i.numbers.items c.loop-i.i _ c.loop-i.invariant.copied.length within c.in_ok-number.ensures.only c.loop-i.invariant.only);
     }

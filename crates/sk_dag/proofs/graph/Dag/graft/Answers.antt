@@ -1,6 +1,6 @@
-use Rattle.std.proofs.Common.{◌≡◌, ◌<◌, ◌∷◌, [], arith, length}
+use Rattle.std.proofs.Common.{◌∷◌, [], arith, refl}
 use Rattle.std.proofs.lemmas.Option.{slice_get_within}
-use Rattle.sk_dag.proofs.ReachLemmas.{IsClosed-reached, root_stands, StandsFor-bool}
+use Rattle.sk_dag.proofs.ReachLemmas.{IsClosed-reached, root_stands, StandsFor-bool, IsCopied-marked}
 use Rattle.sk_dag.proofs.graph.Dag.graft.Goals as goal
 
 pub copy_marked-requires-clause-closed : goal.copy_marked-requires-clause-closed
@@ -22,3 +22,9 @@ returns-clause-there c =
     let copied = rw c.as_slice.ensures at c.in_ok-numbers.ensures.copied in
     rw (c.new_bool_id.ensures, c.deref.ensures.value)
     ((root_stands _ _ c.args.root c.in_ok-marks.ensures copied c.requires.root).sorts _ c.requires.root)
+
+pub returns-clause-copied : goal.returns-clause-copied
+returns-clause-copied c =
+    let copies = rw c.as_slice.ensures at c.in_ok-numbers.ensures.copies in
+    let only = rw c.as_slice.ensures at c.in_ok-numbers.ensures.only in
+    record { numbers = _; copied = IsCopied-marked _ _ (c.args.root ∷ []) c.in_ok-marks.ensures copies only; answer = rw (c.new_bool_id.ensures, c.deref.ensures.value) refl }

@@ -1,4 +1,4 @@
-use Rattle.std.proofs.Common.{length, ◌<◌, arith}
+use Rattle.std.proofs.Common.{length, ◌<◌}
 use Rattle.std.proofs.lemmas.Option.{slice_get-get_or}
 use Rattle.sk_dag.proofs.EvalLemmas.{IsNode-found}
 use Rattle.sk_dag.proofs.graph.Dag.node.Goals as goal

@@ -1,5 +1,4 @@
-use Rattle.std.proofs.Common.{◌≡◌, arith, length, ◌+◌, ◌<◌, ◌≤◌, ap, ◌∙◌, take}
-use Rattle.sk_dag.specs.Eval.{HoldsMachineWords, value_at, values, graph_values}
+use Rattle.std.proofs.Common.{arith, length, ◌+◌, ◌<◌}
 use Rattle.sk_dag.proofs.EvalLemmas.{HoldsMachineWords-values, IsWellFormed-take, value_at-take}
 use Rattle.sk_dag.proofs.graph.Dag.values_to.Goals as goal
 

@@ -1,0 +1,53 @@
+//! Chains of 100,000 nodes.
+use crate::building::{env_of, graph_of, has_bool, has_word, put};
+use sk_dag::{BoolId, Dag, Node, WordId};
+use sk_simplify::simplify;
+use std::alloc::Global;
+use std::process::Abort;
+use std::test::Fail;
+
+const LENGTH: usize = 100_000;
+
+// x, y, and x with y added again and again: the sum is x + 99,998 * y.
+fn sums(rt: &impl Abort, alloc: Global) -> Result<Dag, Fail> {
+    let mut dag = graph_of(rt, alloc, 32, &[Node::InputWord(0), Node::InputWord(1)])?;
+    let mut last = 0;
+    for _ in 2..LENGTH {
+        last = put(
+            rt,
+            &mut dag,
+            Node::Add(WordId { index: last }, WordId { index: 1 }),
+        )?;
+    }
+    Ok(dag)
+}
+
+#[test]
+fn a_long_sum(rt: HostRuntime) -> Result<(), Fail> {
+    let dag = sums(&rt, rt.alloc())?;
+    assert_eq!(rt; dag.len(), LENGTH);
+    let sum = WordId { index: LENGTH - 1 };
+    assert!(rt; has_word(&dag, sum));
+    let env = env_of(rt.alloc(), &[], &[3, -2])?;
+    assert_eq!(rt; dag.eval_word(sum, &env)?, 3 - 2 * 99_998);
+    Ok(())
+}
+
+// The chain is simple but for the order of operands, and stays as long.
+#[test]
+fn a_long_sum_anew(rt: HostRuntime) -> Result<(), Fail> {
+    let mut dag = sums(&rt, rt.alloc())?;
+    let sum = WordId { index: LENGTH - 1 };
+    let root = BoolId {
+        index: put(&rt, &mut dag, Node::Lt(sum, WordId { index: 0 }))?,
+    };
+    assert!(rt; has_bool(&dag, root));
+    let made = simplify(rt.alloc(), &dag, &[root])?;
+    assert_eq!(rt; made.dag.len(), LENGTH + 1);
+    let mut copy = Dag::new(rt.alloc(), 32);
+    assert!(rt; dag.int_bits() == copy.int_bits());
+    let copied = copy.graft(&dag, root)?;
+    assert_eq!(rt; copied, root);
+    assert_eq!(rt; copy.len(), LENGTH + 1);
+    Ok(())
+}
