@@ -1,1 +1,4 @@
 mod Computed
+pub mod Numbers
+pub mod WordByWord
+pub mod PragmaWords

@@ -9,7 +9,10 @@ use Rattle.sk_tree.specs.declared.item.Item.{Item}
 use Rattle.sk_tree.specs.declared.item.Item.TheVariants as item
 use Rattle.sk_tree.specs.declared.item.Tree.{Tree}
 use Rattle.sk_opts.specs.declared.line.Set.{Set}
-use Rattle.sk_opts.specs.Settings.{Setting, HoleBits, InputBits, Turns, Calls, of_pragmas, setting_among, value_in, Given, last_of}
+use Rattle.sk_opts.specs.Settings.{of_pragmas, setting_among, value_in, last_of}
+use Rattle.sk_opts.specs.declared.setting.Setting.{Setting}
+use Rattle.sk_opts.specs.declared.setting.Setting.TheVariants.{HoleBits, InputBits, Turns, Calls}
+use Rattle.sk_opts.specs.declared.setting.Given.{Given}
 
 -- Words of a pragma
 

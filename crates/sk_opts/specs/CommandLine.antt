@@ -7,7 +7,11 @@ use Rattle.sk_base.specs.declared.bounds.Budget.{Budget}
 use Rattle.sk_opts.specs.declared.line.Set.{Set}
 use Rattle.sk_opts.specs.declared.line.Line.{Line}
 use Rattle.sk_opts.specs.declared.line.Line.TheVariants as line
-use Rattle.sk_opts.specs.Settings.{Setting, Certificate, HoleBits, InputBits, Turns, Calls, IntBits, Rounds, Conflicts, is_flag, of_bounds, of_synth, setting_among, number_in, value_in, Given, all_once, last_of}
+use Rattle.sk_opts.specs.Settings.{is_flag, of_bounds, of_synth, setting_among, number_in, value_in, all_once, last_of}
+use Rattle.sk_opts.specs.declared.setting.Setting.{Setting}
+use Rattle.sk_opts.specs.declared.setting.Setting.TheVariants.{Certificate, HoleBits, InputBits, Turns, Calls, IntBits, Rounds, Conflicts}
+use Rattle.sk_opts.specs.declared.setting.Given.{Given}
+use Rattle.sk_opts.specs.declared.words.Words.{Words}
 
 -- One word
 
@@ -50,11 +54,6 @@ piece_of has word =
     else Plain)
 
 -- All words
-
--- the settings and the positionals of words, each in order
-pub record Words : Type 0 where
-  pub settings : List Given
-  pub positionals : List (List ℕ)
 
 abbrev pub with_setting : Setting → Option ℕ → Option Words → Option Words
 with_setting s None more = None

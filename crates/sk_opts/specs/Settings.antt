@@ -4,9 +4,9 @@ use Rattle.std.specs.List.{list_all, list_any}
 use Rattle.std.specs.Str.{bytes_eq}
 use Rattle.sk_tree.specs.Shapes.{is_digit}
 use Rattle.sk_tree.specs.Tokens.{number_of}
-
-pub data Setting : Type 0 where
-  HoleBits InputBits Turns Calls IntBits Rounds Conflicts Certificate : Setting
+use Rattle.sk_opts.specs.declared.setting.Setting.{Setting}
+use Rattle.sk_opts.specs.declared.setting.Setting.TheVariants.{HoleBits, InputBits, Turns, Calls, IntBits, Rounds, Conflicts, Certificate}
+use Rattle.sk_opts.specs.declared.setting.Given.{Given}
 
 abbrev pub setting_bytes : Setting → List ℕ
 setting_bytes HoleBits = codes "--bnd-cbits"
@@ -78,10 +78,6 @@ abbrev pub value_in : Setting → List ℕ → Option ℕ
 value_in s word = if is_flag s then None else number_in (lowest s) (highest s) word
 
 -- Settings with their values
-
-pub record Given : Type 0 where
-  pub setting : Setting
-  pub value : ℕ
 
 abbrev pub is_of : Setting → Given → Bool
 is_of s g = bytes_eq (setting_bytes s) (setting_bytes g.setting)

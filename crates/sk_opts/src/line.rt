@@ -1,4 +1,9 @@
+ghost use Rattle.std.specs.Prelude.{◌≡◌};
+ghost use Rattle.sk_opts.specs.declared.line.Usage.TheVariants.{Memory};
+
 use sk_base::{Budget, List, Name};
+use std::alloc::{AllocError, AllocFailed};
+use thiserror::Error;
 
 /// The bounds that options give; none where no option gives one.
 #[derive(Debug, Drop, Clone, Copy)]
@@ -40,4 +45,31 @@ pub enum Line {
     },
     Help,
     Version,
+}
+
+/// Why words are no line.
+#[derive(Debug, Drop, Clone, Copy, PartialEq, Eq, Error)]
+pub enum Usage {
+    /// The words spell no line.
+    #[error("not a command line")]
+    NotALine,
+    /// There was not enough memory.
+    #[error("not enough memory")]
+    Memory,
+}
+
+impl From<AllocError> for Usage {
+    ghost from_gives = { λ _ e. e ≡ Memory };
+
+    fn from(_: AllocError) -> Usage {
+        Usage::Memory
+    }
+}
+
+impl<T: Drop> From<AllocFailed<T>> for Usage {
+    ghost from_gives = { λ _ e. e ≡ Memory };
+
+    fn from(_: AllocFailed<T>) -> Usage {
+        Usage::Memory
+    }
 }

@@ -1,0 +1,10 @@
+-- What an error of `options` tells.
+use Rattle.std.specs.Prelude.{◌≡◌, ℕ, List, None}
+use Rattle.sk_opts.specs.declared.line.Usage.{Usage}
+use Rattle.sk_opts.specs.declared.line.Usage.TheVariants as usage
+use Rattle.sk_opts.specs.CommandLine.{line_of}
+
+-- the words spell no line, or memory ran out
+abbrev pub IsTold : List (List ℕ) → Usage → Type 0
+IsTold words usage.NotALine = line_of words ≡ None
+IsTold words usage.Memory = Unit {0}

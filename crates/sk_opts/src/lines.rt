@@ -1,0 +1,225 @@
+//! The line that words spell.
+ghost use Rattle.std.specs.Prelude.{◌≡◌, ◌∷◌, ℕ, Some, None, map, unwrap_or, IfOk, IfErr, if◌then◌else◌};
+ghost use Rattle.std.specs.String.{string_bytes};
+ghost use Rattle.sk_opts.specs.Settings.{is_of, last_of};
+ghost use Rattle.sk_opts.specs.CommandLine.{set_of, budget_of, if_none, synth_line, exec_with, exec_line, check_line, self_with, self_line, line_of};
+ghost use Rattle.sk_opts.specs.Told.{IsTold};
+
+use crate::line::{Line, Set, Usage};
+use crate::number::number_in;
+use crate::setting::{Given, Setting, setting_bytes};
+use crate::words::{Words, words_of};
+use sk_base::{Budget, List, Name};
+use std::alloc::{AllocError, Global};
+
+const OF_BOUNDS: [Setting; 5] = [
+    Setting::IntBits,
+    Setting::HoleBits,
+    Setting::InputBits,
+    Setting::Turns,
+    Setting::Calls,
+];
+
+const OF_SYNTH: [Setting; 8] = [
+    Setting::Rounds,
+    Setting::Conflicts,
+    Setting::Certificate,
+    Setting::IntBits,
+    Setting::HoleBits,
+    Setting::InputBits,
+    Setting::Turns,
+    Setting::Calls,
+];
+
+fn later(found: Option<u32>, setting: Setting, given: Given) -> Option<u32>
+    ensures { result ≡ (if is_of setting given then Some given.value else found) }
+{
+    if setting_bytes(setting) == setting_bytes(given.setting) {
+        Some(given.value)
+    } else {
+        found
+    }
+}
+
+// The last value of a setting.
+fn last_of(setting: Setting, settings: &[Given]) -> Option<u32>
+    ensures { result ≡ last_of setting settings.now }
+{
+    let mut found = None;
+    let mut rest = settings;
+    while let [given, after @ ..] = rest {
+        found = later(found, setting, *given);
+        rest = after;
+    }
+    found
+}
+
+fn set_of(settings: &[Given]) -> Set
+    ensures { result ≡ set_of settings.now }
+{
+    Set {
+        cbits: last_of(Setting::HoleBits, settings),
+        inbits: last_of(Setting::InputBits, settings),
+        unroll: last_of(Setting::Turns, settings),
+        inline_amnt: last_of(Setting::Calls, settings),
+        int_bits: last_of(Setting::IntBits, settings),
+    }
+}
+
+fn or_none(number: Option<u32>) -> u64
+    ensures { result ≡ unwrap_or number 0 }
+{
+    match number {
+        Some(number) => number as u64,
+        None => 0,
+    }
+}
+
+fn budget_of(settings: &[Given]) -> Budget
+    ensures { result ≡ budget_of settings.now }
+{
+    Budget {
+        rounds: or_none(last_of(Setting::Rounds, settings)),
+        conflicts: or_none(last_of(Setting::Conflicts, settings)),
+    }
+}
+
+// The line, where there are no positionals.
+fn if_none(positionals: &[Name], line: Line) -> Option<Line>
+    ensures { result ≡ if_none positionals.now line }
+{
+    match positionals {
+        [] => Some(line),
+        _ => None,
+    }
+}
+
+fn synth_line(words: Option<Words>) -> Option<Line>
+    ensures { result ≡ synth_line words }
+{
+    match words {
+        None => None,
+        Some(words) => {
+            let settings = words.settings.as_slice();
+            let line = Line::Synth {
+                set: set_of(settings),
+                budget: budget_of(settings),
+                cert: last_of(Setting::Certificate, settings).is_some(),
+            };
+            if_none(words.positionals.as_slice(), line)
+        }
+    }
+}
+
+fn check_line(words: Option<Words>) -> Option<Line>
+    ensures { result ≡ check_line words }
+{
+    match words {
+        None => None,
+        Some(words) => {
+            let line = Line::Check {
+                set: set_of(words.settings.as_slice()),
+            };
+            if_none(words.positionals.as_slice(), line)
+        }
+    }
+}
+
+fn exec_with(set: Set, positionals: List<Name>) -> Option<Line>
+    ensures { result ≡ exec_with set positionals }
+{
+    let mut values = positionals;
+    if values.is_empty() {
+        return None;
+    }
+    let name = values.remove(0);
+    Some(Line::Exec { set, name, values })
+}
+
+fn exec_line(words: Option<Words>) -> Option<Line>
+    ensures { result ≡ exec_line words }
+{
+    match words {
+        None => None,
+        Some(words) => {
+            let Words {
+                settings,
+                positionals,
+            } = words;
+            let set = set_of(settings.as_slice());
+            exec_with(set, positionals)
+        }
+    }
+}
+
+fn self_with(positionals: &[Name]) -> Option<Line>
+    ensures { result ≡ self_with positionals.now }
+{
+    match positionals {
+        [name] => match number_in(0, 60, name.as_bytes()) {
+            Some(n) => Some(Line::Itself { n }),
+            None => None,
+        },
+        _ => None,
+    }
+}
+
+fn self_line(words: Option<Words>) -> Option<Line>
+    ensures { result ≡ self_line words }
+{
+    match words {
+        None => None,
+        Some(words) => self_with(words.positionals.as_slice()),
+    }
+}
+
+// A line that is one word alone.
+fn alone(words: &[String], line: Line) -> Option<Line>
+    ensures { result ≡ if_none (map string_bytes words.now) line }
+{
+    match words {
+        [] => Some(line),
+        _ => None,
+    }
+}
+
+// The line of a command and the words behind it.
+#[tactic(auto, unfolding(crate::specs::CommandLine::line_of))]
+fn line_behind(alloc: Global, command: &[u8], words: &[String]) -> Result<Option<Line>, AllocError>
+    ensures { IfOk result (λ line. line ≡ line_of (command.now ∷ map string_bytes words.now)) }
+{
+    if command == b"synth".as_slice() {
+        Ok(synth_line(words_of(alloc, &OF_SYNTH, words)?))
+    } else if command == b"exec".as_slice() {
+        Ok(exec_line(words_of(alloc, &OF_BOUNDS, words)?))
+    } else if command == b"check".as_slice() {
+        Ok(check_line(words_of(alloc, &OF_BOUNDS, words)?))
+    } else if command == b"self".as_slice() {
+        Ok(self_line(words_of(alloc, &[], words)?))
+    } else if command == b"--help".as_slice() {
+        Ok(alone(words, Line::Help))
+    } else if command == b"--version".as_slice() {
+        Ok(alone(words, Line::Version))
+    } else {
+        Ok(None)
+    }
+}
+
+/// The line that the words behind the program's own name spell. `NotALine` comes exactly where they spell none, or in
+/// want of memory `Memory`.
+#[tactic(auto, unfolding(crate::specs::CommandLine::line_of))]
+pub fn options(alloc: Global, words: &[String]) -> Result<Line, Usage>
+    ensures found { IfOk result (λ line. line_of (map string_bytes words.now) ≡ Some line) }
+    ensures usage { IfErr result (IsTold (map string_bytes words.now)) }
+{
+    match words.split_first() {
+        None => Err(Usage::NotALine),
+        Some((command, after)) => match line_behind(alloc, command.as_bytes(), after) {
+            Err(_) => Err(Usage::Memory),
+            Ok(found) => match found {
+                Some(line) => Ok(line),
+                None => Err(Usage::NotALine),
+            },
+        },
+    }
+}
