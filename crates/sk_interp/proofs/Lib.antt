@@ -1,0 +1,5 @@
+pub mod Numbers
+pub mod Equal
+pub mod Ripples
+pub mod Operating
+pub mod Memories

@@ -1,0 +1,10 @@
+//! Runs typed programs as their meaning says.
+#![tactic(auto)]
+
+mod bits;
+mod memory;
+mod number;
+mod operator;
+mod part;
+mod stop;
+mod value;

@@ -1,0 +1,91 @@
+//! Written numbers, elements and slices.
+
+ghost use Rattle.std.specs.Prelude.{◌≡◌, ◌≤◌, IfOk};
+ghost use Rattle.sk_model.specs.Eval.{number_at, literal, padded_at, indexed, sliced};
+ghost use Rattle.sk_interp.specs.Gives.{Computes};
+
+use crate::stop::Stop;
+use crate::value::{copy, copy_all, element, elements, padded};
+use sk_base::{Span, wrap};
+use sk_prog::{Elem, Ty, Value};
+use std::alloc::{AllocError, Global};
+
+fn number_at(bits: u32, e: Elem, n: u32) -> Value
+    requires bits_low { 2 ≤ bits }
+    requires bits_high { bits ≤ 32 }
+    ensures { result ≡ number_at bits e n }
+{
+    match e {
+        Elem::Int => Value::Int(wrap(bits, i64::from(n))),
+        Elem::Bit => Value::Bit(n != 0),
+        Elem::Reference(_) => Value::Null,
+    }
+}
+
+/// The value of a written number at its type.
+pub fn literal(alloc: Global, bits: u32, ty: Option<Ty>, n: u32) -> Result<Value, AllocError>
+    requires bits_low { 2 ≤ bits }
+    requires bits_high { bits ≤ 32 }
+    ensures { IfOk result (λ v. v ≡ literal bits ty n) }
+{
+    match ty {
+        None => Ok(number_at(bits, Elem::Int, n)),
+        Some(Ty::One(e)) => Ok(number_at(bits, e, n)),
+        Some(Ty::Array(e, k)) => {
+            let made = padded(alloc, Ty::Array(e, k), number_at(bits, e, n))?;
+            Ok(made)
+        }
+        Some(Ty::Grid(e, k, m)) => {
+            let row = padded(alloc, Ty::Array(e, k), number_at(bits, e, n))?;
+            let made = padded(alloc, Ty::Grid(e, k, m), row)?;
+            Ok(made)
+        }
+    }
+}
+
+/// A value as one of a longer type.
+pub fn padded_at(alloc: Global, ty: Option<Ty>, v: Value) -> Result<Value, AllocError>
+    ensures { IfOk result (λ made. made ≡ padded_at ty v) }
+{
+    match ty {
+        None => Ok(v),
+        Some(t) => {
+            let made = padded(alloc, t, v)?;
+            Ok(made)
+        }
+    }
+}
+
+/// The element that an index names.
+pub fn indexed(alloc: Global, span: Span, v: &Value, i: &Value) -> Result<Value, Stop>
+    ensures { Computes result (indexed span v.now i.now) }
+{
+    let Value::Int(i) = i else {
+        return Err(Stop::Failed { span });
+    };
+    let Some(found) = element(v, *i) else {
+        return Err(Stop::Failed { span });
+    };
+    let made = copy(alloc, found)?;
+    Ok(made)
+}
+
+/// So many elements from an index on.
+pub fn sliced(alloc: Global, span: Span, n: u32, v: &Value, from: &Value) -> Result<Value, Stop>
+    ensures { Computes result (sliced span n v.now from.now) }
+{
+    let Value::Int(i) = from else {
+        return Err(Stop::Failed { span });
+    };
+    if *i < 0 {
+        return Err(Stop::Failed { span });
+    }
+    let all = elements(v);
+    let start = *i as usize;
+    let count = n as usize;
+    if all.len() < count || all.len() - count < start {
+        return Err(Stop::Failed { span });
+    }
+    let made = copy_all(alloc, &all[start..start + count])?;
+    Ok(Value::Array(made))
+}
