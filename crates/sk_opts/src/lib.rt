@@ -14,3 +14,6 @@ mod words;
 pub use limits::bounds;
 pub use line::{Line, Set, Usage};
 pub use lines::options;
+
+#[cfg(test)]
+mod tests;
