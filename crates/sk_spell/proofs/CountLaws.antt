@@ -1,12 +1,10 @@
 -- A capped count is the number of strings, capped.
-use Rattle.std.proofs.Common.{◌≡◌, ℕ, zero, suc, ◌+◌, ◌*◌, ◌≤◌, ◌<◌, min, List, [], ◌∷◌, ◌++◌, map, flat_map, length, refl, sym, ap, ◌∙◌, subst, arith, ◌⊎◌, inl, inr}
+use Rattle.std.proofs.Common.{◌≡◌, ℕ, zero, suc, ◌+◌, ◌*◌, ◌≤◌, ◌<◌, min, List, [], ◌∷◌, ◌++◌, map, flat_map, length, refl, sym, ap, ◌∙◌, arith, ◌⊎◌, inl, inr}
 use Rattle.std.proofs.Math.Nat.{min-le_right, eq-or-lt_of_le, le-mul_of_pos_right, mul_comm, mul_assoc, suc-mul}
 use Rattle.std.proofs.lemmas.List.{length-append, length-map}
-use Rattle.sk_tree.specs.declared.token.Token.{Token}
 use Rattle.sk_tree.specs.declared.pattern.Pattern.{Pattern}
 use Rattle.sk_tree.specs.declared.pattern.Pattern.TheOpen as P
-use Rattle.sk_tree.specs.declared.pattern.Pattern.TheViews.{roll-Pattern}
-use Rattle.sk_tree.specs.declared.pattern.Pattern.TheFolds.{map-Pattern, fold-Pattern, fold-roll-Pattern}
+use Rattle.sk_tree.specs.declared.pattern.Pattern.TheFolds.{map-Pattern, fold-roll-Pattern}
 use Rattle.sk_tree.specs.Strings.{Strings, strings_of, pattern_strings, pairs, rows}
 use Rattle.sk_tree.proofs.Layers.{pattern_law, PatternLayer, pattern_parts}
 use Rattle.sk_spell.specs.Counts.{prefixed, plus, times, sum_from, product_from, count_layer, count_of, CountsStrings}

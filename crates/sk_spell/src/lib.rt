@@ -16,3 +16,6 @@ pub use copy::{copy_kind, copy_token};
 pub use fault::PatternFault;
 pub use item::spell;
 pub use string::strings;
+
+#[cfg(test)]
+mod tests;
