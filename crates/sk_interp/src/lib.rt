@@ -7,4 +7,6 @@ mod number;
 mod operator;
 mod part;
 mod stop;
+#[cfg(test)]
+mod tests;
 mod value;
