@@ -1,0 +1,6 @@
+pub mod Lists
+pub mod Counts
+pub mod StmtCounts
+pub mod RangeLaws
+pub mod Numbers
+pub mod MarkLaws

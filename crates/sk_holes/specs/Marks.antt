@@ -1,0 +1,18 @@
+-- Which functions what stands calls, as marks in a table of functions.
+use Rattle.std.specs.Prelude.{ℕ, ◌+◌, List, [], ◌∷◌, Bool, true, slice_set, if◌then◌else◌}
+use Rattle.sk_model.specs.Parts.{Part}
+use Rattle.sk_model.specs.Stands.{Standing, absent}
+
+-- the table in which these functions too are marked; one that is not in the table is passed over
+abbrev pub marked : List Bool → List ℕ → List Bool
+marked table [] = table
+marked table (f ∷ fs) = marked (slice_set table f true) fs
+
+-- the functions that a part calls if it stands
+abbrev pub called_if : Bool → Part Standing → ℕ → List ℕ
+called_if b p i = if b then (p.at i).called else []
+
+-- of these parts, of which the first has number k, those stand whose number meets a test
+abbrev pub some_of : (ℕ → Bool) → ℕ → List (Part Standing) → List (Part Standing)
+some_of test k [] = []
+some_of test k (p ∷ ps) = (if test k then p else absent p) ∷ some_of test (k + 1) ps
