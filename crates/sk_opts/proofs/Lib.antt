@@ -2,3 +2,4 @@ mod Computed
 pub mod Numbers
 pub mod WordByWord
 pub mod PragmaWords
+pub mod InRange

@@ -2,6 +2,8 @@
 use Rattle.std.specs.Prelude.{ℕ, ◌≤◌, ◌-◌, Option, Some, None}
 use Rattle.sk_base.specs.declared.bounds.Bounds.{Bounds}
 use Rattle.sk_opts.specs.declared.line.Set.{Set}
+use Rattle.sk_opts.specs.declared.line.Line.{Line}
+use Rattle.sk_opts.specs.declared.line.Line.TheVariants as line
 use Rattle.sk_opts.specs.declared.setting.Setting.{Setting}
 use Rattle.sk_opts.specs.declared.setting.Setting.TheVariants.{HoleBits, InputBits, Turns, Calls, IntBits}
 use Rattle.sk_opts.specs.Settings.{lowest, highest}
@@ -22,6 +24,15 @@ pub record IsInRanges (set : Set) : Type 0 where
   pub unroll : LiesIn Turns set.unroll
   pub inline_amnt : LiesIn Calls set.inline_amnt
   pub int_bits : LiesIn IntBits set.int_bits
+
+-- the numbers of a line's set lie in their ranges
+abbrev pub LineIsInRanges : Line → Type 0
+LineIsInRanges (line.Synth set budget cert) = IsInRanges set
+LineIsInRanges (line.Exec set name values) = IsInRanges set
+LineIsInRanges (line.Check set) = IsInRanges set
+LineIsInRanges (line.Itself n) = Unit {0}
+LineIsInRanges line.Help = Unit {0}
+LineIsInRanges line.Version = Unit {0}
 
 -- Bounds as all that takes bounds asks for them: holes and inputs have a bit at least, and at most as many as an
 -- `int` has without its sign.

@@ -3,6 +3,7 @@ ghost use Rattle.std.specs.Prelude.{◌≡◌, ◌∷◌, ℕ, Some, None, map, 
 ghost use Rattle.std.specs.String.{string_bytes};
 ghost use Rattle.sk_opts.specs.Settings.{is_of, last_of};
 ghost use Rattle.sk_opts.specs.CommandLine.{set_of, budget_of, if_none, synth_line, exec_with, exec_line, check_line, self_with, self_line, line_of};
+ghost use Rattle.sk_opts.specs.Ranges.{LineIsInRanges};
 ghost use Rattle.sk_opts.specs.Told.{IsTold};
 
 use crate::line::{Line, Set, Usage};
@@ -211,6 +212,8 @@ fn line_behind(alloc: Global, command: &[u8], words: &[String]) -> Result<Option
 pub fn options(alloc: Global, words: &[String]) -> Result<Line, Usage>
     ensures found { IfOk result (λ line. line_of (map string_bytes words.now) ≡ Some line) }
     ensures usage { IfErr result (IsTold (map string_bytes words.now)) }
+    // `bounds` takes the set of the line.
+    ensures ranges { IfOk result LineIsInRanges }
 {
     match words.split_first() {
         None => Err(Usage::NotALine),
