@@ -1,0 +1,9 @@
+mod NumberLaws
+mod SignedLaws
+mod StepLaws
+mod CodeLaws
+mod CoverLaws
+mod LeafLaws
+mod FormulaLaws
+mod GrowingLaws
+mod LeafEq

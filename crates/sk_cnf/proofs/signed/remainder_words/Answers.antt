@@ -1,0 +1,23 @@
+use Rattle.std.proofs.Common.{◌≡◌, ◌<◌, ◌+◌, ◌*◌, ◌%◌, ◌^◌, ◌∙◌, arith, ap, sym, length, refl}
+use Rattle.sk_gates.specs.Words.{bits_word, digit}
+use Rattle.sk_gates.specs.Bits.{bit_true}
+use Rattle.sk_gates.proofs.ExtensionLaws.{Adds-then, Adds-both, Adds-weaker}
+use Rattle.sk_gates.proofs.WordLaws.{bits_below}
+use Rattle.sk_base.specs.Word.{signed}
+use Rattle.sk_cnf.specs.Signed.{HasSign}
+use Rattle.sk_cnf.proofs.SignedLaws.{left_over}
+use Rattle.sk_cnf.proofs.signed.remainder_words.Goals as goal
+
+pub returns-clause-gate : goal.returns-clause-gate
+returns-clause-gate c =
+    let w = length c.args.a.now in
+    let first = c.in_ok-dividend.ensures.gate in
+    let second = c.in_ok-divisor.ensures.gate in
+    let long : length c.in_ok-left.left ≡ w = c.in_ok-left.ensures.remainder_length ∙ ap length c.as_slice.ensures ∙ c.in_ok-dividend.ensures.length in
+    Adds-then _ _ _ (Adds-both _ _ (Adds-both _ _ first second) c.in_ok-left.ensures.gate) c.in_ok-r.ensures.gate (λ v p q.
+      let x = p.0.0 in
+      let y = rw (← c.requires.lengths) at p.0.1 in
+      let d = rw (c.as_slice.ensures, c.as_slice-2.ensures) at p.1.1 in
+      let below = rw long at (bits_below v c.in_ok-left.left) in
+      let r = rw (c.as_slice-3.ensures, long) at q in
+      left_over w c.requires.some _ _ _ _ _ _ x y (bits_word v c.in_ok-left.left) (bits_word v c.in_ok-r.r) below d r)
