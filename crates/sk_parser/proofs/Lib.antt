@@ -1,0 +1,16 @@
+pub mod Budgets
+pub mod Loops
+pub mod Seen
+pub mod Spans
+pub mod ExprNodes
+pub mod PatternSound
+pub mod ExprSound
+pub mod Offers
+pub mod Complete
+pub mod PatternComplete
+pub mod ExprComplete
+pub mod Texts
+pub mod StmtTakes
+pub mod ItemTakes
+pub mod StmtSound
+pub mod ItemSound

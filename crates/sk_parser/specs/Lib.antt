@@ -1,0 +1,7 @@
+pub mod Readers
+pub mod PatternReader
+pub mod ExprReader
+pub mod StringReader
+pub mod Roles
+pub mod StmtReader
+pub mod ItemReader

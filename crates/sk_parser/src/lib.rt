@@ -1,0 +1,10 @@
+//! The tree of a text, read from its tokens. Nothing is public yet: `parse` comes once the readers of all
+//! forms stand.
+#![tactic(auto)]
+
+mod expr;
+mod item;
+mod pattern;
+mod stmt;
+mod stop;
+mod token;
