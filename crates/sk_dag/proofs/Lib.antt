@@ -3,3 +3,4 @@ pub mod GraphLemmas
 pub mod EvalLemmas
 pub mod WordLemmas
 pub mod ReachLemmas
+pub mod BelowLemmas

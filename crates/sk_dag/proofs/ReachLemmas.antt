@@ -28,6 +28,10 @@ pub each_map : (P Q : ℕ → Type 0) (xs : List ℕ) → ((x : ℕ) → P x →
 each_map P Q [] f h = tt
 each_map P Q (y ∷ ys) f h = (f y h.0, each_map P Q ys f h.1)
 
+pub each_at : (P : ℕ → Type 0) (xs : List ℕ) → ((k : ℕ) → k < length xs → P (get_or xs k 0)) → Each P xs
+each_at P [] h = tt
+each_at P (y ∷ ys) h = (h 0 (omega arith), each_at P ys (λ k l. h (suc k) (omega (arith, l))))
+
 -- the children of a node that may follow others are among them
 pub children_there : (w : ℕ) (ns : List Node) (n : Node) → MayFollow w ns n → Each (λ c. c < length ns) (children n)
 children_there w ns n h = by n h

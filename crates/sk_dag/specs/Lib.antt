@@ -3,3 +3,4 @@ pub mod Graph
 pub mod Eval
 pub mod EvalShape
 pub mod Reach
+pub mod Below

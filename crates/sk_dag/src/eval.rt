@@ -1,13 +1,16 @@
 //! The values of the nodes.
 
-ghost use Rattle.std.specs.Prelude.{◌≡◌, ◌≤◌, IfOk};
+ghost use Rattle.std.specs.Prelude.{◌≡◌, ◌≤◌, ℕ, List, IfOk};
+ghost use Rattle.sk_dag.specs.declared.value.Value.{Value};
 ghost use Rattle.sk_dag.specs.Word.{IsMachineWord};
 ghost use Rattle.sk_dag.specs.Graph.{IsWellFormed};
-ghost use Rattle.sk_dag.specs.Eval.{value_of as node_value, values as node_values, bool_at as bool_in, word_at as word_in, cost_at as cost_in, charge as charged, HoldsMachineWords};
+ghost use Rattle.sk_dag.specs.Eval.{value_of as node_value, values as node_values, value_at, as_bool, as_word, as_cost, charge as charged};
+ghost use Rattle.sk_dag.specs.Reach.{children, Each};
 
 use crate::env::Env;
 use crate::node::{BoolId, CostId, Node, WordId};
 use crate::value::Value;
+use crate::values::Values;
 use crate::word;
 use sk_base::wrap;
 use std::alloc::{AllocError, Global};
@@ -22,42 +25,42 @@ fn charge(cost: u64, when: bool, amount: i64) -> u64
     }
 }
 
-pub(crate) fn bool_at(values: &[Value], a: BoolId) -> bool
-    ensures { result ≡ bool_in values.now a }
+fn bool_at<V: Values>(values: &V, a: BoolId) -> bool
+    ensures { result ≡ as_bool (V.value_for values.now a.index) }
 {
-    match values.get(a.index) {
-        Some(Value::Bit(bit)) => *bit,
+    match values.value(a.index) {
+        Value::Bit(bit) => bit,
         _ => false,
     }
 }
 
-pub(crate) fn word_at(values: &[Value], a: WordId) -> i64
-    requires { HoldsMachineWords values.now }
-    ensures value { result ≡ word_in values.now a }
+fn word_at<V: Values>(values: &V, a: WordId) -> i64
+    requires { (i : ℕ) → IsMachineWord (as_word (V.value_for values.now i)) }
+    ensures value { result ≡ as_word (V.value_for values.now a.index) }
     ensures word { IsMachineWord result }
 {
-    match values.get(a.index) {
-        Some(Value::Int(number)) => *number,
+    match values.value(a.index) {
+        Value::Int(number) => number,
         _ => 0,
     }
 }
 
-pub(crate) fn cost_at(values: &[Value], a: CostId) -> u64
-    ensures { result ≡ cost_in values.now a }
+fn cost_at<V: Values>(values: &V, a: CostId) -> u64
+    ensures { result ≡ as_cost (V.value_for values.now a.index) }
 {
-    match values.get(a.index) {
-        Some(Value::Cost(cost)) => *cost,
+    match values.value(a.index) {
+        Value::Cost(cost) => cost,
         _ => 0,
     }
 }
 
-// The value of a node, from those of the nodes before it.
+// The value of a node, from those of its children.
 #[tactic(auto, unfolding(crate::specs::Eval::value_of))]
-pub(crate) fn value_of(node: Node, bits: u32, values: &[Value], env: &Env) -> Value
+pub(crate) fn value_of<V: Values>(node: Node, bits: u32, values: &V, env: &Env) -> Value
     requires bits_low { 2 ≤ bits }
     requires bits_high { bits ≤ 32 }
-    requires words { HoldsMachineWords values.now }
-    ensures { result ≡ node_value bits env.now values.now node }
+    requires words { (i : ℕ) → IsMachineWord (as_word (V.value_for values.now i)) }
+    ensures { (vs : List Value) → Each (λ i. V.value_for values.now i ≡ value_at vs i) (children node) → result ≡ node_value bits env.now vs node }
 {
     match node {
         Node::Flag(b) => Value::Bit(b),

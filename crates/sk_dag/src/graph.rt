@@ -1,14 +1,20 @@
 //! The graph, and the makers of its nodes.
 
+use crate::below::value_below;
 use crate::env::Env;
-use crate::eval::{bool_at, cost_at, values_of, word_at};
+use crate::eval::values_of;
 use crate::node::{BoolId, CostId, Node, WordId};
 use crate::reach::{mark_reached, new_bool_id};
 use crate::value::Value;
+use crate::values::Values;
 use indexmap::IndexSet;
 use sk_base::List;
 use std::alloc::{AllocError, Global};
 use std::marker::Model;
+
+// An evaluation takes one step for so many nodes up to the root to find what it stands on. A step costs some three times
+// as much as the evaluation of one of all nodes in order.
+const NODES_A_STEP: usize = 8;
 
 /// A graph of expressions, in which equal nodes are one.
 #[derive(Drop)]
@@ -36,7 +42,7 @@ impl Dag {
     ghost use Rattle.sk_base.specs.Word.{IsWord, wrapped};
     ghost use Rattle.sk_dag.specs.Word.{quotient, remainder, bit_of};
     ghost use Rattle.sk_dag.specs.Graph.{Graph, Grows, IsWellFormed, MayFollow, HasBool, HasWord, HasCost};
-    ghost use Rattle.sk_dag.specs.Eval.{entry, Makes, Keeps, IsNode, IsMade, charge, values, value_at, graph_values, bool_value, word_value, cost_value, HoldsMachineWords};
+    ghost use Rattle.sk_dag.specs.Eval.{entry, Makes, Keeps, IsNode, IsMade, charge, values, value_at, graph_values, bool_value, word_value, cost_value};
     ghost use Rattle.sk_dag.specs.Reach.{children, Each, IsClosed, MarksReached, StandForMarked, renumbered, AddsAtMost, CopiesMarked, OnlyMarked, IsGrafted};
     ghost use Rattle.sk_dag.specs.declared.node.Node.TheVariants.{Flag, Word, HoleBit, HoleWord, InputBit, InputWord, Not, And, Or, Xor, BoolMux, Mux, Add, Sub, Mul, Div, Rem, Lt, Eq, CostZero, CostAdd, CostLe};
 
@@ -421,46 +427,65 @@ impl Dag {
         &self.nodes.as_slice()[index]
     }
 
-    // The values of the nodes up to this one.
-    fn values_to(&self, index: usize, env: &Env) -> Result<Vec<Value>, AllocError>
+    // The value of a node, for which each node up to it is evaluated.
+    fn value_among(&self, index: usize, env: &Env) -> Result<Value, AllocError>
         requires { index < length self.now.nodes }
-        ensures values { IfOk result (λ vs. vs.items ≡ values self.now.bits env.now (take (index + 1) self.now.nodes)) }
-        ensures words { IfOk result (λ vs. HoldsMachineWords vs.items) }
-        ensures same { IfOk result (λ vs. value_at vs.items index ≡ value_at (graph_values self.now env.now) index) }
+        ensures { IfOk result (λ value. value ≡ value_at (graph_values self.now env.now) index) }
     {
         let nodes = &self.nodes.as_slice()[..index + 1];
         let values = values_of(self.alloc, self.int_bits, nodes, env)?;
-        Ok(values)
+        Ok(values.value(index))
     }
 
-    /// The value of a node in an environment. The nodes up to it are evaluated once each, from
-    /// children to parents.
+    // The value of a node. Those on which it stands are evaluated alone if they are few beside all up to it. Else all up
+    // to it are, in their order, which looks nothing up: they are no more than some multiple of what it stands on.
+    fn value(&self, index: usize, env: &Env) -> Result<Value, AllocError>
+        requires { index < length self.now.nodes }
+        ensures { IfOk result (λ value. value ≡ value_at (graph_values self.now env.now) index) }
+    {
+        let nodes = self.nodes.as_slice();
+        let steps = index / NODES_A_STEP;
+        let found = value_below(self.alloc, self.int_bits, nodes, index, env, steps)?;
+        match found {
+            Some(value) => Ok(value),
+            None => self.value_among(index, env),
+        }
+    }
+
+    /// The value of a node in an environment. The nodes on which it stands are evaluated once each, from children to
+    /// parents, and time and memory grow with their number alone.
     pub fn eval_bool(&self, a: BoolId, env: &Env) -> Result<bool, AllocError>
         requires { HasBool self.now.nodes a }
         ensures { IfOk result (λ value. value ≡ bool_value self.now env.now a) }
     {
-        let values = self.values_to(a.index, env)?;
-        Ok(bool_at(&values, a))
+        match self.value(a.index, env)? {
+            Value::Bit(bit) => Ok(bit),
+            _ => Ok(false),
+        }
     }
 
-    /// The value of a node in an environment. The nodes up to it are evaluated once each, from
-    /// children to parents.
+    /// The value of a node in an environment. The nodes on which it stands are evaluated once each, from children to
+    /// parents, and time and memory grow with their number alone.
     pub fn eval_word(&self, a: WordId, env: &Env) -> Result<i64, AllocError>
         requires { HasWord self.now.nodes a }
         ensures { IfOk result (λ value. value ≡ word_value self.now env.now a) }
     {
-        let values = self.values_to(a.index, env)?;
-        Ok(word_at(&values, a))
+        match self.value(a.index, env)? {
+            Value::Int(number) => Ok(number),
+            _ => Ok(0),
+        }
     }
 
-    /// The value of a node in an environment. The nodes up to it are evaluated once each, from
-    /// children to parents.
+    /// The value of a node in an environment. The nodes on which it stands are evaluated once each, from children to
+    /// parents, and time and memory grow with their number alone.
     pub fn eval_cost(&self, a: CostId, env: &Env) -> Result<u64, AllocError>
         requires { HasCost self.now.nodes a }
         ensures { IfOk result (λ value. value ≡ cost_value self.now env.now a) }
     {
-        let values = self.values_to(a.index, env)?;
-        Ok(cost_at(&values, a))
+        match self.value(a.index, env)? {
+            Value::Cost(cost) => Ok(cost),
+            _ => Ok(0),
+        }
     }
 
     /// A mark for each node: whether it is one of the roots or stands below one.

@@ -1,13 +1,16 @@
 //! A graph of expressions over holes and inputs, in which equal nodes are one.
 #![tactic(auto)]
 
+mod below;
 mod env;
 mod eval;
 mod graph;
 mod node;
 mod reach;
 mod shape;
+mod table;
 mod value;
+mod values;
 pub mod word;
 
 pub use env::Env;

@@ -1,6 +1,6 @@
 //! Chains of 100,000 nodes.
-use crate::building::{env_of, graph_of, has_bool, has_word, put};
-use sk_dag::{BoolId, Dag, Node, WordId};
+use crate::building::{env_of, graph_of, has_bool, has_word, put, value};
+use sk_dag::{BoolId, CostId, Dag, Node, Value, WordId};
 use sk_simplify::simplify;
 use std::alloc::Global;
 use std::process::Abort;
@@ -30,6 +30,50 @@ fn a_long_sum(rt: HostRuntime) -> Result<(), Fail> {
     assert!(rt; has_word(&dag, sum));
     let env = env_of(rt.alloc(), &[], &[3, -2])?;
     assert_eq!(rt; dag.eval_word(sum, &env)?, 3 - 2 * 99_998);
+    Ok(())
+}
+
+// A few nodes behind the chain, none of which stands on it, with the values that x = 3, y = -2 and a hole of value 2 give.
+fn behind() -> [(Node, Value); 11] {
+    let word = |k: usize| WordId { index: LENGTH + k };
+    let truth = |k: usize| BoolId { index: LENGTH + k };
+    let x = WordId { index: 0 };
+    let y = WordId { index: 1 };
+    [
+        (Node::Mul(x, y), Value::Int(-6)),
+        (Node::Lt(word(0), y), Value::Bit(true)),
+        (Node::HoleBit(0, 1), Value::Bit(true)),
+        (Node::And(truth(1), truth(2)), Value::Bit(true)),
+        (Node::Mux(truth(3), word(0), x), Value::Int(-6)),
+        (Node::Sub(word(4), word(0)), Value::Int(0)),
+        (Node::Not(truth(3)), Value::Bit(false)),
+        (Node::CostZero, Value::Cost(0)),
+        (
+            Node::CostAdd(CostId { index: LENGTH + 7 }, truth(3), x),
+            Value::Cost(3),
+        ),
+        (
+            Node::CostLe(CostId { index: LENGTH + 8 }, 2),
+            Value::Bit(false),
+        ),
+        (
+            Node::BoolMux(truth(9), truth(6), truth(1)),
+            Value::Bit(true),
+        ),
+    ]
+}
+
+#[test]
+fn a_few_nodes_of_a_long_graph(rt: HostRuntime) -> Result<(), Fail> {
+    let mut dag = sums(&rt, rt.alloc())?;
+    let env = env_of(rt.alloc(), &[2], &[3, -2])?;
+    let few = behind();
+    for (node, _) in few {
+        put(&rt, &mut dag, node)?;
+    }
+    for (k, (node, wanted)) in few.iter().enumerate() {
+        assert_eq!(rt; value(&rt, &dag, LENGTH + k, &env)?, *wanted, "of {node:?}");
+    }
     Ok(())
 }
 

@@ -10,5 +10,7 @@ pub mod OpenExprs
 pub mod OpenStmts
 pub mod OpenPaid
 pub mod OpenRuns
+pub mod FilledClosed
+pub mod NoSites
 pub mod RunningLaws
 pub mod Complete

@@ -1,6 +1,6 @@
--- In a filled program no minrepeat pays.
-use Rattle.std.proofs.Common.{◌≡◌, ℕ, ◌+◌, List, [], ◌∷◌, ◌++◌, map, Option, Some, None, Bool, true, false, ◌&&◌, refl, sym, subst}
-use Rattle.std.specs.Prelude.{IsTrue, nat_lt, ◌||◌}
+-- In a program that leaves nothing open no minrepeat pays.
+use Rattle.std.proofs.Common.{◌≡◌, ℕ, ◌+◌, List, [], ◌∷◌, ◌++◌, map, Option, Some, None, Bool, true, false, not, ◌&&◌, ◌-◌, length, refl, sym, subst}
+use Rattle.std.specs.Prelude.{IsTrue, nat_lt, nat_le, ◌||◌, if◌then◌else◌}
 use Rattle.std.specs.List.{list_all}
 use Rattle.std.proofs.lemmas.Bool.{false≢true, and_parts}
 use Rattle.sk_base.specs.declared.span.Span.{Span}
@@ -19,8 +19,10 @@ use Rattle.sk_prog.specs.declared.stmt.PForm.TheFolds.{map-PForm, map-PStmt, fol
 use Rattle.sk_prog.specs.declared.prog.Fun.{Fun}
 use Rattle.sk_model.specs.declared.expanded.Expanded.{Expanded}
 use Rattle.sk_model.specs.Parts.{Part}
-use Rattle.sk_model.specs.Stands.{Standing, beside, in_row, part_if, is_called, eform_standing, expr_standing, value_standing, form_standing, stmt_standing, body_standing, standing_from, standing, all_paid}
-use Rattle.sk_model.specs.Filled.{is_yes, eform_filled, expr_filled, any_filled, form_filled, stmt_filled, fun_filled}
+use Rattle.sk_model.specs.Stands.{Standing, own, first_of, by_value, beside, in_row, part_if, is_called, eform_standing, expr_standing, value_standing, form_standing, stmt_standing, body_standing, standing_from, standing, all_paid}
+use Rattle.sk_model.specs.Sites.{is_hole}
+use Rattle.sk_model.specs.Filled.{is_yes, eform_filled, expr_filled, any_filled}
+use Rattle.sk_model.specs.Closed.{form_closed, stmt_closed, fun_closed}
 
 abbrev pub Pays : Part Standing → Type 0
 Pays p = (i : ℕ) → (p.at i).paid ≡ []
@@ -116,8 +118,8 @@ module _ (values : List ℕ) where
 
   -- Statements
 
-  abbrev sform_is_filled : PForm → Bool
-  sform_is_filled = fold-PForm Bool Bool form_filled (λ s. s.form)
+  abbrev sform_is_closed : PForm → Bool
+  sform_is_closed = fold-PForm Bool Bool form_closed (λ s. s.form)
 
   abbrev form_stands : PForm → Span → Part Standing
   form_stands = fold-PForm (Span → Part Standing) (Part Standing) (form_standing values) (λ s. s.form s.span)
@@ -126,10 +128,10 @@ module _ (values : List ℕ) where
   stmt_stands = stmt_standing values
 
   abbrev At_form : PForm → Type 0
-  At_form f = (span : Span) → IsTrue (sform_is_filled f) → Pays (form_stands f span)
+  At_form f = (span : Span) → IsTrue (sform_is_closed f) → Pays (form_stands f span)
 
   abbrev At_stmt : PStmt → Type 0
-  At_stmt s = IsTrue (stmt_filled s) → Pays (stmt_stands s)
+  At_stmt s = IsTrue (stmt_closed s) → Pays (stmt_stands s)
 
   abbrev Form : Type 0
   Form = (f : PForm) × At_form f
@@ -140,52 +142,61 @@ module _ (values : List ℕ) where
   abbrev sdown : S.PForm-F Form Stmt → S.PForm-F PForm PStmt
   sdown = map-PForm Form Stmt PForm PStmt (λ q. q.0) (λ q. q.0)
 
-  srolled : (x : S.PForm-F PForm PStmt) → ((span : Span) → IsTrue (form_filled (map-PForm PForm PStmt Bool Bool sform_is_filled stmt_filled x)) → Pays (form_standing values (map-PForm PForm PStmt (Span → Part Standing) (Part Standing) form_stands stmt_stands x) span)) → At_form (W.roll-PForm x)
-  srolled x h span filled = subst (λ (p : Span → Part Standing). Pays (p span)) (sym (fold-roll-PForm (Span → Part Standing) (Part Standing) (form_standing values) (λ s. s.form s.span) x)) (h span (subst IsTrue (fold-roll-PForm Bool Bool form_filled (λ s. s.form) x) filled))
+  srolled : (x : S.PForm-F PForm PStmt) → ((span : Span) → IsTrue (form_closed (map-PForm PForm PStmt Bool Bool sform_is_closed stmt_closed x)) → Pays (form_standing values (map-PForm PForm PStmt (Span → Part Standing) (Part Standing) form_stands stmt_stands x) span)) → At_form (W.roll-PForm x)
+  srolled x h span filled = subst (λ (p : Span → Part Standing). Pays (p span)) (sym (fold-roll-PForm (Span → Part Standing) (Part Standing) (form_standing values) (λ s. s.form s.span) x)) (h span (subst IsTrue (fold-roll-PForm Bool Bool form_closed (λ s. s.form) x) filled))
+
+  repeat_pays : (hole : Bool) (ss : List Stmt) → IsTrue (not hole && list_all is_yes (map stmt_closed (map (λ q. q.0) ss))) → Pays (if hole then by_value values first_of (map stmt_stands (map (λ q. q.0) ss)) else in_row (map stmt_stands (map (λ q. q.0) ss)))
+  repeat_pays true ss h = absurd (false≢true h)
+  repeat_pays false ss h = row_pays stmt_closed stmt_stands ss h
+
+  reorder_pays : (ss : List Stmt) → IsTrue (nat_le (length (map stmt_closed (map (λ q. q.0) ss))) 1 && list_all is_yes (map stmt_closed (map (λ q. q.0) ss))) → Pays (beside (own (length (map stmt_stands (map (λ q. q.0) ss)) - 1)) (in_row (map stmt_stands (map (λ q. q.0) ss))))
+  reorder_pays ss h =
+      let both = and_parts (nat_le (length (map stmt_closed (map (λ q. q.0) ss))) 1) (list_all is_yes (map stmt_closed (map (λ q. q.0) ss))) h in
+      beside_pays (own (length (map stmt_stands (map (λ q. q.0) ss)) - 1)) (in_row (map stmt_stands (map (λ q. q.0) ss))) (λ i. refl) (row_pays stmt_closed stmt_stands ss both.1)
 
   slayer : (y : S.PForm-F Form Stmt) → At_form (W.roll-PForm (sdown y))
-  slayer (S.Block ss) = srolled (sdown (S.Block ss)) (λ span h. row_pays stmt_filled stmt_stands ss h)
+  slayer (S.Block ss) = srolled (sdown (S.Block ss)) (λ span h. row_pays stmt_closed stmt_stands ss h)
   slayer (S.Declare slot x t e) = srolled (S.Declare slot x t e) (λ span h. any_pays e h)
   slayer (S.Assign a e) = srolled (S.Assign a e) (λ span h. let both = and_parts (expr_filled a) (expr_filled e) h in beside_pays (expr_stands a) (expr_stands e) (expr_pays a both.0) (expr_pays e both.1))
   slayer (S.Call e) = srolled (S.Call e) (λ span h. expr_pays e h)
   slayer (S.If c a None) = srolled (S.If c a.0 None) (λ span h i.
-      let first = and_parts (expr_filled c) (stmt_filled a.0 && true) h in
-      let second = and_parts (stmt_filled a.0) true first.1 in
+      let first = and_parts (expr_filled c) (stmt_closed a.0 && true) h in
+      let second = and_parts (stmt_closed a.0) true first.1 in
       rw (expr_pays c first.0 i, a.1 second.0 (i + (expr_stands c).count)) refl)
   slayer (S.If c a (Some b)) = srolled (S.If c a.0 (Some b.0)) (λ span h.
-      let first = and_parts (expr_filled c) (stmt_filled a.0 && stmt_filled b.0) h in
-      let both = and_parts (stmt_filled a.0) (stmt_filled b.0) first.1 in
+      let first = and_parts (expr_filled c) (stmt_closed a.0 && stmt_closed b.0) h in
+      let both = and_parts (stmt_closed a.0) (stmt_closed b.0) first.1 in
       beside_pays (expr_stands c) (beside (stmt_stands a.0) (stmt_stands b.0)) (expr_pays c first.0) (beside_pays (stmt_stands a.0) (stmt_stands b.0) (a.1 both.0) (b.1 both.1)))
-  slayer (S.While c a) = srolled (S.While c a.0) (λ span h. let both = and_parts (expr_filled c) (stmt_filled a.0) h in beside_pays (expr_stands c) (stmt_stands a.0) (expr_pays c both.0) (a.1 both.1))
+  slayer (S.While c a) = srolled (S.While c a.0) (λ span h. let both = and_parts (expr_filled c) (stmt_closed a.0) h in beside_pays (expr_stands c) (stmt_stands a.0) (expr_pays c both.0) (a.1 both.1))
   slayer (S.Return e) = srolled (S.Return e) (λ span h. any_pays e h)
   slayer (S.Assert e) = srolled (S.Assert e) (λ span h. expr_pays e h)
   slayer (S.Assume e) = srolled (S.Assume e) (λ span h. expr_pays e h)
   slayer (S.Minimize e) = srolled (S.Minimize e) (λ span h. expr_pays e h)
-  slayer (S.Repeat c ss) = srolled (sdown (S.Repeat c ss)) (λ span h. absurd (false≢true h))
+  slayer (S.Repeat c ss) = srolled (sdown (S.Repeat c ss)) (λ span h. repeat_pays (is_hole c.form) ss h)
   slayer (S.MinRepeat ss) = srolled (sdown (S.MinRepeat ss)) (λ span h. absurd (false≢true h))
-  slayer (S.Reorder ss) = srolled (sdown (S.Reorder ss)) (λ span h. absurd (false≢true h))
+  slayer (S.Reorder ss) = srolled (sdown (S.Reorder ss)) (λ span h. reorder_pays ss h)
 
   pub stmt_pays : (s : PStmt) → At_stmt s
   stmt_pays = ind-PStmt At_form At_stmt
       (λ x y is. subst (λ z. At_form (W.roll-PForm z)) is (slayer y))
       (λ x y is. subst (λ z. At_stmt (W.roll-PStmt z)) is (λ filled.
       let z : S.PStmt-F PForm PStmt = map-PStmt Form Stmt PForm PStmt (λ q. q.0) (λ q. q.0) y in
-      subst Pays (sym (fold-roll-PStmt (Span → Part Standing) (Part Standing) (form_standing values) (λ s. s.form s.span) z)) (y.form.1 y.span (subst IsTrue (fold-roll-PStmt Bool Bool form_filled (λ s. s.form) z) filled))))
+      subst Pays (sym (fold-roll-PStmt (Span → Part Standing) (Part Standing) (form_standing values) (λ s. s.form s.span) z)) (y.form.1 y.span (subst IsTrue (fold-roll-PStmt Bool Bool form_closed (λ s. s.form) z) filled))))
 
-  body_pays : (ss : List PStmt) → IsTrue (list_all stmt_filled ss) → Pays (body_standing values ss)
+  body_pays : (ss : List PStmt) → IsTrue (list_all stmt_closed ss) → Pays (body_standing values ss)
   body_pays [] h = λ i. refl
-  body_pays (s ∷ ss) h = let both = and_parts (stmt_filled s) (list_all stmt_filled ss) h in beside_pays (stmt_stands s) (body_standing values ss) (stmt_pays s both.0) (body_pays ss both.1)
+  body_pays (s ∷ ss) h = let both = and_parts (stmt_closed s) (list_all stmt_closed ss) h in beside_pays (stmt_stands s) (body_standing values ss) (stmt_pays s both.0) (body_pays ss both.1)
 
   part_pays : (b : Bool) (p : Part Standing) → Pays p → Pays (part_if b p)
   part_pays true p h = h
   part_pays false p h = λ i. refl
 
-  funs_pay : (ordinary : ℕ) (called : List ℕ) (n i : ℕ) (fs : List Fun) → IsTrue (list_all fun_filled fs) → all_paid (standing_from values ordinary called n i fs) ≡ []
+  funs_pay : (ordinary : ℕ) (called : List ℕ) (n i : ℕ) (fs : List Fun) → IsTrue (list_all fun_closed fs) → all_paid (standing_from values ordinary called n i fs) ≡ []
   funs_pay ordinary called n i [] h = refl
   funs_pay ordinary called n i (f ∷ fs) h =
-      let both = and_parts (fun_filled f) (list_all fun_filled fs) h in
+      let both = and_parts (fun_closed f) (list_all fun_closed fs) h in
       let part : Part Standing = part_if (nat_lt n ordinary || is_called called n) (body_standing values f.body) in
       rw (part_pays (nat_lt n ordinary || is_called called n) (body_standing values f.body) (body_pays f.body both.0) i, funs_pay ordinary (called ++ (part.at i).called) (n + 1) (i + (body_standing values f.body).count) fs both.1) refl
 
-pub none_paid : (e : Expanded) (values : List ℕ) → IsTrue (list_all fun_filled e.prog.funs) → all_paid (standing e values) ≡ []
+pub none_paid : (e : Expanded) (values : List ℕ) → IsTrue (list_all fun_closed e.prog.funs) → all_paid (standing e values) ≡ []
 none_paid e values h = funs_pay values e.ordinary [] 0 0 e.prog.funs h

@@ -1,5 +1,5 @@
--- A run of a filled program under a choice is its run.
-use Rattle.std.proofs.Common.{◌≡◌, ℕ, zero, suc, ◌+◌, List, [], ◌∷◌, ◌++◌, map, Option, Some, None, Bool, refl, ap, subst, ◌∙◌}
+-- A run of a program that leaves nothing open under a choice is its run.
+use Rattle.std.proofs.Common.{◌≡◌, ℕ, zero, suc, List, [], ◌∷◌, ◌++◌, map, Option, Some, None, Bool, refl, ap, subst, ◌∙◌}
 use Rattle.std.specs.Prelude.{IsTrue, if◌then◌else◌, nat_lt, count_by, ◌==◌, slice_get}
 use Rattle.std.specs.List.{list_all}
 use Rattle.std.proofs.lemmas.Bool.{and_parts}
@@ -19,9 +19,9 @@ use Rattle.sk_model.specs.Step.{Comp, fail}
 use Rattle.sk_model.specs.Eval.{Called, Calls}
 use Rattle.sk_model.specs.Exec.{exec_stmt, one_by_one}
 use Rattle.sk_model.specs.Run.{Bodies, in_frame, body_of, calls, outcome_of, most_calls, nowhere, start, filled_bodies, run_by, run}
-use Rattle.sk_model.specs.Filled.{fun_filled, is_filled}
+use Rattle.sk_model.specs.Closed.{fun_closed, is_closed}
 use Rattle.sk_model.specs.Open.{open_stmt, sites_before, open_body, open_bodies, run_open}
-use Rattle.sk_model.proofs.OpenStmts.{filled_turn}
+use Rattle.sk_model.proofs.OpenStmts.{closed_turn}
 use Rattle.sk_model.proofs.OpenPaid.{none_paid}
 
 -- Runs by bodies that do the same, of each function of the program, are the same.
@@ -49,22 +49,22 @@ module _ (prog : Prog) (bounds : Bounds) (b c : Bodies) (same : (call : Calls) (
   runs_same : (f : FunId) (args : List Value) → run_by prog b f args bounds ≡ run_by prog c f args bounds
   runs_same f args = ap (λ (call : Calls). outcome_of (call nowhere f.index args start)) (calls_same most_calls [])
 
-filled_at : (funs : List Fun) (f : ℕ) (fun : Fun) → IsTrue (list_all fun_filled funs) → slice_get funs f ≡ Some fun → IsTrue (fun_filled fun)
-filled_at [] f fun h is = cc
-filled_at (g ∷ gs) zero fun h is = let e : g ≡ fun = cc in subst (λ x. IsTrue (fun_filled x)) e (and_parts (fun_filled g) (list_all fun_filled gs) h).0
-filled_at (g ∷ gs) (suc f) fun h is = filled_at gs f fun (and_parts (fun_filled g) (list_all fun_filled gs) h).1 is
+closed_at : (funs : List Fun) (f : ℕ) (fun : Fun) → IsTrue (list_all fun_closed funs) → slice_get funs f ≡ Some fun → IsTrue (fun_closed fun)
+closed_at [] f fun h is = cc
+closed_at (g ∷ gs) zero fun h is = let e : g ≡ fun = cc in subst (λ x. IsTrue (fun_closed x)) e (and_parts (fun_closed g) (list_all fun_closed gs) h).0
+closed_at (g ∷ gs) (suc f) fun h is = closed_at gs f fun (and_parts (fun_closed g) (list_all fun_closed gs) h).1 is
 
 before_none : (k : FunKind) → before_body k [] ≡ []
 before_none kind.Plain = refl
 before_none kind.Harness = refl
 before_none kind.Generator = refl
 
-body_filled : (e : Expanded) (a : Choice) (bounds : Bounds) (call : Calls) (f : ℕ) (fun : Fun) → IsTrue (is_filled e.prog) → IsTrue (fun_filled fun) → open_bodies e a bounds call f fun ≡ filled_bodies e.prog bounds call f fun
-body_filled e a bounds call f fun all one =
+body_closed : (e : Expanded) (a : Choice) (bounds : Bounds) (call : Calls) (f : ℕ) (fun : Fun) → IsTrue (is_closed e.prog) → IsTrue (fun_closed fun) → open_bodies e a bounds call f fun ≡ filled_bodies e.prog bounds call f fun
+body_closed e a bounds call f fun all one =
     ap (λ paid. open_body e.prog bounds a.values call (map minimize_of paid) fun (sites_before e.prog bounds a.values call e.prog.funs f)) (none_paid e a.values all)
     ∙ ap (λ before. one_by_one (map (exec_stmt e.prog bounds call) before ++ in_turn (map (open_stmt e.prog bounds a.values call) fun.body) (sites_before e.prog bounds a.values call e.prog.funs f))) (before_none fun.kind)
-    ∙ ap one_by_one (filled_turn e.prog bounds a.values call fun.body (sites_before e.prog bounds a.values call e.prog.funs f) one)
+    ∙ ap one_by_one (closed_turn e.prog bounds a.values call fun.body (sites_before e.prog bounds a.values call e.prog.funs f) one)
 
-pub filled_runs : (e : Expanded) (a : Choice) (f : FunId) (args : List Value) (bounds : Bounds) → IsTrue (is_filled e.prog) → run_open e a f args bounds ≡ run e.prog f args bounds
+pub closed_runs : (e : Expanded) (a : Choice) (f : FunId) (args : List Value) (bounds : Bounds) → IsTrue (is_closed e.prog) → run_open e a f args bounds ≡ run e.prog f args bounds
 unfolding run_open run
-filled_runs e a f args bounds h = runs_same e.prog bounds (open_bodies e a bounds) (filled_bodies e.prog bounds) (λ call g fun is. body_filled e a bounds call g fun h (filled_at e.prog.funs g fun h is)) f args
+closed_runs e a f args bounds h = runs_same e.prog bounds (open_bodies e a bounds) (filled_bodies e.prog bounds) (λ call g fun is. body_closed e a bounds call g fun h (closed_at e.prog.funs g fun h is)) f args

@@ -20,7 +20,7 @@ use Rattle.sk_model.specs.Stands.{Payment, standing, all_paid}
 use Rattle.sk_model.specs.Fill.{minimize_of}
 use Rattle.sk_model.specs.Eval.{Calls}
 use Rattle.sk_model.specs.Open.{open_body, open_bodies}
-use Rattle.sk_model.specs.RunningExamples.{small, at, outcome_under, repeats_least, NumberExamples, ArrayExamples, BoundExamples, RefExamples, TargetExamples, EndExamples, ChoiceExamples}
+use Rattle.sk_model.specs.RunningExamples.{small, at, outcome_under, repeats_least, NumberExamples, ArrayExamples, BoundExamples, RefExamples, TargetExamples, EndExamples, UnfilledExamples, ChoiceExamples}
 use Rattle.sk_model.proofs.Layers.{all_layers}
 use Rattle.sk_model.proofs.Forms.{expr_steps, stmt_steps}
 
@@ -65,6 +65,10 @@ targets = record { index_late = simp run_steps; index_wrong = simp run_steps; he
 pub ends : EndExamples
 unfolding wrapped
 ends = record { done = simp run_steps; skipped = simp run_steps; cost = simp run_steps; negative = simp run_steps }
+
+pub unfilled : UnfilledExamples
+unfolding wrapped
+unfilled = record { all_copies = simp run_steps; by_hole = simp run_steps; one_order = simp run_steps; two_orders = simp run_steps }
 
 abbrev least_expanded : Expanded
 least_expanded = record { prog = repeats_least; ordinary = 1; sites = [] }

@@ -6,9 +6,10 @@
 -- 2^64 - 1, and fails where the number is negative. Each of these ends with the statement's own span, and
 -- so does a condition of an `if` or a `while`.
 --
--- A statement of which a filling decides what it does fails before it is filled: a repeat, of whichever
--- count, a `minrepeat` and a `reorder`.
-use Rattle.std.specs.Prelude.{ℕ, zero, suc, ◌+◌, ◌-◌, ◌^◌, min, pos, true, false, List, [], ◌∷◌, map, Option, Some, None}
+-- A repeat by a constant does all its copies, and a `reorder` of one statement at most does that: they have no sites. A
+-- statement of which a filling decides what it does fails before it is filled: a repeat by a hole, a `minrepeat`, and a
+-- `reorder` of more than one statement.
+use Rattle.std.specs.Prelude.{ℕ, zero, suc, ◌+◌, ◌-◌, ◌^◌, min, pos, nat_le, if◌then◌else◌, List, [], ◌∷◌, map, length, Option, Some, None}
 use Rattle.sk_base.specs.declared.span.Span.{Span}
 use Rattle.sk_base.specs.declared.bounds.Bounds.{Bounds}
 use Rattle.sk_prog.specs.declared.ty.Ty.{Ty}
@@ -19,6 +20,7 @@ use Rattle.sk_prog.specs.declared.stmt.PStmt.{PStmt}
 use Rattle.sk_prog.specs.declared.stmt.PForm.TheOpen as S
 use Rattle.sk_prog.specs.declared.stmt.PForm.TheFolds.{fold-PStmt}
 use Rattle.sk_prog.specs.declared.prog.Prog.{Prog}
+use Rattle.sk_model.specs.Sites.{is_hole}
 use Rattle.sk_model.specs.Step.{Goes, Comp, ◌>>=◌, pure, fail, skip}
 use Rattle.sk_model.specs.Values.{zero_of}
 use Rattle.sk_model.specs.Heap.{write, store}
@@ -99,9 +101,9 @@ module _ (prog : Prog) (bounds : Bounds) (call : Calls) where
   exec_form (S.Assert e) span = assert span (meaning e)
   exec_form (S.Assume e) span = assume span (meaning e)
   exec_form (S.Minimize e) span = minimize span (meaning e)
-  exec_form (S.Repeat count copies) span = fail span
+  exec_form (S.Repeat count copies) span = if is_hole count.form then fail span else one_by_one copies
   exec_form (S.MinRepeat copies) span = fail span
-  exec_form (S.Reorder ms) span = fail span
+  exec_form (S.Reorder ms) span = if nat_le (length ms) 1 then one_by_one ms else fail span
 
   abbrev pub exec_stmt : PStmt → Comp Flow
   exec_stmt = fold-PStmt (Span → Comp Flow) (Comp Flow) exec_form (λ s. s.form s.span)

@@ -19,6 +19,8 @@ pub mod Exec
 pub mod Run
 pub mod Open
 pub mod Filled
+pub mod Closed
+pub mod HoleBits
 pub mod Obligations
 pub mod Inputs
 pub mod Meets

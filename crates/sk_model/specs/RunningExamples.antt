@@ -260,6 +260,17 @@ x_becomes e = stmt 2 (form.Assign (variable 0) e)
 abbrev pub from_one : PForm → Prog
 from_one s = program (fun (Some int_type) [] 1 (stmt 1 (form.Declare 0 [] int_type (Some (number 1))) ∷ stmt 3 s ∷ stmt 4 (form.Return (Some (variable 0))) ∷ []) ∷ [])
 
+-- What is run though it is not filled: it has no sites.
+pub record UnfilledExamples : Type 0 where
+  -- `repeat (2) x = x + x;`, which holds two copies
+  pub all_copies : outcome_in (from_one (form.Repeat (number 2) (x_becomes (sum (variable 0) (variable 0)) ∷ x_becomes (sum (variable 0) (variable 0)) ∷ []))) [] ≡ outcome.Done (Some (value.Int (pos 4))) [] 0
+  -- `repeat (??) x = x + x;`
+  pub by_hole : outcome_in (from_one (form.Repeat (int hole) (x_becomes (sum (variable 0) (variable 0)) ∷ []))) [] ≡ outcome.Failed (at 3)
+  -- `reorder { x = x + 1; }`
+  pub one_order : outcome_in (from_one (form.Reorder (x_becomes (sum (variable 0) (number 1)) ∷ []))) [] ≡ outcome.Done (Some (value.Int (pos 2))) [] 0
+  -- `reorder { x = x + 1; x = x + x; }`
+  pub two_orders : outcome_in (from_one (form.Reorder (x_becomes (sum (variable 0) (number 1)) ∷ x_becomes (sum (variable 0) (variable 0)) ∷ []))) [] ≡ outcome.Failed (at 3)
+
 -- `harness void f() { minrepeat ; }`
 abbrev pub repeats_least : Prog
 repeats_least = program (record { name = []; kind = kind.Harness; result = None; params = []; slots = 0; implements = None; body = stmt 1 (form.MinRepeat (block [] ∷ block [] ∷ [])) ∷ [] } ∷ [])

@@ -1,6 +1,6 @@
 //! What small programs do when they are run. Each fact is computed by the checker.
 
-ghost use Rattle.sk_model.specs.RunningExamples.{NumberExamples, ArrayExamples, BoundExamples, RefExamples, TargetExamples, EndExamples, ChoiceExamples};
+ghost use Rattle.sk_model.specs.RunningExamples.{NumberExamples, ArrayExamples, BoundExamples, RefExamples, TargetExamples, EndExamples, UnfilledExamples, ChoiceExamples};
 
 /// Sums wrap, quotients truncate toward zero, and what is not needed is not evaluated.
 pub fn numbers()
@@ -30,6 +30,11 @@ pub fn targets()
 /// A run is done, failed or skipped.
 pub fn ends()
     ensures { EndExamples }
+{}
+
+/// A repeat by a constant does all its copies, and a `reorder` of one statement that; by a hole, or of two, they fail.
+pub fn unfilled()
+    ensures { UnfilledExamples }
 {}
 
 /// What open programs do under a choice.

@@ -1,5 +1,5 @@
 -- The numbers of a line lie in their ranges.
-use Rattle.std.proofs.Common.{◌≡◌, ℕ, ◌<◌, ◌≤◌, Bool, true, false, cond, leb, ◌&&◌, List, [], ◌∷◌, Option, Some, None, option_map, refl, sym, ap, ◌∙◌, subst, arith, codes, is_some}
+use Rattle.std.proofs.Common.{◌≡◌, ℕ, Bool, true, false, cond, leb, ◌&&◌, List, [], ◌∷◌, Option, Some, None, option_map, refl, sym, ap, ◌∙◌, subst, arith, codes, is_some}
 use Rattle.std.specs.Str.{bytes_eq}
 use Rattle.std.proofs.lemmas.Bool.{leb-true}
 use Rattle.std.proofs.lemmas.Slice.Eq.{bytes_eq-Decides}
@@ -12,7 +12,8 @@ use Rattle.sk_opts.specs.declared.setting.Setting.TheVariants.{HoleBits, InputBi
 use Rattle.sk_opts.specs.declared.setting.Given.{Given}
 use Rattle.sk_opts.specs.declared.words.Words.{Words}
 use Rattle.sk_opts.specs.Settings.{setting_bytes, lowest, highest, is_flag, of_bounds, of_synth, setting_among, is_number, number_in, value_in, all_once, is_of, last_from, last_of}
-use Rattle.sk_opts.specs.CommandLine.{Piece, Ends, Names, Sets, Plain, Unknown, piece_of, with_setting, with_positional, words_with, words_from, if_once, words_of, set_of, budget_of, if_none, synth_line, exec_with, exec_line, check_line, self_with, self_line, line_of}
+use Rattle.sk_opts.specs.CommandLine.{set_of, budget_of}
+use Rattle.sk_opts.specs.Reader.{Piece, Ends, Names, Sets, Plain, Unknown, piece_of, with_setting, with_positional, words_with, words_from, if_once, words_of, if_none, synth_line, exec_with, exec_line, check_line, self_with, self_line, line_of}
 use Rattle.sk_opts.specs.Ranges.{IsBetween, LiesIn, IsInRanges, LineIsInRanges}
 
 -- Values
@@ -103,7 +104,7 @@ known Rounds = refl
 known Conflicts = refl
 known Certificate = refl
 
-same_setting : (s t : Setting) → bytes_eq (setting_bytes s) (setting_bytes t) ≡ true → s ≡ t
+pub same_setting : (s t : Setting) → bytes_eq (setting_bytes s) (setting_bytes t) ≡ true → s ≡ t
 same_setting s t e =
     let f : Some s ≡ Some t = sym (known s) ∙ ap (setting_among of_synth) ((bytes_eq-Decides (setting_bytes s) (setting_bytes t)).0 e) ∙ known t in
     cc

@@ -3,3 +3,4 @@ pub mod Numbers
 pub mod WordByWord
 pub mod PragmaWords
 pub mod InRange
+pub mod LineLaws

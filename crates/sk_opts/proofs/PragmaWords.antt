@@ -1,17 +1,76 @@
 -- What pragmas set, one word after the other.
-use Rattle.std.proofs.Common.{◌≡◌, ℕ, suc, ◌+◌, ◌<◌, ◌≤◌, get_or, List, [], ◌∷◌, ◌++◌, Option, Some, None, true, false, length, take, drop, refl, sym, ap, ◌∙◌, arith, length-drop}
-use Rattle.std.specs.List.{prefix_len, flat_map}
+use Rattle.std.proofs.Common.{◌≡◌, ℕ, suc, ◌+◌, ◌<◌, ◌≤◌, cond, eqb, leb, ◌&&◌, get_or, List, [], ◌∷◌, ◌++◌, Option, Some, None, true, false, length, take, drop, refl, sym, ap, ◌∙◌, arith, length-drop}
+use Rattle.std.specs.Prelude.{IsTrue}
+use Rattle.std.specs.List.{prefix_len, flat_map, list_all, zip}
+use Rattle.std.proofs.lemmas.Bool.{and_parts, leb-true, ne_eqb}
 use Rattle.std.proofs.lemmas.List.{drop_more, at_drop_all}
 use Rattle.sk_tree.specs.declared.item.Item.{Item}
-use Rattle.sk_tree.specs.Shapes.{is_blank}
+use Rattle.sk_tree.specs.Shapes.{is_blank, is_digit}
+use Rattle.sk_tree.specs.Tokens.{number_of}
 use Rattle.sk_opts.specs.declared.line.Set.{Set}
 use Rattle.sk_opts.specs.declared.setting.Setting.{Setting}
 use Rattle.sk_opts.specs.declared.setting.Setting.TheVariants.{HoleBits, InputBits, Turns, Calls, IntBits, Rounds, Conflicts, Certificate}
 use Rattle.sk_opts.specs.declared.setting.Given.{Given}
-use Rattle.sk_opts.specs.Settings.{of_pragmas, setting_among, value_in, last_from}
-use Rattle.sk_opts.specs.BoundsOf.{between_blanks, if_any, blank_words, longer_first, settings_from, given_here, item_settings}
+use Rattle.sk_opts.specs.Settings.{lowest, highest, is_flag, of_pragmas, setting_among, is_number, number_in, value_in, last_from}
+use Rattle.sk_opts.specs.BoundsOf.{between_blanks, if_any, blank_words, longer_first, given_if, set_by_word, words_settings, item_settings}
+use Rattle.sk_opts.specs.Steps.{settings_from, given_here, is_unblank, set_by, set_after}
 use Rattle.sk_opts.specs.CommandLine.{set_of}
-use Rattle.sk_opts.specs.Steps.{is_unblank, set_by, set_after}
+
+-- Words that set something with the word behind them are those that are read one after the other.
+
+no_words : (before : Option Setting) → settings_from before [] ≡ []
+no_words None = refl
+no_words (Some s) = refl
+
+digit_first : (b : ℕ) (bs : List ℕ) → IsTrue (list_all is_digit (b ∷ bs)) → eqb b 45 ≡ false
+unfolding is_digit
+digit_first b bs e =
+    let first = and_parts (leb 48 b && leb b 57) (list_all is_digit bs) e in
+    let low = leb-true 48 b (and_parts (leb 48 b) (leb b 57) first.0).0 in
+    ne_eqb b 45 (λ same. omega (arith, low, same))
+
+-- a number is none of the four words
+number_alone : (w : List ℕ) → IsTrue (is_number w) → setting_among of_pragmas w ≡ None
+number_alone [] h = refl
+number_alone (b ∷ bs) h =
+    let digits = (and_parts (leb (length (b ∷ bs)) 10) (list_all is_digit (b ∷ bs)) (and_parts (leb 1 (length (b ∷ bs))) (leb (length (b ∷ bs)) 10 && list_all is_digit (b ∷ bs)) h).1).1 in
+    rw (digit_first b bs digits) refl
+
+in_range_number : (low high : ℕ) (w : List ℕ) (n : ℕ) → number_in low high w ≡ Some n → IsTrue (is_number w)
+in_range_number low high w n e =
+    elim (is_number w) as (λ v. cond (v && (leb low (number_of w) && leb (number_of w) high)) (Some (number_of w)) None ≡ Some n → IsTrue v) [
+      | true ↦ λ f. refl
+      | false ↦ λ f. cc
+    ] e
+
+value_alone : (s : Setting) (w : List ℕ) (n : ℕ) → value_in s w ≡ Some n → setting_among of_pragmas w ≡ None
+value_alone s w n e =
+    elim (is_flag s) as (λ v. cond v None (number_in (lowest s) (highest s) w) ≡ Some n → setting_among of_pragmas w ≡ None) [
+      | true ↦ λ f. cc
+      | false ↦ λ f. number_alone w (in_range_number (lowest s) (highest s) w n f)
+    ] e
+
+abbrev pub by_pair : List ℕ × List ℕ → List Given
+by_pair pair = set_by_word (setting_among of_pragmas pair.0) pair.1
+
+abbrev pub by_pairs : List ℕ → List (List ℕ) → List Given
+by_pairs w ws = flat_map by_pair (zip (w ∷ ws) ws)
+
+one_word : (before : Option Setting) (w : List ℕ) (ws : List (List ℕ)) → settings_from (setting_among of_pragmas w) ws ≡ by_pairs w ws → settings_from before (w ∷ ws) ≡ set_by_word before w ++ by_pairs w ws
+one_word None w ws rest = rest
+one_word (Some s) w ws rest =
+    elim (value_in s w) as (λ o. value_in s w ≡ o → given_here s o (settings_from (setting_among of_pragmas w) ws) (settings_from None ws) ≡ given_if s o ++ by_pairs w ws) [
+      | None ↦ λ e. rest
+      | Some n ↦ λ e. ap (λ gs. record { setting = s; value = n } ∷ gs) (ap (λ b. settings_from b ws) (sym (value_alone s w n e)) ∙ rest)
+    ] refl
+
+read_pairs : (w : List ℕ) (ws : List (List ℕ)) → settings_from (setting_among of_pragmas w) ws ≡ by_pairs w ws
+read_pairs w [] = no_words (setting_among of_pragmas w)
+read_pairs w (v ∷ vs) = one_word (setting_among of_pragmas w) v vs (read_pairs v vs)
+
+pub read_settings : (ws : List (List ℕ)) → settings_from None ws ≡ words_settings ws
+read_settings [] = refl
+read_settings (w ∷ ws) = read_pairs w ws
 
 -- what all settings come to, from a set on
 abbrev pub set_with : Set → List Given → Set
@@ -120,12 +179,8 @@ word_taken [] n word more some e is f g = absurd (omega arith)
 word_taken (b ∷ bs) n word more some e is f g =
     word_first b bs e n is ∙ ap (λ w. w ∷ blank_words (drop n (b ∷ bs))) (sym f) ∙ ap (λ m. word ∷ blank_words m) (sym g)
 
-no_words : (before : Option Setting) → settings_from before [] ≡ []
-no_words None = refl
-no_words (Some s) = refl
-
 -- nothing is left of a text
-pub text_ends : (start set : Set) (before : Option Setting) (all : List Given) (rest : List ℕ) → length rest < 1 → set_after start all ≡ set_after set (settings_from before (blank_words rest)) → set ≡ set_after start all
+pub text_ends : (start set : Set) (before : Option Setting) (words : List (List ℕ)) (rest : List ℕ) → length rest < 1 → set_after start (settings_from None words) ≡ set_after set (settings_from before (blank_words rest)) → set ≡ set_after start (words_settings words)
 unfolding set_after
-text_ends start set before all [] h e = sym (e ∙ ap (set_after set) (no_words before))
-text_ends start set before all (b ∷ bs) h e = absurd (omega arith)
+text_ends start set before words [] h e = sym (e ∙ ap (set_after set) (no_words before)) ∙ ap (set_after start) (read_settings words)
+text_ends start set before words (b ∷ bs) h e = absurd (omega arith)

@@ -9,7 +9,7 @@ use Rattle.sk_opts.specs.declared.words.Mode.TheVariants as mode
 use Rattle.sk_opts.specs.declared.words.Word.{Word}
 use Rattle.sk_opts.specs.declared.words.Reading.{Reading}
 use Rattle.sk_opts.specs.Settings.{is_flag, value_in}
-use Rattle.sk_opts.specs.CommandLine.{Piece, Ends, Names, Sets, Plain, Unknown, before_equals, piece_of, with_setting, with_positional, words_from, words_with, if_once}
+use Rattle.sk_opts.specs.Reader.{Piece, Ends, Names, Sets, Plain, Unknown, before_equals, piece_of, with_setting, with_positional, words_from, words_with, if_once}
 use Rattle.sk_opts.specs.Steps.{is_unequal, as_word, joined, read_on, whole, named, words_by, more_settings, more_positionals}
 
 pub before_is : (bs : List ℕ) → take (prefix_len is_unequal bs) bs ≡ before_equals bs

@@ -1,7 +1,7 @@
 -- The bounds that options and pragmas give: an option's number, else that of the last pragma that sets the
 -- bound, else the default.
-use Rattle.std.specs.Prelude.{ℕ, ◌-◌, min, List, [], ◌∷◌, Option, Some, None, unwrap_or, if◌then◌else◌, codes}
-use Rattle.std.specs.List.{flat_map}
+use Rattle.std.specs.Prelude.{ℕ, ◌-◌, min, List, [], ◌∷◌, drop, Option, Some, None, unwrap_or, if◌then◌else◌, codes}
+use Rattle.std.specs.List.{flat_map, zip}
 use Rattle.std.specs.Str.{bytes_eq}
 use Rattle.sk_base.specs.declared.bounds.Bounds.{Bounds}
 use Rattle.sk_tree.specs.Shapes.{is_blank}
@@ -35,19 +35,25 @@ blank_words text = flat_map if_any (between_blanks text)
 
 -- Settings of pragmas
 
-abbrev pub given_here : Setting → Option ℕ → List Given → List Given → List Given
-given_here s None otherwise more = otherwise
-given_here s (Some n) otherwise more = record { setting = s; value = n } ∷ more
+-- each word with the one behind it
+abbrev pub neighbours : List (List ℕ) → List (List ℕ × List ℕ)
+neighbours words = zip words (drop 1 words)
 
--- One of the four words followed by a number in its range sets that bound; other words are passed over.
--- The word before these may be one of the four.
-abbrev pub settings_from : Option Setting → List (List ℕ) → List Given
-settings_from before [] = []
-settings_from None (w ∷ ws) = settings_from (setting_among of_pragmas w) ws
-settings_from (Some s) (w ∷ ws) = given_here s (value_in s w) (settings_from (setting_among of_pragmas w) ws) (settings_from None ws)
+abbrev pub given_if : Setting → Option ℕ → List Given
+given_if s None = []
+given_if s (Some n) = record { setting = s; value = n } ∷ []
+
+-- what a word sets with the one behind it: one of the four, with a number in its range
+abbrev pub set_by_word : Option Setting → List ℕ → List Given
+set_by_word None next = []
+set_by_word (Some s) next = given_if s (value_in s next)
+
+-- what words set, in order; other words are passed over
+abbrev pub words_settings : List (List ℕ) → List Given
+words_settings words = flat_map (λ pair. set_by_word (setting_among of_pragmas pair.0) pair.1) (neighbours words)
 
 abbrev pub item_settings : Item → List Given
-item_settings (item.Pragma word text) = if bytes_eq word (codes "options") then settings_from None (blank_words text) else []
+item_settings (item.Pragma word text) = if bytes_eq word (codes "options") then words_settings (blank_words text) else []
 item_settings (item.Struct name fields) = []
 item_settings (item.Const name value) = []
 item_settings (item.Fun f) = []

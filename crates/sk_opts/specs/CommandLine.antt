@@ -1,45 +1,36 @@
--- The command line that words spell. The first word is the command. Behind it stand options and
--- positionals in any order; an option stands at most once, as `--name v` or as `--name=v`; the word `--`
--- ends the options.
-use Rattle.std.specs.Prelude.{ℕ, Bool, false, ◌==◌, List, [], ◌∷◌, Option, Some, None, option_map, is_some, unwrap_or, if◌then◌else◌, codes}
-use Rattle.std.specs.Str.{bytes_eq}
+-- The command line that words spell. The first word is the command. The words behind it are parts in any
+-- order: options that the command has, each at most once, and positionals; and behind these perhaps the word
+-- `--` with words that are positionals whatever they are.
+use Rattle.std.specs.Prelude.{◌≡◌, ℕ, Bool, false, true, ◌==◌, List, [], ◌∷◌, ◌++◌, Contains, Option, Some, None, is_some, unwrap_or, IsTrue, codes}
+use Rattle.std.specs.List.{flat_map, All}
 use Rattle.sk_base.specs.declared.bounds.Budget.{Budget}
 use Rattle.sk_opts.specs.declared.line.Set.{Set}
 use Rattle.sk_opts.specs.declared.line.Line.{Line}
 use Rattle.sk_opts.specs.declared.line.Line.TheVariants as line
-use Rattle.sk_opts.specs.Settings.{is_flag, of_bounds, of_synth, setting_among, number_in, value_in, all_once, last_of}
+use Rattle.sk_opts.specs.Settings.{setting_bytes, is_flag, of_bounds, of_synth, number_in, value_in, all_once, last_of}
 use Rattle.sk_opts.specs.declared.setting.Setting.{Setting}
 use Rattle.sk_opts.specs.declared.setting.Setting.TheVariants.{Certificate, HoleBits, InputBits, Turns, Calls, IntBits, Rounds, Conflicts}
 use Rattle.sk_opts.specs.declared.setting.Given.{Given}
 use Rattle.sk_opts.specs.declared.words.Words.{Words}
 
--- One word
+-- Parts of a line
 
--- what a word is before `--`
-pub data Piece : Type 0 where
-  -- the word `--`
-  Ends : Piece
-  -- `--name`
-  Names : Setting → Piece
-  -- `--name=v`
-  Sets : Setting → List ℕ → Piece
+pub data Part : Type 0 where
+  -- `--name v`, an option with what spells its value, in two words
+  Apart : Given → List ℕ → Part
+  -- `--name=v`, in one word
+  Joined : Given → List ℕ → Part
+  -- `--name`, an option that takes no value
+  Flag : Setting → Part
   -- a word that is no option
-  Plain : Piece
-  -- an option that the command does not have
-  Unknown : Piece
+  Positional : List ℕ → Part
 
-abbrev pub before_equals : List ℕ → List ℕ
-before_equals [] = []
-before_equals (b ∷ bs) = if b == 61 then [] else b ∷ before_equals bs
-
-abbrev pub after_equals : List ℕ → Option (List ℕ)
-after_equals [] = None
-after_equals (b ∷ bs) = if b == 61 then Some bs else after_equals bs
-
-abbrev pub option_piece : Option Setting → Option (List ℕ) → Piece
-option_piece None value = Unknown
-option_piece (Some s) None = Names s
-option_piece (Some s) (Some value) = Sets s value
+-- the words that a part is
+abbrev pub part_words : Part → List (List ℕ)
+part_words (Apart g v) = setting_bytes g.setting ∷ v ∷ []
+part_words (Joined g v) = (setting_bytes g.setting ++ codes "=" ++ v) ∷ []
+part_words (Flag s) = setting_bytes s ∷ []
+part_words (Positional w) = w ∷ []
 
 -- An option starts with a minus sign and is longer than that.
 abbrev pub is_option : List ℕ → Bool
@@ -47,45 +38,49 @@ is_option [] = false
 is_option (b ∷ []) = false
 is_option (b ∷ c ∷ bs) = b == 45
 
-abbrev pub piece_of : List Setting → List ℕ → Piece
-piece_of has word =
-    if bytes_eq word (codes "--") then Ends
-    else (if is_option word then option_piece (setting_among has (before_equals word)) (after_equals word)
-    else Plain)
+-- whether it is a part behind a command that has these options: what spells a value is a number in the range of
+-- its option
+abbrev pub IsPart : List Setting → Part → Type 0
+IsPart has (Apart g v) = Contains has g.setting × (value_in g.setting v ≡ Some g.value)
+IsPart has (Joined g v) = Contains has g.setting × (value_in g.setting v ≡ Some g.value)
+IsPart has (Flag s) = Contains has s × (is_flag s ≡ true)
+IsPart has (Positional w) = is_option w ≡ false
 
--- All words
+-- the settings and the positionals that it gives
+abbrev pub part_settings : Part → List Given
+part_settings (Apart g v) = g ∷ []
+part_settings (Joined g v) = g ∷ []
+part_settings (Flag s) = record { setting = s; value = 0 } ∷ []
+part_settings (Positional w) = []
 
-abbrev pub with_setting : Setting → Option ℕ → Option Words → Option Words
-with_setting s None more = None
-with_setting s (Some n) None = None
-with_setting s (Some n) (Some more) = Some (record { settings = record { setting = s; value = n } ∷ more.settings; positionals = more.positionals })
+abbrev pub part_positionals : Part → List (List ℕ)
+part_positionals (Apart g v) = []
+part_positionals (Joined g v) = []
+part_positionals (Flag s) = []
+part_positionals (Positional w) = w ∷ []
 
-abbrev pub with_positional : List ℕ → Option Words → Option Words
-with_positional word None = None
-with_positional word (Some more) = Some (record { settings = more.settings; positionals = word ∷ more.positionals })
+-- Words behind a command
 
--- one word, the words behind it, and how these are read: with or without a name that waits for its value
-abbrev pub words_with : Piece → List ℕ → List (List ℕ) → (Option Setting → Option Words) → Option Words
-words_with Ends word more read = Some (record { settings = []; positionals = more })
-words_with (Names s) word more read = if is_flag s then with_setting s (Some 0) (read None) else read (Some s)
-words_with (Sets s value) word more read = with_setting s (value_in s value) (read None)
-words_with Plain word more read = with_positional word (read None)
-words_with Unknown word more read = None
+-- the word `--` with the positionals behind it, where it stands
+abbrev pub end_words : Option (List (List ℕ)) → List (List ℕ)
+end_words None = []
+end_words (Some ps) = codes "--" ∷ ps
 
--- Words behind a name that waits for its value, or behind none.
-abbrev pub words_from : List Setting → Option Setting → List (List ℕ) → Option Words
-words_from has None [] = Some (record { settings = []; positionals = [] })
-words_from has (Some s) [] = None
-words_from has None (w ∷ ws) = words_with (piece_of has w) w ws (λ waiting. words_from has waiting ws)
-words_from has (Some s) (w ∷ ws) = with_setting s (value_in s w) (words_from has None ws)
+-- the words are parts, one after another, and perhaps `--` with positionals, and these give that
+pub record Divides (has : List Setting) (words : List (List ℕ)) (given : Words) : Type 0 where
+  pub parts : List Part
+  pub end : Option (List (List ℕ))
+  pub each : All (IsPart has) parts
+  pub spelt : words ≡ flat_map part_words parts ++ end_words end
+  pub settings : given.settings ≡ flat_map part_settings parts
+  pub positionals : given.positionals ≡ flat_map part_positionals parts ++ unwrap_or end []
 
-abbrev pub if_once : Option Words → Option Words
-if_once None = None
-if_once (Some words) = if all_once words.settings then Some words else None
-
--- the words behind a command that has these options, each at most once
-abbrev pub words_of : List Setting → List (List ℕ) → Option Words
-words_of has words = if_once (words_from has None words)
+-- a command with words behind it that give this, where no option stands twice
+pub record HasWords (command : List ℕ) (has : List Setting) (words : List (List ℕ)) (given : Words) : Type 0 where
+  pub behind : List (List ℕ)
+  pub first : words ≡ command ∷ behind
+  pub divided : Divides has behind given
+  pub once : IsTrue (all_once given.settings)
 
 -- Lines
 
@@ -95,46 +90,16 @@ set_of gs = record { cbits = last_of HoleBits gs; inbits = last_of InputBits gs;
 abbrev pub budget_of : List Given → Budget
 budget_of gs = record { rounds = unwrap_or (last_of Rounds gs) 0; conflicts = unwrap_or (last_of Conflicts gs) 0 }
 
--- the line, where there are no positionals
-abbrev pub if_none : List (List ℕ) → Line → Option Line
-if_none [] l = Some l
-if_none (w ∷ ws) l = None
-
-abbrev pub synth_line : Option Words → Option Line
-synth_line None = None
-synth_line (Some w) = if_none w.positionals (line.Synth (set_of w.settings) (budget_of w.settings) (is_some (last_of Certificate w.settings)))
-
+-- the words spell this line: a command that has its options, and the positionals that it wants
+abbrev pub IsLine : List (List ℕ) → Line → Type 0
+-- no positional
+IsLine words (line.Synth set budget cert) =
+    (w : Words) × HasWords (codes "synth") of_synth words w × (w.positionals ≡ []) × (set ≡ set_of w.settings) × (budget ≡ budget_of w.settings)
+    × (cert ≡ is_some (last_of Certificate w.settings))
 -- a name and values
-abbrev pub exec_with : Set → List (List ℕ) → Option Line
-exec_with set [] = None
-exec_with set (name ∷ values) = Some (line.Exec set name values)
-
-abbrev pub exec_line : Option Words → Option Line
-exec_line None = None
-exec_line (Some w) = exec_with (set_of w.settings) w.positionals
-
-abbrev pub check_line : Option Words → Option Line
-check_line None = None
-check_line (Some w) = if_none w.positionals (line.Check (set_of w.settings))
-
+IsLine words (line.Exec set name values) = (w : Words) × HasWords (codes "exec") of_bounds words w × (w.positionals ≡ name ∷ values) × (set ≡ set_of w.settings)
+IsLine words (line.Check set) = (w : Words) × HasWords (codes "check") of_bounds words w × (w.positionals ≡ []) × (set ≡ set_of w.settings)
 -- one number from 0 to 60
-abbrev pub self_with : List (List ℕ) → Option Line
-self_with (n ∷ []) = option_map line.Itself (number_in 0 60 n)
-self_with [] = None
-self_with (n ∷ m ∷ more) = None
-
-abbrev pub self_line : Option Words → Option Line
-self_line None = None
-self_line (Some w) = self_with w.positionals
-
--- the line that words spell, where they spell one
-unfoldable pub line_of : List (List ℕ) → Option Line
-line_of [] = None
-line_of (w ∷ ws) =
-    if bytes_eq w (codes "synth") then synth_line (words_of of_synth ws)
-    else (if bytes_eq w (codes "exec") then exec_line (words_of of_bounds ws)
-    else (if bytes_eq w (codes "check") then check_line (words_of of_bounds ws)
-    else (if bytes_eq w (codes "self") then self_line (words_of [] ws)
-    else (if bytes_eq w (codes "--help") then if_none ws line.Help
-    else (if bytes_eq w (codes "--version") then if_none ws line.Version
-    else None)))))
+IsLine words (line.Itself n) = (w : Words) × HasWords (codes "self") [] words w × ((digits : List ℕ) × (w.positionals ≡ digits ∷ []) × (number_in 0 60 digits ≡ Some n))
+IsLine words line.Help = words ≡ codes "--help" ∷ []
+IsLine words line.Version = words ≡ codes "--version" ∷ []

@@ -10,15 +10,15 @@ use Rattle.sk_prog.specs.declared.value.Value.TheVariants as value
 use Rattle.sk_opts.specs.declared.line.Set.{Set}
 use Rattle.sk_opts.specs.declared.line.Line.{Line}
 use Rattle.sk_opts.specs.declared.line.Line.TheVariants as line
-use Rattle.sk_opts.specs.CommandLine.{line_of}
+use Rattle.sk_opts.specs.CommandLine.{IsLine}
 use Rattle.sk_opts.specs.BoundsOf.{bounds_of}
 use Rattle.sk_opts.specs.SpeltValues.{spells_value}
 
 abbrev pub Taken : List (List ℕ) → Line → Type 0
-Taken words l = line_of words ≡ Some l
+Taken words l = IsLine words l
 
 abbrev pub Refused : List (List ℕ) → Type 0
-Refused words = line_of words ≡ None
+Refused words = (l : Line) → IsLine words l → ⊥
 
 abbrev pub no_set : Set
 no_set = record { cbits = None; inbits = None; unroll = None; inline_amnt = None; int_bits = None }
@@ -80,6 +80,14 @@ two_pragmas = record {
 
 abbrev pub BoundsOfPragmas : Type 0
 BoundsOfPragmas = bounds_of (with_int_bits 6) two_pragmas ≡ record { int_bits = 6; cbits = 5; inbits = 4; unroll = 7; inline_amnt = 5 }
+
+-- A word of the four is passed over where the next word is no number; so is a number behind another word, and one that
+-- is joined by `=`.
+abbrev pub passing_over : Tree
+passing_over = record { items = item.Pragma (codes "options") (codes "--bnd-cbits --bnd-inbits 4 3 --bnd-cbits=2 other 9") ∷ [] }
+
+abbrev pub BoundsPassedOver : Type 0
+BoundsPassedOver = bounds_of no_set passing_over ≡ record { int_bits = 16; cbits = 5; inbits = 4; unroll = 8; inline_amnt = 5 }
 
 -- Values
 

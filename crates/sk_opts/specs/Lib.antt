@@ -1,8 +1,10 @@
 pub mod Settings
 pub mod Ranges
 pub mod CommandLine
+pub mod Reader
 pub mod BoundsOf
 pub mod SpeltValues
 pub mod Told
 pub mod Steps
+pub mod Laws
 pub mod Examples

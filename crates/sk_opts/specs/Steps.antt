@@ -11,10 +11,20 @@ use Rattle.sk_opts.specs.declared.words.Mode.TheVariants as mode
 use Rattle.sk_opts.specs.declared.words.Word.{Word}
 use Rattle.sk_opts.specs.declared.words.Word.TheVariants as word
 use Rattle.sk_opts.specs.declared.words.Reading.{Reading}
-use Rattle.sk_opts.specs.Settings.{value_in, is_flag}
-use Rattle.sk_opts.specs.CommandLine.{Piece, Ends, Names, Sets, Plain, Unknown, with_setting, with_positional, words_from}
+use Rattle.sk_opts.specs.Settings.{of_pragmas, setting_among, value_in, is_flag}
+use Rattle.sk_opts.specs.Reader.{Piece, Ends, Names, Sets, Plain, Unknown, with_setting, with_positional, words_from}
 
 -- Pragmas
+
+abbrev pub given_here : Setting → Option ℕ → List Given → List Given → List Given
+given_here s None otherwise more = otherwise
+given_here s (Some n) otherwise more = record { setting = s; value = n } ∷ more
+
+-- What words set (`words_settings`), read one after the other: the word before these may be one of the four.
+abbrev pub settings_from : Option Setting → List (List ℕ) → List Given
+settings_from before [] = []
+settings_from None (w ∷ ws) = settings_from (setting_among of_pragmas w) ws
+settings_from (Some s) (w ∷ ws) = given_here s (value_in s w) (settings_from (setting_among of_pragmas w) ws) (settings_from None ws)
 
 -- the set with one more number, of the later setting
 abbrev pub set_by : Set → Setting → ℕ → Set

@@ -1,5 +1,5 @@
 //! Command lines, bounds and values, each computed by the check.
-ghost use Rattle.sk_opts.specs.Examples.{SynthAlone, SynthWithOptions, ExecBeforeOption, ExecOfNegative, SelfOfSeven, ValuePastRange, OptionTwice, OptionForValue, PositionalOfSynth, ValueMissing, BoundsOfPragmas, GridOfBits, TooFewScalars, NegativeInt};
+ghost use Rattle.sk_opts.specs.Examples.{SynthAlone, SynthWithOptions, ExecBeforeOption, ExecOfNegative, SelfOfSeven, ValuePastRange, OptionTwice, OptionForValue, PositionalOfSynth, ValueMissing, BoundsOfPragmas, BoundsPassedOver, GridOfBits, TooFewScalars, NegativeInt};
 
 /// Five lines that are taken.
 pub fn lines_that_are_taken()
@@ -24,6 +24,11 @@ pub fn lines_that_are_refused()
 /// holes.
 pub fn bounds_of_two_pragmas()
     ensures { BoundsOfPragmas }
+{}
+
+/// Words of a pragma that set nothing are passed over.
+pub fn bounds_of_words_passed_over()
+    ensures { BoundsPassedOver }
 {}
 
 /// Values of arrays and of `int`.

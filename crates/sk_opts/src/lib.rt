@@ -3,6 +3,7 @@
 #![tactic(auto)]
 
 pub mod examples;
+pub mod laws;
 mod limits;
 mod line;
 mod lines;

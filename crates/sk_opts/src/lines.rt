@@ -2,9 +2,11 @@
 ghost use Rattle.std.specs.Prelude.{◌≡◌, ◌∷◌, ℕ, Some, None, map, unwrap_or, IfOk, IfErr, if◌then◌else◌};
 ghost use Rattle.std.specs.String.{string_bytes};
 ghost use Rattle.sk_opts.specs.Settings.{is_of, last_of};
-ghost use Rattle.sk_opts.specs.CommandLine.{set_of, budget_of, if_none, synth_line, exec_with, exec_line, check_line, self_with, self_line, line_of};
+ghost use Rattle.sk_opts.specs.CommandLine.{set_of, budget_of, IsLine};
+ghost use Rattle.sk_opts.specs.Reader.{if_none, synth_line, exec_with, exec_line, check_line, self_with, self_line, line_of};
 ghost use Rattle.sk_opts.specs.Ranges.{LineIsInRanges};
 ghost use Rattle.sk_opts.specs.Told.{IsTold};
+ghost use Rattle.sk_opts.specs.declared.line.Line.{Line};
 
 use crate::line::{Line, Set, Usage};
 use crate::number::number_in;
@@ -185,7 +187,7 @@ fn alone(words: &[String], line: Line) -> Option<Line>
 }
 
 // The line of a command and the words behind it.
-#[tactic(auto, unfolding(crate::specs::CommandLine::line_of))]
+#[tactic(auto, unfolding(crate::specs::Reader::line_of))]
 fn line_behind(alloc: Global, command: &[u8], words: &[String]) -> Result<Option<Line>, AllocError>
     ensures { IfOk result (λ line. line ≡ line_of (command.now ∷ map string_bytes words.now)) }
 {
@@ -206,23 +208,31 @@ fn line_behind(alloc: Global, command: &[u8], words: &[String]) -> Result<Option
     }
 }
 
-/// The line that the words behind the program's own name spell. `NotALine` comes exactly where they spell none, or in
-/// want of memory `Memory`.
-#[tactic(auto, unfolding(crate::specs::CommandLine::line_of))]
+// The line that the words come to, where they come to one.
+#[tactic(auto, unfolding(crate::specs::Reader::line_of))]
+fn line_of(alloc: Global, words: &[String]) -> Result<Option<Line>, AllocError>
+    ensures { IfOk result (λ line. line ≡ line_of (map string_bytes words.now)) }
+{
+    match words.split_first() {
+        None => Ok(None),
+        Some((command, after)) => Ok(line_behind(alloc, command.as_bytes(), after)?),
+    }
+}
+
+/// The line that the words behind the program's own name spell: they spell no other. `NotALine` comes exactly where they
+/// spell none, or in want of memory `Memory`.
 pub fn options(alloc: Global, words: &[String]) -> Result<Line, Usage>
-    ensures found { IfOk result (λ line. line_of (map string_bytes words.now) ≡ Some line) }
+    ensures found { IfOk result (IsLine (map string_bytes words.now)) }
+    ensures only { IfOk result (λ line. (other : Line) → IsLine (map string_bytes words.now) other → other ≡ line) }
     ensures usage { IfErr result (IsTold (map string_bytes words.now)) }
     // `bounds` takes the set of the line.
     ensures ranges { IfOk result LineIsInRanges }
 {
-    match words.split_first() {
-        None => Err(Usage::NotALine),
-        Some((command, after)) => match line_behind(alloc, command.as_bytes(), after) {
-            Err(_) => Err(Usage::Memory),
-            Ok(found) => match found {
-                Some(line) => Ok(line),
-                None => Err(Usage::NotALine),
-            },
+    match line_of(alloc, words) {
+        Err(_) => Err(Usage::Memory),
+        Ok(found) => match found {
+            Some(line) => Ok(line),
+            None => Err(Usage::NotALine),
         },
     }
 }

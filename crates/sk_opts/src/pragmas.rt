@@ -2,10 +2,10 @@
 ghost use Rattle.std.specs.Prelude.{◌≡◌, ◌≤◌, ◌∷◌, ℕ, List, None, length, codes};
 ghost use Rattle.std.specs.List.{prefix_len, flat_map};
 ghost use Rattle.sk_tree.specs.Shapes.{is_blank};
-ghost use Rattle.sk_opts.specs.BoundsOf.{blank_words, settings_from, item_settings, pragma_settings};
+ghost use Rattle.sk_opts.specs.BoundsOf.{blank_words, words_settings, item_settings, pragma_settings};
+ghost use Rattle.sk_opts.specs.Steps.{settings_from, is_unblank, set_by, set_after};
 ghost use Rattle.sk_opts.specs.CommandLine.{set_of};
 ghost use Rattle.sk_opts.specs.Ranges.{LiesIn, IsInRanges};
-ghost use Rattle.sk_opts.specs.Steps.{is_unblank, set_by, set_after};
 
 use crate::line::Set;
 use crate::setting::{Setting, setting_among, value_in};
@@ -95,7 +95,7 @@ fn read_word(read: Pragmas, word: &[u8]) -> Pragmas
 
 // The words of a pragma, one after the other.
 fn read_text(set: Set, text: &[u8]) -> Set
-    ensures value { result ≡ set_after set (settings_from None (blank_words text.now)) }
+    ensures value { result ≡ set_after set (words_settings (blank_words text.now)) }
     ensures ranges { IsInRanges set → IsInRanges result }
 {
     let mut read = Pragmas { set, before: None };

@@ -3,7 +3,8 @@ ghost use Rattle.std.specs.Prelude.{◌≡◌, ◌≤◌, List, [], Some, None, 
 ghost use Rattle.std.specs.List.{list_any, prefix_len};
 ghost use Rattle.std.specs.String.{string_bytes};
 ghost use Rattle.sk_opts.specs.Settings.{setting_among, all_once, is_of};
-ghost use Rattle.sk_opts.specs.CommandLine.{before_equals, after_equals, is_option, piece_of, option_piece, words_of, words_from, if_once};
+ghost use Rattle.sk_opts.specs.CommandLine.{is_option};
+ghost use Rattle.sk_opts.specs.Reader.{before_equals, after_equals, piece_of, option_piece, words_of, words_from, if_once};
 ghost use Rattle.sk_opts.specs.Steps.{is_unequal, as_word, whole, whole_if, more_settings, more_positionals, GoesOn, GoesOnByName, GoesOnByValue};
 ghost use Rattle.sk_opts.specs.declared.setting.Setting.{Setting};
 

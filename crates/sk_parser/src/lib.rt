@@ -3,8 +3,6 @@
 #![tactic(auto)]
 
 mod expr;
-mod item;
 mod pattern;
-mod stmt;
 mod stop;
 mod token;

@@ -146,7 +146,7 @@ impl Checker {
     {
         let i = self.known.len();
         self.known.push(clause)?;
-        self.watches.make()?;
+        self.watches.make(clause)?;
         if self.refuted {
             return Ok(());
         }
@@ -169,7 +169,7 @@ impl Checker {
         let begin = self.trail.lits.len();
         let follows = decide(&mut self.trail, &mut self.watches, &self.known, clause)?;
         self.trail.undo(begin);
-        self.watches.done = begin;
+        self.watches.back_to(begin);
         Ok(follows)
     }
 }

@@ -3,6 +3,7 @@
 #![tactic(auto)]
 
 mod checker;
+mod codes;
 mod log;
 mod look;
 #[cfg(test)]

@@ -1,6 +1,6 @@
 use Rattle.std.proofs.Common.{◌∙◌, sym, ap}
-use Rattle.sk_opts.specs.BoundsOf.{blank_words, settings_from}
-use Rattle.sk_opts.specs.Steps.{set_after}
+use Rattle.sk_opts.specs.BoundsOf.{blank_words}
+use Rattle.sk_opts.specs.Steps.{settings_from, set_after}
 use Rattle.sk_opts.proofs.PragmaWords.{word_taken, text_ends}
 use Rattle.sk_opts.proofs.pragmas.read_text.Goals as goal
 
@@ -17,4 +17,4 @@ loop-rest-preserved c =
     }
 
 pub returns-clause-value : goal.returns-clause-value
-returns-clause-value c = text_ends _ _ _ _ _ c.in_default.len_below c.loop-rest.invariant.value
+returns-clause-value c = text_ends _ _ _ (blank_words c.args.text.now) _ c.in_default.len_below c.loop-rest.invariant.value

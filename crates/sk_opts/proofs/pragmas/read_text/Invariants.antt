@@ -1,7 +1,7 @@
 use Rattle.std.proofs.Common.{◌≡◌, length, None}
-use Rattle.sk_opts.specs.BoundsOf.{blank_words, settings_from}
+use Rattle.sk_opts.specs.BoundsOf.{blank_words}
+use Rattle.sk_opts.specs.Steps.{settings_from, set_after}
 use Rattle.sk_opts.specs.Ranges.{IsInRanges}
-use Rattle.sk_opts.specs.Steps.{set_after}
 use Rattle.sk_opts.proofs.pragmas.read_text.Given as goal
 
 abbrev pub invariant-loop-rest : goal.invariant-loop-rest

@@ -1,5 +1,5 @@
 use Rattle.std.proofs.Common.{◌≡◌, length}
-use Rattle.sk_opts.specs.CommandLine.{after_equals}
+use Rattle.sk_opts.specs.Reader.{after_equals}
 use Rattle.sk_opts.proofs.words.after_equals.Given as goal
 
 abbrev pub invariant-loop-rest : goal.invariant-loop-rest

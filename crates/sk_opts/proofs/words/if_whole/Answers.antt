@@ -1,5 +1,5 @@
 use Rattle.std.proofs.Common.{◌∙◌, sym, ap, []}
-use Rattle.sk_opts.specs.CommandLine.{if_once}
+use Rattle.sk_opts.specs.Reader.{if_once}
 use Rattle.sk_opts.specs.Steps.{whole}
 use Rattle.sk_opts.proofs.WordByWord.{at_last_free, at_last_waiting, at_last_ended, has_mode}
 use Rattle.sk_opts.proofs.words.if_whole.Goals as goal

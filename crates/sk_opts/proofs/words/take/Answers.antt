@@ -1,5 +1,5 @@
 use Rattle.std.proofs.Common.{◌∙◌, ◌∷◌, None, sym, ap}
-use Rattle.sk_opts.specs.CommandLine.{with_setting, words_from}
+use Rattle.sk_opts.specs.Reader.{with_setting, words_from}
 use Rattle.sk_opts.specs.Steps.{whole, joined}
 use Rattle.sk_opts.proofs.WordByWord.{by_waiting, behind_end, has_mode}
 use Rattle.sk_opts.proofs.words.take.Goals as goal

@@ -1,6 +1,6 @@
 use Rattle.std.proofs.Common.{◌≡◌, length, map, None}
 use Rattle.std.specs.String.{string_bytes}
-use Rattle.sk_opts.specs.CommandLine.{words_from}
+use Rattle.sk_opts.specs.Reader.{words_from}
 use Rattle.sk_opts.specs.Steps.{whole}
 use Rattle.sk_opts.proofs.words.take_all.Given as goal
 

@@ -1,4 +1,4 @@
-use Rattle.std.proofs.Common.{length, ◌-◌}
+use Rattle.std.proofs.Common.{length, ◌-◌, ◌+◌}
 use Rattle.sk_rup.specs.Steps.{Steps}
 use Rattle.sk_rup.proofs.watches.Watches.propagate.Given as goal
 
@@ -6,4 +6,4 @@ abbrev pub invariant-queue : goal.invariant-queue
 invariant-queue l = Steps l.known l.fn.trail l.trail
 
 abbrev pub decreases-queue : goal.decreases-queue
-decreases-queue l = length l.trail.values.items - l.done
+decreases-queue l = (length l.trail.values.items - l.done) + (length l.trail.values.items - l.done_idle)
