@@ -1,9 +1,8 @@
 -- Readers within a budget of depth, opened at a budget that is not 0.
 use Rattle.std.proofs.Common.{◌≡◌, ℕ, zero, suc, ◌-◌, ◌<◌, List, None, refl, arith}
 use Rattle.sk_tree.specs.declared.token.Token.{Token}
-use Rattle.sk_tree.specs.Spelt.{Role, PatternRole, AsChoice, AsSequence, AsPart}
+use Rattle.sk_tree.specs.Spelt.{PatternRole, AsChoice, AsSequence, AsPart}
 use Rattle.sk_parser.specs.ExprReader.{Trees, level_at, expr_at}
-use Rattle.sk_parser.specs.StmtReader.{form_at, stmt_at}
 use Rattle.sk_parser.specs.PatternReader.{by_role, choice_at, sequence_at, part_at, pattern_at}
 
 pub pattern_more : (b : ℕ) (role : PatternRole) (ts : List Token) → 0 < b → pattern_at b role ts ≡ by_role (pattern_at (b - 1)) b role ts
@@ -40,12 +39,3 @@ expr_more trees (suc b) level ts h = let e : suc b - 1 ≡ b = omega arith in rw
 pub expr_none : (trees : Trees) (level : ℕ) (ts : List Token) → expr_at trees 0 level ts ≡ None
 unfolding expr_at
 expr_none trees level ts = refl
-
-pub stmt_more : (b : ℕ) (role : Role) (ts : List Token) → 0 < b → stmt_at b role ts ≡ form_at (stmt_at (b - 1)) (b - 1) role ts
-unfolding stmt_at
-stmt_more zero role ts h = absurd (omega arith)
-stmt_more (suc b) role ts h = let e : suc b - 1 ≡ b = omega arith in rw e refl
-
-pub stmt_none : (role : Role) (ts : List Token) → stmt_at 0 role ts ≡ None
-unfolding stmt_at
-stmt_none role ts = refl
