@@ -169,6 +169,12 @@ impl Machine<'_> {
                 Ok(wrap(bits, i64::from(*n)))
             }
             PEForm::Var { slot, name: _ } => Ok(frame.read(bits, *slot)),
+            PEForm::Hole(_) => {
+                if !is_int(&e.ty) {
+                    return Err(Stop::Foreign);
+                }
+                Err(Stop::Failed { span })
+            }
             _ => Err(Stop::Failed { span }),
         }
     }
