@@ -7,6 +7,9 @@ use Rattle.std.proofs.lemmas.Bool.{false≢true, and_parts}
 use Rattle.sk_base.specs.declared.span.Span.{Span}
 use Rattle.sk_base.specs.declared.bounds.Bounds.{Bounds}
 use Rattle.sk_prog.specs.declared.ids.FunId.{FunId}
+use Rattle.sk_prog.specs.declared.ty.Elem.TheVariants as elem
+use Rattle.sk_prog.specs.declared.ty.Ty.{Ty}
+use Rattle.sk_prog.specs.declared.ty.Ty.TheVariants as ty
 use Rattle.sk_prog.specs.declared.value.Value.{Value}
 use Rattle.sk_prog.specs.declared.value.Value.TheVariants as value
 use Rattle.sk_prog.specs.declared.expr.BinOp.{BinOp}
@@ -20,7 +23,7 @@ use Rattle.sk_model.specs.declared.expanded.Obligation.TheVariants as obligation
 use Rattle.sk_model.specs.Step.{State, Step, Goes, Fails, Skips, Comp, and_then, ◌>>=◌, pure, fail}
 use Rattle.sk_model.specs.Heap.{Location, Variable, at_root, read, write, store}
 use Rattle.sk_model.specs.Operators.{Operand, Number, OneBit, Bits, operand, operator, on_operands, number_operator, bit_operator, bits_operator, shift, divided}
-use Rattle.sk_model.specs.Eval.{Called, Calls, eval, target, literal, choose, binary}
+use Rattle.sk_model.specs.Eval.{Called, Calls, eval, target, literal, choose, unfilled, binary}
 use Rattle.sk_model.specs.Exec.{Flow, Onward, Returns, exec_stmt, exec_all, unless_returned, onward}
 use Rattle.sk_model.specs.Run.{in_frame, body_of, filled_bodies, calls, outcome_of, run, first_slots, most_calls, nowhere, start}
 use Rattle.sk_model.proofs.Forms.{does_number, does_var, does_hole, does_binary, exec_declare, exec_assign, exec_assert}
@@ -56,6 +59,15 @@ quiet_pure a = record { keeps = λ s. refl }
 
 pub quiet_fail : {A : Type 0} (span : Span) → Quiet (fail {A = A} span)
 quiet_fail span = record { keeps = λ s. tt }
+
+quiet_unfilled : (t : Option Ty) (span : Span) → Quiet (unfilled t span)
+quiet_unfilled (Some (ty.Array elem.Bit zero)) span = quiet_pure (value.Array [])
+quiet_unfilled None span = quiet_fail span
+quiet_unfilled (Some (ty.One e)) span = quiet_fail span
+quiet_unfilled (Some (ty.Array elem.Bit (suc n))) span = quiet_fail span
+quiet_unfilled (Some (ty.Array elem.Int n)) span = quiet_fail span
+quiet_unfilled (Some (ty.Array (elem.Reference s) n)) span = quiet_fail span
+quiet_unfilled (Some (ty.Grid e n m)) span = quiet_fail span
 
 quiet_read : (slot : ℕ) → Quiet (read slot)
 quiet_read slot = record { keeps = λ s. refl }
@@ -139,7 +151,7 @@ module _ (slots : ℕ) (prog : Prog) (bounds : Bounds) (call : Calls) where
   quiet_expr = early_expr slots (λ e. (sp : Span) → Quiet (eval prog width call sp e))
       (λ span t n sp. subst (λ d. Quiet (d.value sp)) (sym (does_number prog width call span t n)) (quiet_pure (literal width t n)))
       (λ span t x name h sp. subst (λ d. Quiet (d.value sp)) (sym (does_var prog width call span t x name)) (quiet_read x))
-      (λ span t sp. subst (λ d. Quiet (d.value sp)) (sym (does_hole prog width call span t None)) (quiet_fail sp))
+      (λ span t sp. subst (λ d. Quiet (d.value sp)) (sym (does_hole prog width call span t None)) (quiet_unfilled t sp))
       (λ span t o a b ha hb qa qb sp. subst (λ d. Quiet (d.value sp)) (sym (does_binary prog width call span t o a b)) (quiet_binary width sp o (eval prog width call sp a) (eval prog width call sp b) (qa sp) (qb sp)))
 
   target_is : (e : PExpr) → IsTrue (is_variable slots e) → (sp : Span) → (x : ℕ) × (target prog width call sp e ≡ at_root (Variable x))

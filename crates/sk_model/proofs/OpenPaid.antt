@@ -21,7 +21,8 @@ use Rattle.sk_model.specs.declared.expanded.Expanded.{Expanded}
 use Rattle.sk_model.specs.Parts.{Part}
 use Rattle.sk_model.specs.Stands.{Standing, own, first_of, by_value, beside, in_row, part_if, is_called, eform_standing, expr_standing, value_standing, form_standing, stmt_standing, body_standing, standing_from, standing, all_paid}
 use Rattle.sk_model.specs.Sites.{is_hole}
-use Rattle.sk_model.specs.Filled.{is_yes, eform_filled, expr_filled, any_filled}
+use Rattle.sk_model.specs.Filled.{is_yes}
+use Rattle.sk_model.specs.ClosedExprs.{eform_closed, expr_closed, any_closed}
 use Rattle.sk_model.specs.Closed.{form_closed, stmt_closed, fun_closed}
 
 abbrev pub Pays : Part Standing → Type 0
@@ -38,11 +39,11 @@ module _ {A : Type 0} (ok : A → Bool) (f : A → Part Standing) where
       beside_pays (f q.0) (in_row (map f (map (λ q. q.0) qs))) (q.1 both.0) (row_pays qs both.1)
 
 module _ (values : List ℕ) where
-  abbrev form_is_filled : PEForm → Bool
-  form_is_filled = fold-PEForm Bool Bool Bool eform_filled (λ x. x.form) (λ x. x.value)
+  abbrev form_is_closed : PEForm → Option Ty → Bool
+  form_is_closed = fold-PEForm (Option Ty → Bool) Bool Bool eform_closed (λ x. x.form x.ty) (λ x. x.value)
 
-  abbrev field_is_filled : PField → Bool
-  field_is_filled = fold-PField Bool Bool Bool eform_filled (λ x. x.form) (λ x. x.value)
+  abbrev field_is_closed : PField → Bool
+  field_is_closed = fold-PField (Option Ty → Bool) Bool Bool eform_closed (λ x. x.form x.ty) (λ x. x.value)
 
   abbrev eform_stands : PEForm → Option Ty → Part Standing
   eform_stands = fold-PEForm (Option Ty → Part Standing) (Part Standing) (Part Standing) (eform_standing values) (λ e. e.form e.ty) (λ x. x.value)
@@ -54,13 +55,13 @@ module _ (values : List ℕ) where
   field_stands = fold-PField (Option Ty → Part Standing) (Part Standing) (Part Standing) (eform_standing values) (λ e. e.form e.ty) (λ x. x.value)
 
   abbrev At_eform : PEForm → Type 0
-  At_eform f = (t : Option Ty) → IsTrue (form_is_filled f) → Pays (eform_stands f t)
+  At_eform f = (t : Option Ty) → IsTrue (form_is_closed f t) → Pays (eform_stands f t)
 
   abbrev At_expr : PExpr → Type 0
-  At_expr e = IsTrue (expr_filled e) → Pays (expr_stands e)
+  At_expr e = IsTrue (expr_closed e) → Pays (expr_stands e)
 
   abbrev At_field : PField → Type 0
-  At_field x = IsTrue (field_is_filled x) → Pays (field_stands x)
+  At_field x = IsTrue (field_is_closed x) → Pays (field_stands x)
 
   abbrev EForm : Type 0
   EForm = (f : PEForm) × At_eform f
@@ -74,11 +75,11 @@ module _ (values : List ℕ) where
   abbrev down : P.PEForm-F EForm Expr Set → P.PEForm-F PEForm PExpr PField
   down = map-PEForm EForm Expr Set PEForm PExpr PField (λ q. q.0) (λ q. q.0) (λ q. q.0)
 
-  rolled : (x : P.PEForm-F PEForm PExpr PField) → ((t : Option Ty) → IsTrue (eform_filled (map-PEForm PEForm PExpr PField Bool Bool Bool form_is_filled expr_filled field_is_filled x)) → Pays (eform_standing values (map-PEForm PEForm PExpr PField (Option Ty → Part Standing) (Part Standing) (Part Standing) eform_stands expr_stands field_stands x) t)) → At_eform (V.roll-PEForm x)
-  rolled x h t filled = subst (λ (p : Option Ty → Part Standing). Pays (p t)) (sym (fold-roll-PEForm (Option Ty → Part Standing) (Part Standing) (Part Standing) (eform_standing values) (λ e. e.form e.ty) (λ x. x.value) x)) (h t (subst IsTrue (fold-roll-PEForm Bool Bool Bool eform_filled (λ x. x.form) (λ x. x.value) x) filled))
+  rolled : (x : P.PEForm-F PEForm PExpr PField) → ((t : Option Ty) → IsTrue (eform_closed (map-PEForm PEForm PExpr PField (Option Ty → Bool) Bool Bool form_is_closed expr_closed field_is_closed x) t) → Pays (eform_standing values (map-PEForm PEForm PExpr PField (Option Ty → Part Standing) (Part Standing) (Part Standing) eform_stands expr_stands field_stands x) t)) → At_eform (V.roll-PEForm x)
+  rolled x h t closed = subst (λ (p : Option Ty → Part Standing). Pays (p t)) (sym (fold-roll-PEForm (Option Ty → Part Standing) (Part Standing) (Part Standing) (eform_standing values) (λ e. e.form e.ty) (λ x. x.value) x)) (h t (subst (λ (p : Option Ty → Bool). IsTrue (p t)) (fold-roll-PEForm (Option Ty → Bool) Bool Bool eform_closed (λ x. x.form x.ty) (λ x. x.value) x) closed))
 
-  two : (a b : Expr) → IsTrue (expr_filled a.0 && expr_filled b.0) → Pays (beside (expr_stands a.0) (expr_stands b.0))
-  two a b h = let both = and_parts (expr_filled a.0) (expr_filled b.0) h in beside_pays (expr_stands a.0) (expr_stands b.0) (a.1 both.0) (b.1 both.1)
+  two : (a b : Expr) → IsTrue (expr_closed a.0 && expr_closed b.0) → Pays (beside (expr_stands a.0) (expr_stands b.0))
+  two a b h = let both = and_parts (expr_closed a.0) (expr_closed b.0) h in beside_pays (expr_stands a.0) (expr_stands b.0) (a.1 both.0) (b.1 both.1)
 
   layer : (y : P.PEForm-F EForm Expr Set) → At_eform (V.roll-PEForm (down y))
   layer (P.Number n) = rolled (P.Number n) (λ t h i. refl)
@@ -87,32 +88,32 @@ module _ (values : List ℕ) where
   layer P.Null = rolled P.Null (λ t h i. refl)
   layer (P.Var slot x) = rolled (P.Var slot x) (λ t h i. refl)
   layer (P.Const c) = rolled (P.Const c) (λ t h i. refl)
-  layer (P.Hole bits) = rolled (P.Hole bits) (λ t h. absurd (false≢true h))
+  layer (P.Hole bits) = rolled (P.Hole bits) (λ t h i. refl)
   layer (P.Pattern es) = rolled (down (P.Pattern es)) (λ t h. absurd (false≢true h))
   layer (P.Paren a) = rolled (P.Paren a.0) (λ t h. a.1 h)
-  layer (P.Call f es) = rolled (down (P.Call f es)) (λ t h i. row_pays expr_filled expr_stands es h i)
-  layer (P.New d xs) = rolled (down (P.New d xs)) (λ t h. row_pays field_is_filled field_stands xs h)
-  layer (P.Braces es) = rolled (down (P.Braces es)) (λ t h. row_pays expr_filled expr_stands es h)
+  layer (P.Call f es) = rolled (down (P.Call f es)) (λ t h i. row_pays expr_closed expr_stands es h i)
+  layer (P.New d xs) = rolled (down (P.New d xs)) (λ t h. row_pays field_is_closed field_stands xs h)
+  layer (P.Braces es) = rolled (down (P.Braces es)) (λ t h. row_pays expr_closed expr_stands es h)
   layer (P.Member a d k) = rolled (P.Member a.0 d k) (λ t h. a.1 h)
   layer (P.Index a b) = rolled (P.Index a.0 b.0) (λ t h. two a b h)
   layer (P.Slice a b n) = rolled (P.Slice a.0 b.0 n) (λ t h. two a b h)
   layer (P.Unary o a) = rolled (P.Unary o a.0) (λ t h. a.1 h)
   layer (P.Binary o a b) = rolled (P.Binary o a.0 b.0) (λ t h. two a b h)
-  layer (P.Cond c a b) = rolled (P.Cond c.0 a.0 b.0) (λ t h. let first = and_parts (expr_filled c.0) (expr_filled a.0 && expr_filled b.0) h in beside_pays (expr_stands c.0) (beside (expr_stands a.0) (expr_stands b.0)) (c.1 first.0) (two a b first.1))
+  layer (P.Cond c a b) = rolled (P.Cond c.0 a.0 b.0) (λ t h. let first = and_parts (expr_closed c.0) (expr_closed a.0 && expr_closed b.0) h in beside_pays (expr_stands c.0) (beside (expr_stands a.0) (expr_stands b.0)) (c.1 first.0) (two a b first.1))
   layer (P.ToInt a) = rolled (P.ToInt a.0) (λ t h. a.1 h)
   layer (P.Pad a) = rolled (P.Pad a.0) (λ t h. a.1 h)
 
   pub expr_pays : (e : PExpr) → At_expr e
   expr_pays = ind-PExpr At_eform At_expr At_field
       (λ x y is. subst (λ z. At_eform (V.roll-PEForm z)) is (layer y))
-      (λ x y is. subst (λ z. At_expr (V.roll-PExpr z)) is (λ filled.
+      (λ x y is. subst (λ z. At_expr (V.roll-PExpr z)) is (λ closed.
       let z : P.PExpr-F PEForm PExpr PField = map-PExpr EForm Expr Set PEForm PExpr PField (λ q. q.0) (λ q. q.0) (λ q. q.0) y in
-      subst Pays (sym (fold-roll-PExpr (Option Ty → Part Standing) (Part Standing) (Part Standing) (eform_standing values) (λ e. e.form e.ty) (λ x. x.value) z)) (y.form.1 y.ty (subst IsTrue (fold-roll-PExpr Bool Bool Bool eform_filled (λ x. x.form) (λ x. x.value) z) filled))))
-      (λ x y is. subst (λ z. At_field (V.roll-PField z)) is (λ filled.
+      subst Pays (sym (fold-roll-PExpr (Option Ty → Part Standing) (Part Standing) (Part Standing) (eform_standing values) (λ e. e.form e.ty) (λ x. x.value) z)) (y.form.1 y.ty (subst IsTrue (fold-roll-PExpr (Option Ty → Bool) Bool Bool eform_closed (λ x. x.form x.ty) (λ x. x.value) z) closed))))
+      (λ x y is. subst (λ z. At_field (V.roll-PField z)) is (λ closed.
       let z : P.PField-F PEForm PExpr PField = map-PField EForm Expr Set PEForm PExpr PField (λ q. q.0) (λ q. q.0) (λ q. q.0) y in
-      subst Pays (sym (fold-roll-PField (Option Ty → Part Standing) (Part Standing) (Part Standing) (eform_standing values) (λ e. e.form e.ty) (λ x. x.value) z)) (y.value.1 (subst IsTrue (fold-roll-PField Bool Bool Bool eform_filled (λ x. x.form) (λ x. x.value) z) filled))))
+      subst Pays (sym (fold-roll-PField (Option Ty → Part Standing) (Part Standing) (Part Standing) (eform_standing values) (λ e. e.form e.ty) (λ x. x.value) z)) (y.value.1 (subst IsTrue (fold-roll-PField (Option Ty → Bool) Bool Bool eform_closed (λ x. x.form x.ty) (λ x. x.value) z) closed))))
 
-  any_pays : (e : Option PExpr) → IsTrue (any_filled e) → Pays (value_standing values e)
+  any_pays : (e : Option PExpr) → IsTrue (any_closed e) → Pays (value_standing values e)
   any_pays None h = λ i. refl
   any_pays (Some e) h = expr_pays e h
 
@@ -143,7 +144,7 @@ module _ (values : List ℕ) where
   sdown = map-PForm Form Stmt PForm PStmt (λ q. q.0) (λ q. q.0)
 
   srolled : (x : S.PForm-F PForm PStmt) → ((span : Span) → IsTrue (form_closed (map-PForm PForm PStmt Bool Bool sform_is_closed stmt_closed x)) → Pays (form_standing values (map-PForm PForm PStmt (Span → Part Standing) (Part Standing) form_stands stmt_stands x) span)) → At_form (W.roll-PForm x)
-  srolled x h span filled = subst (λ (p : Span → Part Standing). Pays (p span)) (sym (fold-roll-PForm (Span → Part Standing) (Part Standing) (form_standing values) (λ s. s.form s.span) x)) (h span (subst IsTrue (fold-roll-PForm Bool Bool form_closed (λ s. s.form) x) filled))
+  srolled x h span closed = subst (λ (p : Span → Part Standing). Pays (p span)) (sym (fold-roll-PForm (Span → Part Standing) (Part Standing) (form_standing values) (λ s. s.form s.span) x)) (h span (subst IsTrue (fold-roll-PForm Bool Bool form_closed (λ s. s.form) x) closed))
 
   repeat_pays : (hole : Bool) (ss : List Stmt) → IsTrue (not hole && list_all is_yes (map stmt_closed (map (λ q. q.0) ss))) → Pays (if hole then by_value values first_of (map stmt_stands (map (λ q. q.0) ss)) else in_row (map stmt_stands (map (λ q. q.0) ss)))
   repeat_pays true ss h = absurd (false≢true h)
@@ -157,17 +158,17 @@ module _ (values : List ℕ) where
   slayer : (y : S.PForm-F Form Stmt) → At_form (W.roll-PForm (sdown y))
   slayer (S.Block ss) = srolled (sdown (S.Block ss)) (λ span h. row_pays stmt_closed stmt_stands ss h)
   slayer (S.Declare slot x t e) = srolled (S.Declare slot x t e) (λ span h. any_pays e h)
-  slayer (S.Assign a e) = srolled (S.Assign a e) (λ span h. let both = and_parts (expr_filled a) (expr_filled e) h in beside_pays (expr_stands a) (expr_stands e) (expr_pays a both.0) (expr_pays e both.1))
+  slayer (S.Assign a e) = srolled (S.Assign a e) (λ span h. let both = and_parts (expr_closed a) (expr_closed e) h in beside_pays (expr_stands a) (expr_stands e) (expr_pays a both.0) (expr_pays e both.1))
   slayer (S.Call e) = srolled (S.Call e) (λ span h. expr_pays e h)
   slayer (S.If c a None) = srolled (S.If c a.0 None) (λ span h i.
-      let first = and_parts (expr_filled c) (stmt_closed a.0 && true) h in
+      let first = and_parts (expr_closed c) (stmt_closed a.0 && true) h in
       let second = and_parts (stmt_closed a.0) true first.1 in
       rw (expr_pays c first.0 i, a.1 second.0 (i + (expr_stands c).count)) refl)
   slayer (S.If c a (Some b)) = srolled (S.If c a.0 (Some b.0)) (λ span h.
-      let first = and_parts (expr_filled c) (stmt_closed a.0 && stmt_closed b.0) h in
+      let first = and_parts (expr_closed c) (stmt_closed a.0 && stmt_closed b.0) h in
       let both = and_parts (stmt_closed a.0) (stmt_closed b.0) first.1 in
       beside_pays (expr_stands c) (beside (stmt_stands a.0) (stmt_stands b.0)) (expr_pays c first.0) (beside_pays (stmt_stands a.0) (stmt_stands b.0) (a.1 both.0) (b.1 both.1)))
-  slayer (S.While c a) = srolled (S.While c a.0) (λ span h. let both = and_parts (expr_filled c) (stmt_closed a.0) h in beside_pays (expr_stands c) (stmt_stands a.0) (expr_pays c both.0) (a.1 both.1))
+  slayer (S.While c a) = srolled (S.While c a.0) (λ span h. let both = and_parts (expr_closed c) (stmt_closed a.0) h in beside_pays (expr_stands c) (stmt_stands a.0) (expr_pays c both.0) (a.1 both.1))
   slayer (S.Return e) = srolled (S.Return e) (λ span h. any_pays e h)
   slayer (S.Assert e) = srolled (S.Assert e) (λ span h. expr_pays e h)
   slayer (S.Assume e) = srolled (S.Assume e) (λ span h. expr_pays e h)
@@ -179,9 +180,9 @@ module _ (values : List ℕ) where
   pub stmt_pays : (s : PStmt) → At_stmt s
   stmt_pays = ind-PStmt At_form At_stmt
       (λ x y is. subst (λ z. At_form (W.roll-PForm z)) is (slayer y))
-      (λ x y is. subst (λ z. At_stmt (W.roll-PStmt z)) is (λ filled.
+      (λ x y is. subst (λ z. At_stmt (W.roll-PStmt z)) is (λ closed.
       let z : S.PStmt-F PForm PStmt = map-PStmt Form Stmt PForm PStmt (λ q. q.0) (λ q. q.0) y in
-      subst Pays (sym (fold-roll-PStmt (Span → Part Standing) (Part Standing) (form_standing values) (λ s. s.form s.span) z)) (y.form.1 y.span (subst IsTrue (fold-roll-PStmt Bool Bool form_closed (λ s. s.form) z) filled))))
+      subst Pays (sym (fold-roll-PStmt (Span → Part Standing) (Part Standing) (form_standing values) (λ s. s.form s.span) z)) (y.form.1 y.span (subst IsTrue (fold-roll-PStmt Bool Bool form_closed (λ s. s.form) z) closed))))
 
   body_pays : (ss : List PStmt) → IsTrue (list_all stmt_closed ss) → Pays (body_standing values ss)
   body_pays [] h = λ i. refl

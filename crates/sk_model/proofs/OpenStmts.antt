@@ -17,10 +17,11 @@ use Rattle.sk_model.specs.Step.{Comp, fail}
 use Rattle.sk_model.specs.Eval.{Calls, Does, does}
 use Rattle.sk_model.specs.Exec.{Flow, exec_form, exec_stmt, one_by_one, declare, assign, drop_value, branch, turns, return, assert, assume, minimize, any_meaning}
 use Rattle.sk_model.specs.Sites.{is_hole}
-use Rattle.sk_model.specs.Filled.{is_yes, expr_filled, any_filled}
+use Rattle.sk_model.specs.Filled.{is_yes}
+use Rattle.sk_model.specs.ClosedExprs.{expr_closed, any_closed}
 use Rattle.sk_model.specs.Closed.{form_closed, stmt_closed}
 use Rattle.sk_model.specs.Open.{block_part, copies_part, reorder_part, any_open, open_expr, open_form, open_stmt}
-use Rattle.sk_model.proofs.OpenExprs.{Says, none_in, all_say, filled_expr}
+use Rattle.sk_model.proofs.OpenExprs.{Says, none_in, all_say, closed_expr}
 
 module _ (prog : Prog) (bounds : Bounds) (values : List ℕ) (call : Calls) where
   abbrev opened : PExpr → Part Does
@@ -71,14 +72,14 @@ module _ (prog : Prog) (bounds : Bounds) (values : List ℕ) (call : Calls) wher
       subst (λ (p : Part (Span → Comp Flow)). Says p (form_exec (W.roll-PForm x))) (sym (fold-roll-PForm (Part (Span → Comp Flow)) (Part (Comp Flow)) step stmt_step x))
       (subst (λ (m : Span → Comp Flow). Says (step (map-PForm PForm PStmt (Part (Span → Comp Flow)) (Part (Comp Flow)) form_open stmt_open x)) m) (sym (fold-roll-PForm (Span → Comp Flow) (Comp Flow) (exec_form prog bounds call) (λ s. s.form s.span) x)) says)
 
-  expr_says : (e : PExpr) → IsTrue (expr_filled e) → Says (opened e) (done e)
-  expr_says = filled_expr prog bounds values call
+  expr_says : (e : PExpr) → IsTrue (expr_closed e) → Says (opened e) (done e)
+  expr_says = closed_expr prog bounds values call
 
-  any_says : (e : Option PExpr) → IsTrue (any_filled e) → Says (any_open prog bounds values call e) (any_meaning prog bounds call e)
+  any_says : (e : Option PExpr) → IsTrue (any_closed e) → Says (any_open prog bounds values call e) (any_meaning prog bounds call e)
   any_says None h = (refl, λ i. refl)
   any_says (Some e) h = let g = expr_says e h in (g.0, λ i. ap (λ d. Some d) (g.1 i))
 
-  of_expr : (e : PExpr) (act : Span → Does → Comp Flow) → IsTrue (expr_filled e) → ((opened e).count ≡ 0) × ((i : ℕ) → ◌≡◌ {A = Span → Comp Flow} (λ span. act span ((opened e).at i)) (λ span. act span (done e)))
+  of_expr : (e : PExpr) (act : Span → Does → Comp Flow) → IsTrue (expr_closed e) → ((opened e).count ≡ 0) × ((i : ℕ) → ◌≡◌ {A = Span → Comp Flow} (λ span. act span ((opened e).at i)) (λ span. act span (done e)))
   of_expr e act h = let g = expr_says e h in (g.0, λ i. ap (λ d span. act span d) (g.1 i))
 
   abbrev stmts : List Stmt → List PStmt
@@ -106,16 +107,16 @@ module _ (prog : Prog) (bounds : Bounds) (values : List ℕ) (call : Calls) wher
   layer (S.Block ss) = rolled (down (S.Block ss)) (λ h. (none_in stmt_closed stmt_open stmt_exec ss h, λ i. ap (λ ms (span : Span). one_by_one ms) (all_say stmt_closed stmt_open stmt_exec ss i h)))
   layer (S.Declare slot x t e) = rolled (S.Declare slot x t e) (λ h. let g = any_says e h in (g.0, λ i. ap (λ d span. declare span slot t d) (g.1 i)))
   layer (S.Assign a e) = rolled (S.Assign a e) (λ h.
-      let both = and_parts (expr_filled a) (expr_filled e) h in let g = expr_says a both.0 in let k = expr_says e both.1 in
+      let both = and_parts (expr_closed a) (expr_closed e) h in let g = expr_says a both.0 in let k = expr_says e both.1 in
       (rw (g.0, k.0) refl, λ i. ap (λ d span. assign span d ((opened e).at (i + (opened a).count))) (g.1 i) ∙ ap (λ d span. assign span (done a) d) (k.1 (i + (opened a).count))))
   layer (S.Call e) = rolled (S.Call e) (of_expr e drop_value)
   layer (S.If c a None) = rolled (S.If c a.0 None) (λ h.
-      let first = and_parts (expr_filled c) (stmt_closed a.0 && true) h in
+      let first = and_parts (expr_closed c) (stmt_closed a.0 && true) h in
       let second = and_parts (stmt_closed a.0) true first.1 in
       let g = expr_says c first.0 in let k = a.1 second.0 in
       (rw (g.0, k.0) refl, λ i. ap (λ d span. branch span d ((stmt_open a.0).at (i + (opened c).count)) None) (g.1 i) ∙ ap (λ m span. branch span (done c) m None) (k.1 (i + (opened c).count))))
   layer (S.If c a (Some b)) = rolled (S.If c a.0 (Some b.0)) (λ h.
-      let first = and_parts (expr_filled c) (stmt_closed a.0 && stmt_closed b.0) h in
+      let first = and_parts (expr_closed c) (stmt_closed a.0 && stmt_closed b.0) h in
       let both = and_parts (stmt_closed a.0) (stmt_closed b.0) first.1 in
       let g = expr_says c first.0 in let k = a.1 both.0 in let l = b.1 both.1 in
       let j : ℕ → ℕ = λ i. i + ((opened c).count + (stmt_open a.0).count) in (
@@ -126,7 +127,7 @@ module _ (prog : Prog) (bounds : Bounds) (values : List ℕ) (call : Calls) wher
             ∙ ap (λ m span. branch span (done c) (stmt_exec a.0) (Some m)) (l.1 (j i)),
       ))
   layer (S.While c a) = rolled (S.While c a.0) (λ h.
-      let both = and_parts (expr_filled c) (stmt_closed a.0) h in let g = expr_says c both.0 in let k = a.1 both.1 in
+      let both = and_parts (expr_closed c) (stmt_closed a.0) h in let g = expr_says c both.0 in let k = a.1 both.1 in
       (rw (g.0, k.0) refl, λ i. ap (λ d span. turns bounds.unroll span d ((stmt_open a.0).at (i + (opened c).count))) (g.1 i) ∙ ap (λ m span. turns bounds.unroll span (done c) m) (k.1 (i + (opened c).count))))
   layer (S.Return e) = rolled (S.Return e) (λ h. let g = any_says e h in (g.0, λ i. ap (λ d span. return span d) (g.1 i)))
   layer (S.Assert e) = rolled (S.Assert e) (of_expr e assert)

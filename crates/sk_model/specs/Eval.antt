@@ -2,7 +2,7 @@
 -- right, and where it fails, it does so with the span of the innermost statement being executed.
 --
 -- It is said by one layer: the parts of a form have become what they do. What a call does is given.
-use Rattle.std.specs.Prelude.{ℕ, ◌+◌, ◌-◌, ◌==◌, pos, true, false, not, nat_le, if◌then◌else◌, List, [], ◌∷◌, ◌++◌, take, drop, length, slice_get, Option, Some, None}
+use Rattle.std.specs.Prelude.{ℕ, zero, ◌+◌, ◌-◌, ◌==◌, pos, true, false, not, nat_le, if◌then◌else◌, List, [], ◌∷◌, ◌++◌, take, drop, length, slice_get, Option, Some, None}
 use Rattle.sk_base.specs.declared.span.Span.{Span}
 use Rattle.sk_base.specs.Word.{wrapped}
 use Rattle.sk_prog.specs.declared.ids.FunId.{FunId}
@@ -126,6 +126,11 @@ abbrev pub add_index : Span → Location → Value → Comp Location
 add_index span location (value.Int i) = pure (record { root = location.root; indexes = location.indexes ++ i ∷ [] })
 add_index span location _ = fail span
 
+-- A hole of no bits has one value, which is no bits. Any other hole has none before it is filled.
+abbrev pub unfilled : Option Ty → Span → Comp Value
+unfilled (Some (ty.Array elem.Bit zero)) span = pure (value.Array [])
+unfilled t span = fail span
+
 module _ (prog : Prog) (width : ℕ) (call : Calls) where
   abbrev pub call_value : Span → FunId → List Does → Comp Value
   call_value span f args =
@@ -134,7 +139,7 @@ module _ (prog : Prog) (width : ℕ) (call : Calls) where
       copy_back span (ref_args (params_of (slice_get prog.funs f.index)) args) called.refs >>= (λ u.
       pure (result_value called.result))))
 
-  -- A hole and a pattern have no value before they are filled.
+  -- A pattern has no value before it is filled.
   abbrev pub eval_form : {X : Type 0} → P.PEForm-F X Does (ℕ × Does) → Option Ty → Span → Comp Value
   eval_form (P.Number n) t span = pure (literal width t n)
   eval_form P.True t span = pure (value.Bit true)
@@ -142,7 +147,7 @@ module _ (prog : Prog) (width : ℕ) (call : Calls) where
   eval_form P.Null t span = pure value.Null
   eval_form (P.Var slot x) t span = read slot
   eval_form (P.Const c) t span = pure (const_value (slice_get prog.consts c.index))
-  eval_form (P.Hole bits) t span = fail span
+  eval_form (P.Hole bits) t span = unfilled t span
   eval_form (P.Pattern strings) t span = fail span
   eval_form (P.Paren a) t span = a.value span
   eval_form (P.Call f args) t span = call_value span f args

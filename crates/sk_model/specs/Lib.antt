@@ -20,7 +20,7 @@ pub mod Run
 pub mod Open
 pub mod Filled
 pub mod Closed
-pub mod HoleBits
+pub mod ClosedExprs
 pub mod Obligations
 pub mod Inputs
 pub mod Meets

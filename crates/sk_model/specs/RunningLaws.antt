@@ -11,7 +11,6 @@ use Rattle.sk_model.specs.declared.outcome.Outcome.TheVariants as outcome
 use Rattle.sk_model.specs.Run.{run}
 use Rattle.sk_model.specs.Filled.{is_filled}
 use Rattle.sk_model.specs.Closed.{is_closed}
-use Rattle.sk_model.specs.HoleBits.{holes_have_bits}
 use Rattle.sk_model.specs.Sites.{sites}
 use Rattle.sk_model.specs.Fill.{fill}
 use Rattle.sk_model.specs.Open.{run_open}
@@ -40,13 +39,13 @@ OpenRunIsRun = (e : Expanded) (a : Choice) (f : FunId) (args : List Value) (boun
 abbrev pub FilledIsClosed : Type 0
 FilledIsClosed = (p : Prog) → IsTrue (is_filled p) → IsTrue (is_closed p)
 
--- A program without sites leaves nothing open, where no hole has the type `bit[0]`.
+-- A program without sites leaves nothing open.
 abbrev pub NoSitesIsClosed : Type 0
-NoSitesIsClosed = (bounds : Bounds) (p : Prog) → IsTrue (holes_have_bits p) → sites bounds p ≡ [] → IsTrue (is_closed p)
+NoSitesIsClosed = (bounds : Bounds) (p : Prog) → sites bounds p ≡ [] → IsTrue (is_closed p)
 
 -- So where a program has no sites, its run under any choice is its run.
 abbrev pub RunWithoutSites : Type 0
-RunWithoutSites = (e : Expanded) (a : Choice) (f : FunId) (args : List Value) (bounds : Bounds) → IsTrue (holes_have_bits e.prog) → sites bounds e.prog ≡ [] → run_open e a f args bounds ≡ run e.prog f args bounds
+RunWithoutSites = (e : Expanded) (a : Choice) (f : FunId) (args : List Value) (bounds : Bounds) → sites bounds e.prog ≡ [] → run_open e a f args bounds ≡ run e.prog f args bounds
 
 -- A filling is filled.
 abbrev pub FillingIsFilled : Type 0

@@ -6,4 +6,4 @@ pub returns-clause-closed : goal.returns-clause-closed
 returns-clause-closed c = no_sites_closes
 
 pub returns-clause-runs : goal.returns-clause-runs
-returns-clause-runs c = λ e a f args bounds b none. closed_runs e a f args bounds (no_sites_closes bounds e.prog b none)
+returns-clause-runs c = λ e a f args bounds none. closed_runs e a f args bounds (no_sites_closes bounds e.prog none)
