@@ -14,35 +14,80 @@ fn runs_end_as_the_reference_says(rt: HostRuntime) -> Result<(), Fail> {
     Ok(())
 }
 
-/// A run of so many calls that are active at a time, each from so many parentheses in an expression of its caller:
-/// `int f(int x) { if (x == 0) return 0; return (..g(x - 1)..); }`, where f and g are among eight functions.
-fn deep(alloc: Global, calls: &str, parentheses: u32) -> Result<String, AllocError> {
+/// What a call can stand in, written before a statement, before an expression and behind it.
+const NESTS: [(&str, &str, &str); 10] = [
+    // (e)
+    ("", " i p", ""),
+    // -e
+    ("", " i u 2", ""),
+    // 0 + e
+    ("", " i o 3 i n 0", ""),
+    // e + 0
+    ("", " i o 3", " i n 0"),
+    // true ? e : 0
+    ("", " i q b t", " i n 0"),
+    // same(e)
+    ("", " i c 8 1", ""),
+    // {e}[0]
+    ("", " i i a 1 i b 1", " i n 0"),
+    // new S(n = e).n
+    ("", " i m 0 0 r 0 w 0 1 0", ""),
+    // { s }
+    (" 0 0 b 1", "", ""),
+    // while (true) s
+    (" 0 0 w b t", "", ""),
+];
+
+fn repeat(code: &mut String, word: &str, times: u32) -> Result<(), AllocError> {
+    for _ in 0..times {
+        code.push_str(word)?;
+    }
+    Ok(())
+}
+
+/// A run of 1 + n calls that are active at a time, each nested so deep in its caller: `int f(int x) { if (x == 0) return 0;
+/// return ..g(x - 1)..; }` eight times, each with the next in the place of g, and `int same(int x) { return x; }`.
+fn deep(
+    alloc: Global,
+    n: &str,
+    depth: u32,
+    (before, open, close): (&str, &str, &str),
+) -> Result<String, AllocError> {
     let mut code = String::from_str(alloc, "16 8 16 0 1 n ")?;
-    code.push_str(calls)?;
-    code.push_str(" 0 0 8")?;
+    code.push_str(n)?;
+    code.push_str(" 1 1 i 0 9")?;
     for callee in ["1", "2", "3", "4", "5", "6", "7", "0"] {
-        code.push_str(" i 1 0 i 40 2 0 0 i b o 11 i v 0 i n 0 0 0 r + i n 0 - 0 0 r +")?;
-        for _ in 0..parentheses {
-            code.push_str(" i p")?;
-        }
+        code.push_str(" i 1 0 i 40 2 0 0 i b o 11 i v 0 i n 0 0 0 r + i n 0 -")?;
+        repeat(&mut code, before, depth)?;
+        code.push_str(" 0 0 r +")?;
+        repeat(&mut code, open, depth)?;
         code.push_str(" i c ")?;
         code.push_str(callee)?;
         code.push_str(" 1 i o 4 i v 0 i n 1")?;
+        repeat(&mut code, close, depth)?;
     }
+    code.push_str(" i 1 0 i 40 1 0 0 r + i v 0")?;
     Ok(code)
 }
 
 #[test]
-fn a_deep_run_ends(rt: HostRuntime) -> Result<(), Fail> {
-    let code = deep(rt.alloc(), "15", 240)?;
-    let end = ending(rt.alloc(), code.as_str())?;
-    assert!(rt; end.as_slice() == b"done + n 0 0 0");
+fn nested_runs_end(rt: HostRuntime) -> Result<(), Fail> {
+    for nest in NESTS {
+        let code = deep(rt.alloc(), "7", 100, nest)?;
+        let end = ending(rt.alloc(), code.as_str())?;
+        assert!(rt; end.as_slice() == b"done + n 0 0 0".as_slice());
+    }
     Ok(())
 }
 
+// 128 calls, each 250 deep in its caller: where this is too deep, memory is wanting, and the process goes on.
 #[test]
-fn the_deepest_run_does_not_end_the_process(rt: HostRuntime) -> Result<(), Fail> {
-    let code = deep(rt.alloc(), "127", 250)?;
-    assert!(rt; ending(rt.alloc(), code.as_str()).is_err());
+fn the_deepest_runs_leave_the_process(rt: HostRuntime) -> Result<(), Fail> {
+    for nest in NESTS {
+        let code = deep(rt.alloc(), "127", 250, nest)?;
+        if let Ok(end) = ending(rt.alloc(), code.as_str()) {
+            assert!(rt; end.as_slice() == b"done + n 0 0 0".as_slice());
+        }
+    }
     Ok(())
 }
