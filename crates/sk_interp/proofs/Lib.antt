@@ -3,3 +3,5 @@ pub mod Equal
 pub mod Ripples
 pub mod Operating
 pub mod Memories
+pub mod Activations
+pub mod Running

@@ -1,5 +1,5 @@
--- Division of values.
-use Rattle.std.proofs.Common.{◌≡◌, zero, suc, ℤ, pos, negsuc, true, false, true≢false, sym, ◌∙◌, ◌≢◌, ℕ, refl}
+-- Operators on values, and holes that are not filled.
+use Rattle.std.proofs.Common.{◌≡◌, zero, suc, ℤ, pos, negsuc, true, false, true≢false, sym, ◌∙◌, ◌≢◌, ℕ, refl, Some}
 use Rattle.std.proofs.lemmas.Bool.Decides.{Decides-int_eq}
 use Rattle.std.specs.Ordering.{int_eq}
 use Rattle.sk_base.specs.declared.span.Span.{Span}
@@ -9,6 +9,9 @@ use Rattle.sk_prog.specs.declared.expr.BinOp.{BinOp}
 use Rattle.sk_prog.specs.declared.expr.BinOp.TheVariants as op
 use Rattle.sk_model.specs.Step.{State, Goes, Fails}
 use Rattle.sk_model.specs.Operators.{divided, operator, on_operands, operand}
+use Rattle.sk_model.specs.Eval.{unfilled}
+use Rattle.sk_prog.specs.declared.ty.Elem.TheVariants as elem
+use Rattle.sk_prog.specs.declared.ty.Ty.TheVariants as ty
 
 module _ (span : Span) (z : ℤ) (s : State) where
   pub divided_none : (y : ℤ) → int_eq y (pos 0) ≡ true → divided span y z s ≡ Fails span
@@ -41,3 +44,8 @@ others width span op.Xor v w e n = refl
 others width span op.Or v w e n = refl
 others width span op.AndThen v w e n = refl
 others width span op.OrElse v w e n = refl
+
+-- a hole of a bit or more
+pub some_bits : (n : ℕ) (span : Span) (s : State) → n ≢ 0 → unfilled (Some (ty.Array elem.Bit n)) span s ≡ Fails span
+some_bits zero span s h = absurd (h refl)
+some_bits (suc n) span s h = refl

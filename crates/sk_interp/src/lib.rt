@@ -1,12 +1,19 @@
 //! Runs typed programs as their meaning says.
 #![tactic(auto)]
 
+mod activation;
 mod bits;
+mod call;
+mod entry;
+mod location;
 mod memory;
 mod number;
 mod operator;
 mod part;
+mod record;
 mod stop;
 #[cfg(test)]
 mod tests;
 mod value;
+
+pub use entry::exec;

@@ -14,10 +14,10 @@ use std::alloc::{AllocError, Global};
 use std::marker::Model;
 
 /// A copy of the value with this number, the blank where there is none.
-fn copy_at(alloc: Global, vs: &[Value], i: u32) -> Result<Value, AllocError>
+pub fn copy_at(alloc: Global, vs: &[Value], i: usize) -> Result<Value, AllocError>
     ensures { IfOk result (λ v. v ≡ slice_index_or vs.now i blank) }
 {
-    match vs.get(i as usize) {
+    match vs.get(i) {
         Some(v) => {
             let made = copy(alloc, v)?;
             Ok(made)
@@ -28,7 +28,7 @@ fn copy_at(alloc: Global, vs: &[Value], i: u32) -> Result<Value, AllocError>
 
 /// So many blanks behind.
 #[tactic(auto, using(crate::proofs::Ripples::copy_on))]
-fn add_blanks(slots: &mut List<Value>, count: usize) -> Result<(), AllocError>
+pub fn add_blanks(slots: &mut List<Value>, count: usize) -> Result<(), AllocError>
     ensures { OnOk result (slots.new ≡ slots.old ++ replicate count blank) }
 {
     for _ in 0..count {
@@ -115,7 +115,7 @@ impl Memory {
     pub fn read(&self, alloc: Global, slot: u32) -> Result<Value, AllocError>
         ensures { IfOk result (λ v. v ≡ slice_index_or self.now.slots slot blank) }
     {
-        let made = copy_at(alloc, self.slots.as_slice(), slot)?;
+        let made = copy_at(alloc, self.slots.as_slice(), slot as usize)?;
         Ok(made)
     }
 
@@ -124,6 +124,14 @@ impl Memory {
     {
         write_at(&mut self.slots, slot, v)?;
         Ok(())
+    }
+
+    /// Puts other variables in the place of all, and hands these out.
+    pub fn exchange(&mut self, slots: List<Value>) -> List<Value>
+        ensures before { result ≡ self.old.slots }
+        ensures now { self.new ≡ record self.old { slots = slots } }
+    {
+        std::mem::replace(&mut self.slots, slots)
     }
 
     /// Adds a record to the heap.
@@ -148,7 +156,7 @@ impl Memory {
     {
         match self.heap.get(place) {
             Some(fields) => {
-                let made = copy_at(alloc, fields.as_slice(), field)?;
+                let made = copy_at(alloc, fields.as_slice(), field as usize)?;
                 Ok(made)
             }
             None => Ok(Value::Int(0)),

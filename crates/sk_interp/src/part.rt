@@ -1,12 +1,12 @@
 //! Written numbers, elements and slices.
 
 ghost use Rattle.std.specs.Prelude.{◌≡◌, ◌≤◌, IfOk};
-ghost use Rattle.sk_model.specs.Eval.{number_at, literal, padded_at, indexed, sliced};
+ghost use Rattle.sk_model.specs.Eval.{number_at, literal, padded_at, unfilled, indexed, sliced};
 ghost use Rattle.sk_interp.specs.Gives.{Computes};
 
 use crate::stop::Stop;
 use crate::value::{copy, copy_all, element, elements, padded};
-use sk_base::{Span, wrap};
+use sk_base::{List, Span, wrap};
 use sk_prog::{Elem, Ty, Value};
 use std::alloc::{AllocError, Global};
 
@@ -52,6 +52,26 @@ pub fn padded_at(alloc: Global, ty: Option<Ty>, v: Value) -> Result<Value, Alloc
         Some(t) => {
             let made = padded(alloc, t, v)?;
             Ok(made)
+        }
+    }
+}
+
+/// The value of a hole that was not filled: a hole of no bits has no bits, and no other has one.
+#[tactic(auto, using(crate::proofs::Operating::some_bits))]
+pub fn unfilled(alloc: Global, span: Span, ty: Option<Ty>) -> Result<Value, Stop>
+    ensures { Computes result (unfilled ty span) }
+{
+    match ty {
+        None => Err(Stop::Failed { span }),
+        Some(Ty::One(_)) => Err(Stop::Failed { span }),
+        Some(Ty::Grid(_, _, _)) => Err(Stop::Failed { span }),
+        Some(Ty::Array(Elem::Int, _)) => Err(Stop::Failed { span }),
+        Some(Ty::Array(Elem::Reference(_), _)) => Err(Stop::Failed { span }),
+        Some(Ty::Array(Elem::Bit, n)) => {
+            if n == 0 {
+                return Ok(Value::Array(List::new(alloc)));
+            }
+            Err(Stop::Failed { span })
         }
     }
 }

@@ -1,10 +1,14 @@
-//! The primitives at values worked out by hand.
+//! The primitives at values worked out by hand, and one run. Tables of runs stand in `sk_run_rows`.
 use crate::bits::{moved_down, moved_up, sum_of};
+use crate::exec;
 use crate::memory::Memory;
 use crate::number::{add, divide, multiply, negate, remainder, subtract};
 use crate::value::{equal, replaced, zero_of};
-use sk_prog::{Elem, Ty, Value};
-use std::alloc::AllocError;
+use sk_base::{Bounds, List, Name, Span};
+use sk_model::Outcome;
+use sk_prog::{Elem, Fun, FunId, FunKind, PEForm, PExpr, PForm, PStmt, Prog, Ty, Value};
+use std::alloc::{AllocError, Global};
+use std::test::Fail;
 
 #[test]
 fn numbers(rt: HostRuntime) {
@@ -50,5 +54,55 @@ fn parts(rt: HostRuntime) -> Result<(), AllocError> {
     assert!(rt; !equal(&zero, &made));
     let none = replaced(rt.alloc(), [2].as_slice(), &zero, Value::Int(7))?;
     assert!(rt; none.is_none());
+    Ok(())
+}
+
+/// `int f() { return 7; }`
+fn seven(alloc: Global) -> Result<Prog, AllocError> {
+    let span = Span { from: 10, to: 19 };
+    let ty = Some(Ty::One(Elem::Int));
+    let form = PEForm::Number(7);
+    let mut body = List::new(alloc);
+    body.push(PStmt {
+        span,
+        form: PForm::Return(Some(PExpr { span, ty, form })),
+    })?;
+    let mut funs = List::new(alloc);
+    funs.push(Fun {
+        name: Name::from_vec(Vec::new(alloc)),
+        kind: FunKind::Plain,
+        result: ty,
+        params: List::new(alloc),
+        slots: 0,
+        implements: None,
+        body,
+    })?;
+    Ok(Prog {
+        structs: List::new(alloc),
+        consts: List::new(alloc),
+        funs,
+    })
+}
+
+#[test]
+fn a_run_ends(rt: HostRuntime) -> Result<(), Fail> {
+    let prog = seven(rt.alloc())?;
+    let bounds = Bounds {
+        int_bits: 8,
+        cbits: 1,
+        inbits: 1,
+        unroll: 8,
+        inline_amnt: 5,
+    };
+    let outcome = exec(rt.alloc(), &prog, FunId { index: 0 }, &[], &bounds)?;
+    let Outcome::Done { result, refs, cost } = outcome else {
+        panic!(rt; "it is done");
+    };
+    let Some(v) = result else {
+        panic!(rt; "it has a result");
+    };
+    assert!(rt; equal(&v, &Value::Int(7)));
+    assert!(rt; refs.is_empty());
+    assert_eq!(rt; cost, 0);
     Ok(())
 }

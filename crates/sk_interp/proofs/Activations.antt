@@ -1,0 +1,192 @@
+-- How the meaning goes on.
+use Rattle.std.proofs.Common.{◌≡◌, ℕ, zero, ◌+◌, ◌-◌, ◌<◌, List, [], ◌∷◌, ◌++◌, ◌==◌, length, drop, get_or, refl, sym, ap, ◌∙◌, suc, add-one, sub-one, append_assoc, arith, subst, ◌≤◌, map, Option, Some, None, Bool, true, false, ◌&&◌}
+use Rattle.std.specs.Prelude.{slice_get, count_by, nat_lt, if◌then◌else◌}
+use Rattle.std.proofs.Math.Seq.{drop-cons}
+use Rattle.sk_base.specs.declared.span.Span.{Span}
+use Rattle.sk_prog.specs.declared.value.Value.{Value}
+use Rattle.sk_prog.specs.declared.expr.BinOp.{BinOp}
+use Rattle.sk_prog.specs.declared.expr.BinOp.TheVariants as op
+use Rattle.std.proofs.Common.{◌≢◌}
+use Rattle.sk_model.specs.Step.{State, Step, Goes, Fails, Skips, Comp, and_then}
+use Rattle.sk_model.specs.Operators.{operator}
+use Rattle.std.proofs.lemmas.List.{drop_all}
+use Rattle.std.proofs.lemmas.Bool.{lt-ltb}
+use Rattle.sk_prog.specs.declared.value.Value.TheVariants as value
+use Rattle.sk_prog.specs.declared.ids.FunId.{FunId}
+use Rattle.sk_prog.specs.declared.ids.StructId.{StructId}
+use Rattle.sk_prog.specs.declared.expr.PExpr.{PExpr}
+use Rattle.sk_prog.specs.declared.expr.PField.{PField}
+use Rattle.sk_prog.specs.declared.expr.PEForm.TheVariants as eform
+use Rattle.sk_model.specs.Heap.{allocate}
+use Rattle.sk_model.proofs.Forms.{does_call, does_new, does_braces, field_does, field_does_is}
+use Rattle.sk_model.specs.Eval.{binary, Does, Called, choose, copy_back, ref_args, fields_in_order}
+use Rattle.sk_model.specs.Exec.{Flow, Onward, Returns, turns, unless_returned, exec_all}
+use Rattle.sk_model.specs.Run.{calls, Bodies, filled_bodies, body_of, in_frame, first_slots, result_of, refs_from}
+use Rattle.sk_model.specs.Step.{◌>>=◌, pure, fail}
+use Rattle.sk_prog.specs.declared.prog.Prog.{Prog}
+use Rattle.sk_prog.specs.declared.prog.Fun.{Fun}
+use Rattle.sk_prog.specs.declared.prog.ParamDef.{ParamDef}
+use Rattle.sk_base.specs.declared.bounds.Bounds.{Bounds}
+use Rattle.sk_interp.specs.declared.activation.Activation.{Activation}
+use Rattle.sk_interp.specs.declared.stop.Stop.{Stop}
+use Rattle.sk_interp.specs.declared.stop.Stop.TheVariants.{Failed, Skipped, NoMemory}
+use Rattle.sk_interp.specs.Gives.{Stops}
+use Rattle.sk_interp.specs.Calling.{calls_in, does_in, each_in, field_in, value_of_call, value_of_new, value_of_braces, callee, called_by, body_in}
+
+-- all operators but `&&` and `||` evaluate both parts
+pub eager : (width : ℕ) (span : Span) (o : BinOp) (a b : Comp Value) (s : State) → o ≢ op.AndThen → o ≢ op.OrElse → binary width span o a b s ≡ and_then (a s) (λ v t. and_then (b t) (operator width span o v))
+eager width span op.Mul a b s e n = refl
+eager width span op.Div a b s e n = refl
+eager width span op.Rem a b s e n = refl
+eager width span op.Add a b s e n = refl
+eager width span op.Sub a b s e n = refl
+eager width span op.Shl a b s e n = refl
+eager width span op.Shr a b s e n = refl
+eager width span op.Lt a b s e n = refl
+eager width span op.Le a b s e n = refl
+eager width span op.Gt a b s e n = refl
+eager width span op.Ge a b s e n = refl
+eager width span op.Eq a b s e n = refl
+eager width span op.Ne a b s e n = refl
+eager width span op.And a b s e n = refl
+eager width span op.Xor a b s e n = refl
+eager width span op.Or a b s e n = refl
+eager width span op.AndThen a b s e n = absurd (e refl)
+eager width span op.OrElse a b s e n = absurd (n refl)
+
+-- the item that a loop is at
+pub split_at : {X : Type 0} (xs : List X) (i : ℕ) (x : X) → i < length xs → x ≡ get_or xs i x → drop i xs ≡ x ∷ drop (i + 1) xs
+split_at xs i x h e = drop-cons xs i x h ∙ ap (λ y. y ∷ drop (suc i) xs) (sym e) ∙ ap (λ n. x ∷ drop n xs) (sym (add-one i))
+
+-- one more value
+pub value_on : {A : Type 0} (m : Step (List A)) (values : List A) (v : A) → and_then (and_then m (λ rest s. Goes (v ∷ rest) s)) (λ rest s. Goes (values ++ rest) s) ≡ and_then m (λ rest s. Goes ((values ++ v ∷ []) ++ rest) s)
+value_on (Goes rest s) values v = ap (λ l. Goes l s) (sym (append_assoc values (v ∷ []) rest))
+value_on (Fails span) values v = refl
+value_on (Skips span) values v = refl
+
+abbrev by_fun : (Fun → Comp Flow) → Span → List Value → Option Fun → Comp Called
+by_fun fun_does span args None = fail span
+by_fun fun_does span args (Some fun) = in_frame fun args (fun_does fun)
+
+-- an end is passed on
+pub stops_on : {A B : Type 0} (e : Stop) (m : Step A) (k : A → Comp B) → Stops e m → Stops e (and_then m k)
+stops_on (Failed span) m k h = ap (λ n. and_then n k) h
+stops_on (Skipped span) m k h = ap (λ n. and_then n k) h
+stops_on NoMemory m k h = tt
+
+-- one more turn of a loop
+pub turn_on : (n k : ℕ) (span : Span) (cond : Does) (body : Comp Flow) (s : State) → k < n → turns (n - k) span cond body s ≡ and_then (cond.value span s) (choose span (body >>= unless_returned (turns (n - (k + 1)) span cond body)) (pure Onward))
+turn_on n k span cond body s h =
+    let e : n - k ≡ suc (n - (k + 1)) = omega arith in
+    ap (λ m. turns m span cond body s) e
+
+-- no argument is left
+pub no_args : (params : List ParamDef) → ref_args params [] ≡ []
+no_args [] = refl
+no_args (p ∷ ps) = refl
+
+-- a call by the function that it means
+module _ (span : Span) (args : List Value) (s : State) where
+  may_call : (fun_does : Fun → Comp Flow) (few : Bool) (found : Option Fun) → (if few then body_of fun_does span found args else fail span) s ≡ by_fun fun_does span args (if few then found else None) s
+  may_call fun_does true None = refl
+  may_call fun_does true (Some fun) = refl
+  may_call fun_does false found = refl
+
+  calls_by : (prog : Prog) (b : Bounds) (bodies : Bodies) (active : List ℕ) (f left : ℕ) → calls prog b bodies left active span f args s ≡ by_fun (bodies (calls prog b bodies (left - 1) (active ++ f ∷ [])) f) span args (if nat_lt 0 left && nat_lt (count_by (λ g. g == f) active) b.inline_amnt then slice_get prog.funs f else None) s
+  unfolding calls
+  calls_by prog b bodies active f zero = refl
+  calls_by prog b bodies active f (suc left) =
+      let some : 0 < suc left = omega arith in
+      let may : nat_lt 0 (suc left) ≡ true = rw lt-ltb refl in
+      rw (may, sub-one) (may_call (bodies (calls prog b bodies left (active ++ f ∷ [])) f) (nat_lt (count_by (λ g. g == f) active) b.inline_amnt) (slice_get prog.funs f))
+
+  by_found : (a : Activation) (f : ℕ) (found : Option Fun) → by_fun (body_in a f) span args found s ≡ called_by a span f args found s
+  by_found a f None = refl
+  by_found a f (Some fun) = refl
+
+  pub calls_are : (a : Activation) (f : ℕ) → calls_in a span f args s ≡ called_by a span f args (callee a f) s
+  calls_are a f = calls_by a.prog.now a.bounds (filled_bodies a.prog.now a.bounds) a.active.now f a.left ∙ by_found a f (callee a f)
+
+-- what is done inside a call of this function, where these calls are active
+abbrev pub inside : Activation → List ℕ → Fun → Comp Flow
+inside a active fun = exec_all a.prog.now a.bounds (calls a.prog.now a.bounds (filled_bodies a.prog.now a.bounds) (a.left - 1) active) fun.body
+
+-- a call that is not made
+pub call_fails : (a : Activation) (span : Span) (f : ℕ) (args : List Value) (s : State) → callee a f ≡ None → calls_in a span f args s ≡ Fails span
+call_fails a span f args s e = calls_are span args s a f ∙ ap (λ found. called_by a span f args found s) e
+
+-- a call by what is done inside
+call_is : (a : Activation) (span : Span) (f : ℕ) (args : List Value) (s t : State) (fun : Fun) (active : List ℕ) (m : Step Flow) → callee a f ≡ Some fun → active ≡ a.active.now ++ f ∷ [] → t ≡ record s { slots = first_slots fun args } → inside a active fun t ≡ m → calls_in a span f args s ≡ and_then m (λ flow end. Goes (record { result = result_of fun.result flow; refs = refs_from 0 fun.params end.slots }) (record end { slots = s.slots }))
+call_is a span f args s t fun active m e ea et em = calls_are span args s a f ∙ ap (λ found. called_by a span f args found s) e ∙ rw (← ea, ← et, em) refl
+
+pub call_goes : (a : Activation) (span : Span) (f : ℕ) (args : List Value) (s t : State) (fun : Fun) (active : List ℕ) (flow : Flow) (end : State) (called : Called) (slots : List Value) (after : State) → callee a f ≡ Some fun → active ≡ a.active.now ++ f ∷ [] → t ≡ record s { slots = first_slots fun args } → inside a active fun t ≡ Goes flow end → called ≡ record { result = result_of fun.result flow; refs = refs_from 0 fun.params slots } → slots ≡ end.slots → after ≡ record end { slots = s.slots } → calls_in a span f args s ≡ Goes called after
+call_goes a span f args s t fun active flow end called slots after e ea et em ec es eo =
+    call_is a span f args s t fun active (Goes flow end) e ea et em
+    ∙ sym (ap (λ v. Goes v after) (ec ∙ ap (λ l. record { result = result_of fun.result flow; refs = refs_from 0 fun.params l }) es)
+    ∙ ap (λ state. Goes (record { result = result_of fun.result flow; refs = refs_from 0 fun.params end.slots }) state) eo)
+
+pub call_stops : (a : Activation) (span : Span) (f : ℕ) (args : List Value) (s t : State) (fun : Fun) (active : List ℕ) (stop : Stop) → callee a f ≡ Some fun → active ≡ a.active.now ++ f ∷ [] → t ≡ record s { slots = first_slots fun args } → Stops stop (inside a active fun t) → Stops stop (calls_in a span f args s)
+call_stops a span f args s t fun active (Failed at) e ea et h = call_is a span f args s t fun active (Fails at) e ea et h
+call_stops a span f args s t fun active (Skipped at) e ea et h = call_is a span f args s t fun active (Skips at) e ea et h
+call_stops a span f args s t fun active NoMemory e ea et h = tt
+
+-- the turn that a loop is at, from where it began
+module _ (n k : ℕ) (span : Span) (cond : Does) (body : Comp Flow) (s t : State) (h : k < n) (inv : turns n span cond body s ≡ turns (n - k) span cond body t) where
+  turn_is : turns n span cond body s ≡ and_then (cond.value span t) (choose span (body >>= unless_returned (turns (n - (k + 1)) span cond body)) (pure Onward))
+  turn_is = inv ∙ turn_on n k span cond body t h
+
+  pub turn_stops : (stop : Stop) → Stops stop (cond.value span t) → Stops stop (turns n span cond body s)
+  turn_stops stop e = subst (Stops stop) (sym turn_is) (stops_on stop (cond.value span t) (choose span (body >>= unless_returned (turns (n - (k + 1)) span cond body)) (pure Onward)) e)
+
+  pub turn_is_last : (u : State) → cond.value span t ≡ Goes (value.Bit false) u → turns n span cond body s ≡ Goes Onward u
+  turn_is_last u e = turn_is ∙ ap (λ m. and_then m (choose span (body >>= unless_returned (turns (n - (k + 1)) span cond body)) (pure Onward))) e
+
+  body_is : (u : State) → cond.value span t ≡ Goes (value.Bit true) u → turns n span cond body s ≡ and_then (body u) (unless_returned (turns (n - (k + 1)) span cond body))
+  body_is u e = turn_is ∙ ap (λ m. and_then m (choose span (body >>= unless_returned (turns (n - (k + 1)) span cond body)) (pure Onward))) e
+
+  pub body_stops : (u : State) (stop : Stop) → cond.value span t ≡ Goes (value.Bit true) u → Stops stop (body u) → Stops stop (turns n span cond body s)
+  body_stops u stop e b = subst (Stops stop) (sym (body_is u e)) (stops_on stop (body u) (unless_returned (turns (n - (k + 1)) span cond body)) b)
+
+  pub body_returns : (u v : State) (r : Option Value) → cond.value span t ≡ Goes (value.Bit true) u → body u ≡ Goes (Returns r) v → turns n span cond body s ≡ Goes (Returns r) v
+  body_returns u v r e b = body_is u e ∙ ap (λ m. and_then m (unless_returned (turns (n - (k + 1)) span cond body))) b
+
+-- where no turn is left
+module _ (n k : ℕ) (span : Span) (cond : Does) (body : Comp Flow) (s t : State) (h : n ≤ k) (inv : turns n span cond body s ≡ turns (n - k) span cond body t) where
+  pub end_is : turns n span cond body s ≡ and_then (cond.value span t) (choose span (fail span) (pure Onward))
+  end_is =
+      let e : n - k ≡ 0 = omega (arith, h) in
+      inv ∙ ap (λ m. turns m span cond body t) e
+
+  pub end_stops : (stop : Stop) → Stops stop (cond.value span t) → Stops stop (turns n span cond body s)
+  end_stops stop e = subst (Stops stop) (sym end_is) (stops_on stop (cond.value span t) (choose span (fail span) (pure Onward)) e)
+
+-- fields of `new`
+same_fields : (a : Activation) (fields : List PField) → map (field_does a.prog.now a.bounds.int_bits (calls_in a)) fields ≡ map (field_in a) fields
+same_fields a [] = refl
+same_fields a (f ∷ fs) = ap (λ x. x ∷ map (field_does a.prog.now a.bounds.int_bits (calls_in a)) fs) (field_does_is a.prog.now a.bounds.int_bits (calls_in a) f.field f.value) ∙ ap (λ l. field_in a f ∷ l) (same_fields a fs)
+
+-- what the forms with lists do
+module _ (a : Activation) (e : PExpr) (span : Span) (s : State) where
+  pub braces_does : (parts : List PExpr) → e.form ≡ eform.Braces parts → (does_in a e).value span s ≡ value_of_braces a span e.ty parts s
+  braces_does parts is =
+      ap (λ form. (does_in a (record { span = e.span; ty = e.ty; form = form })).value span s) is
+      ∙ ap (λ (d : Does). d.value span s) (does_braces a.prog.now a.bounds.int_bits (calls_in a) e.span e.ty parts)
+
+  pub new_does : (d : StructId) (fields : List PField) → e.form ≡ eform.New d fields → (does_in a e).value span s ≡ value_of_new a span d fields s
+  new_does d fields is =
+      ap (λ form. (does_in a (record { span = e.span; ty = e.ty; form = form })).value span s) is
+      ∙ ap (λ (d : Does). d.value span s) (does_new a.prog.now a.bounds.int_bits (calls_in a) e.span e.ty d fields)
+      ∙ ap (λ l. and_then (fields_in_order span l s) (allocate a.prog.now d)) (same_fields a fields)
+
+  pub call_does : (f : FunId) (args : List PExpr) → e.form ≡ eform.Call f args → (does_in a e).value span s ≡ value_of_call a span f args s
+  call_does f args is =
+      ap (λ form. (does_in a (record { span = e.span; ty = e.ty; form = form })).value span s) is
+      ∙ ap (λ (d : Does). d.value span s) (does_call a.prog.now a.bounds.int_bits (calls_in a) e.span e.ty f args)
+
+-- where no argument is left
+pub back_over : (x : Step (Unit {0})) (a : Activation) (span : Span) (params : List ParamDef) (args : List PExpr) (i : ℕ) (refs : List Value) (t : State) → length args ≤ i → x ≡ copy_back span (ref_args params (each_in a (drop i args))) refs t → x ≡ Goes tt t
+back_over x a span params args i refs t h e =
+    let none : drop i args ≡ [] = drop_all i args h in
+    e ∙ ap (λ l. copy_back span (ref_args params (each_in a l)) refs t) none ∙ ap (λ l. copy_back span l refs t) (no_args params)
+
+pub ruleset back = (no_args, split_at)

@@ -1,0 +1,41 @@
+use Rattle.std.proofs.Common.{◌≡◌, Some, None, sym, ap, subst, ◌∙◌, arith}
+use Rattle.std.specs.Option.{option_copied}
+use Rattle.std.proofs.lemmas.Result.{err_from_is_err_and}
+use Rattle.sk_interp.specs.Gives.{Gives}
+use Rattle.sk_interp.specs.Calling.{callee, called_of, flow_of}
+use Rattle.sk_interp.proofs.Activations.{call_fails, call_goes, call_stops, back_over, call_does, new_does, braces_does}
+use Rattle.sk_interp.proofs.activation.Activation.+run.Goals as goal
+
+pub call-returns-in-None : goal.call-returns-in-None
+call-returns-in-None t c =
+    let at : callee c.args.self.now c.args.f ≡ None = sym c.callee.ensures ∙ ap option_copied c.in-None.is in
+    call_fails c.args.self.now c.args.span c.args.f c.args.args c.args.memory.now at
+
+pub call-returns-in_err-flow : goal.call-returns-in_err-flow
+call-returns-in_err-flow t c =
+    let p = err_from_is_err_and c.from_residual-in_err-flow.result c.from_residual-in_err-flow.ensures.1 in
+    let at : callee c.args.self.now c.args.f ≡ Some c.in-Some.fun.now = sym c.callee.ensures ∙ ap option_copied c.in-Some.is in
+    let body = rw c.as_slice-2.ensures at c.in_err-flow.ensures in
+    let first = c.exchange-outer.ensures.now ∙ ap (λ l. record c.args.memory.now { slots = l }) c.in_ok-first_slots.ensures in
+    rw (p.1, p.2) (call_stops c.args.self.now c.args.span c.args.f c.args.args c.args.memory.now c.exchange-outer.new.self c.in-Some.fun.now c.as_slice.result.now _ at (c.as_slice.ensures.value ∙ c.in_ok-active.ensures) first body)
+
+pub call-returns : goal.call-returns
+call-returns t c =
+    let at : callee c.args.self.now c.args.f ≡ Some c.in-Some.fun.now = sym c.callee.ensures ∙ ap option_copied c.in-Some.is in
+    let body = rw c.as_slice-2.ensures at c.in_ok-flow.ensures in
+    let first = c.exchange-outer.ensures.now ∙ ap (λ l. record c.args.memory.now { slots = l }) c.in_ok-first_slots.ensures in
+    let last = c.exchange-slots.ensures.now ∙ ap (λ l. record c.exec_all.new.memory { slots = l }) c.exchange-outer.ensures.before in
+    call_goes c.args.self.now c.args.span c.args.f c.args.args c.args.memory.now c.exchange-outer.new.self c.in-Some.fun.now c.as_slice.result.now (flow_of c.in_ok-flow.flow) c.exec_all.new.memory (called_of c.in_ok-called.called) c.as_slice-3.result.now c.exchange-slots.new.self
+    at (c.as_slice.ensures.value ∙ c.in_ok-active.ensures) first body c.in_ok-called.ensures (c.as_slice-3.ensures ∙ c.exchange-slots.ensures.before) last
+
+pub copy_back-returns : goal.copy_back-returns
+copy_back-returns t c = back_over _ c.args.self.now c.args.span c.loop-a.params.now c.args.args.now c.loop-a.a-index c.loop-a.refs.now c.loop-a.memory (omega arith) c.loop-a.invariant
+
+pub eval-returns-in-Call : goal.eval-returns-in-Call
+eval-returns-in-Call t c = subst (λ m. Gives c.call_value.result c.call_value.new.memory m) (sym (call_does c.args.self.now c.args.e.now c.args.span c.args.memory.now c.in-Call.f c.in-Call.args c.in-Call.is)) c.call_value.ensures
+
+pub eval-returns-in-New : goal.eval-returns-in-New
+eval-returns-in-New t c = subst (λ m. Gives c.new_record.result c.new_record.new.memory m) (sym (new_does c.args.self.now c.args.e.now c.args.span c.args.memory.now c.in-New.s c.in-New.fields c.in-New.is)) c.new_record.ensures
+
+pub eval-returns-in-Braces : goal.eval-returns-in-Braces
+eval-returns-in-Braces t c = subst (λ m. Gives c.braces.result c.braces.new.memory m) (sym (braces_does c.args.self.now c.args.e.now c.args.span c.args.memory.now c.in-Braces.parts c.in-Braces.is)) c.braces.ensures

@@ -1,0 +1,67 @@
+use Rattle.std.proofs.Common.{◌≡◌, ◌+◌, ◌*◌, ◌-◌, ◌++◌, drop, map}
+use Rattle.sk_model.specs.Step.{and_then, Goes}
+use Rattle.sk_model.specs.Eval.{in_order, fields_in_order, copy_back, ref_args}
+use Rattle.sk_model.specs.Exec.{turns}
+use Rattle.sk_interp.specs.Calling.{does_in, each_in, field_in, exec_in, exec_all_in}
+use Rattle.sk_interp.proofs.activation.Activation.+run.Given as goal
+
+abbrev pub decreases-eval : goal.decreases-eval
+decreases-eval l = 4 * l.room
+
+abbrev pub decreases-target : goal.decreases-target
+decreases-target l = 4 * l.room
+
+abbrev pub decreases-exec : goal.decreases-exec
+decreases-exec l = 4 * l.room
+
+abbrev pub decreases-binary : goal.decreases-binary
+decreases-binary l = 4 * l.room + 1
+
+abbrev pub decreases-eval_all : goal.decreases-eval_all
+decreases-eval_all l = 4 * l.room + 1
+
+abbrev pub decreases-eval_fields : goal.decreases-eval_fields
+decreases-eval_fields l = 4 * l.room + 1
+
+abbrev pub decreases-copy_back : goal.decreases-copy_back
+decreases-copy_back l = 4 * l.room + 1
+
+abbrev pub decreases-turns : goal.decreases-turns
+decreases-turns l = 4 * l.room + 1
+
+abbrev pub decreases-exec_all : goal.decreases-exec_all
+decreases-exec_all l = 4 * l.room + 1
+
+abbrev pub decreases-call : goal.decreases-call
+decreases-call l = 4 * l.room + 2
+
+abbrev pub decreases-call_value : goal.decreases-call_value
+decreases-call_value l = 4 * l.room + 3
+
+abbrev pub decreases-new_record : goal.decreases-new_record
+decreases-new_record l = 4 * l.room + 3
+
+abbrev pub decreases-braces : goal.decreases-braces
+decreases-braces l = 4 * l.room + 3
+
+-- the values so far and those to come are all values
+abbrev pub invariant-eval_all-loop-e : goal.invariant-eval_all-loop-e
+invariant-eval_all-loop-e l =
+    in_order l.span (each_in l.self l.es) l.fn.memory ≡ and_then (in_order l.span (each_in l.self (drop l.e-index l.es)) l.memory) (λ rest s. Goes (l.values ++ rest) s)
+
+abbrev pub invariant-eval_fields-loop-f : goal.invariant-eval_fields-loop-f
+invariant-eval_fields-loop-f l =
+    fields_in_order l.span (map (field_in l.self) l.fields) l.fn.memory ≡ and_then (fields_in_order l.span (map (field_in l.self) (drop l.f-index l.fields)) l.memory) (λ rest s. Goes (l.set.items ++ rest) s)
+
+-- what is left to do from here is what there was to do from the start
+abbrev pub invariant-copy_back-loop-a : goal.invariant-copy_back-loop-a
+invariant-copy_back-loop-a l =
+    copy_back l.span (ref_args l.fn.params (each_in l.self l.args)) l.fn.refs l.fn.memory ≡ copy_back l.span (ref_args l.params (each_in l.self (drop l.a-index l.args))) l.refs l.memory
+
+abbrev pub invariant-exec_all-loop-stmt : goal.invariant-exec_all-loop-stmt
+invariant-exec_all-loop-stmt l =
+    exec_all_in l.self l.stmts l.fn.memory ≡ exec_all_in l.self (drop l.stmt-index l.stmts) l.memory
+
+abbrev pub invariant-turns-loop-turn : goal.invariant-turns-loop-turn
+invariant-turns-loop-turn l =
+    turns l.self.bounds.unroll l.span (does_in l.self l.cond) (exec_in l.self l.body) l.fn.memory ≡ turns (l.self.bounds.unroll - l._turn) l.span (does_in l.self l.cond) (exec_in l.self l.body) l.memory

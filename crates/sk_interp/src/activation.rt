@@ -1,0 +1,541 @@
+//! What an active call does: its expressions, its statements, and the calls that it makes.
+
+ghost use Rattle.std.specs.Prelude.{◌≡◌, ◌≤◌, map, nat_le, length};
+ghost use Rattle.std.specs.Option.{option_copied};
+ghost use Rattle.sk_model.specs.Eval.{in_order, fields_in_order, const_value, binary, copy_back, ref_args};
+ghost use Rattle.sk_model.specs.Exec.{turns};
+ghost use Rattle.sk_model.specs.Sites.{is_hole};
+ghost use Rattle.sk_interp.specs.Gives.{Gives, GivesAs};
+ghost use Rattle.sk_interp.specs.Places.{location_of};
+ghost use Rattle.sk_interp.specs.Calling.{called_of, callee, value_of_call, value_of_new, value_of_braces, flow_of, calls_in, does_in, each_in, field_in, exec_in, exec_all_in};
+
+use crate::call::{
+    Called, Flow, count_of, declare, finished, first_slots, params_of, pay, result_value,
+    with_function,
+};
+use crate::location::{Location, Root};
+use crate::memory::Memory;
+use crate::operator::{operator, to_int, unary_operator};
+use crate::part::{indexed, literal, padded_at, sliced, unfilled};
+use crate::record::allocate;
+use crate::stop::Stop;
+use crate::value::copy;
+use sk_base::{Bounds, List, Span};
+use sk_prog::{
+    BinOp, ConstDef, Fun, FunId, PEForm, PExpr, PField, PForm, PStmt, ParamDef, Prog, StructId, Ty,
+    Value,
+};
+use std::alloc::Global;
+
+/// A call that is active. Nothing of it changes while it is.
+#[derive(Drop)]
+pub struct Activation<'a> {
+    pub alloc: Global,
+    pub prog: &'a Prog,
+    pub bounds: Bounds,
+    /// How many more calls may become active above it.
+    pub left: u32,
+    /// The functions of the active calls, this one's the last.
+    pub active: &'a [u32],
+}
+
+fn const_value(found: Option<&ConstDef>) -> Value
+    ensures { result ≡ const_value (option_copied found.entry) }
+{
+    match found {
+        None => Value::Int(0),
+        Some(c) => Value::Int(c.number),
+    }
+}
+
+// Whether the count of a repeat is still to be filled.
+fn is_hole(count: &PExpr) -> bool
+    ensures { result ≡ is_hole count.now.form }
+{
+    match &count.form {
+        PEForm::Hole(_) => true,
+        _ => false,
+    }
+}
+
+// Whether a `reorder` has one order alone.
+fn has_one_order(stmts: &[PStmt]) -> bool
+    ensures { result ≡ nat_le (length stmts.now) 1 }
+{
+    stmts.len() <= 1
+}
+
+impl Activation<'_> {
+    /// The function that a call means, where it may be made.
+    fn callee(&self, f: u32) -> Option<&Fun>
+        ensures { option_copied result ≡ callee self.now f }
+    {
+        if self.left > 0 && count_of(self.active, f) < self.bounds.inline_amnt as usize {
+            return self.prog.funs.get(f as usize);
+        }
+        None
+    }
+
+    /// The value of an expression.
+    #[cycle(run)]
+    fn eval(&self, room: u32, memory: &mut Memory, span: Span, e: &PExpr) -> Result<Value, Stop>
+        requires bits_low { 2 ≤ self.now.bounds.int_bits }
+        requires bits_high { self.now.bounds.int_bits ≤ 32 }
+        ensures { Gives result memory.new ((does_in self.now e.now).value span memory.old) }
+    {
+        if room == 0 {
+            return Err(Stop::NoMemory);
+        }
+        let room = room - 1;
+        match &e.form {
+            PEForm::Number(n) => {
+                let v = literal(self.alloc, self.bounds.int_bits, e.ty, *n)?;
+                Ok(v)
+            }
+            PEForm::True => Ok(Value::Bit(true)),
+            PEForm::False => Ok(Value::Bit(false)),
+            PEForm::Null => Ok(Value::Null),
+            PEForm::Var { slot, .. } => {
+                let v = memory.read(self.alloc, *slot)?;
+                Ok(v)
+            }
+            PEForm::Const(c) => Ok(const_value(self.prog.consts.get(c.index as usize))),
+            PEForm::Hole(_) => unfilled(self.alloc, span, e.ty),
+            PEForm::Pattern(_) => Err(Stop::Failed { span }),
+            PEForm::Paren(a) => self.eval(room, memory, span, a.get()),
+            PEForm::Call { f, args } => self.call_value(room, memory, span, *f, args),
+            PEForm::New { s, fields } => self.new_record(room, memory, span, *s, fields),
+            PEForm::Braces(parts) => self.braces(room, memory, span, e.ty, parts),
+            PEForm::Member { base, field, .. } => {
+                let v = self.eval(room, memory, span, base.get())?;
+                memory.read_field(self.alloc, span, *field, &v)
+            }
+            PEForm::Index { base, index } => {
+                let v = self.eval(room, memory, span, base.get())?;
+                let i = self.eval(room, memory, span, index.get())?;
+                indexed(self.alloc, span, &v, &i)
+            }
+            PEForm::Slice { base, from, length } => {
+                let v = self.eval(room, memory, span, base.get())?;
+                let i = self.eval(room, memory, span, from.get())?;
+                sliced(self.alloc, span, *length, &v, &i)
+            }
+            PEForm::Unary { op, of } => {
+                let v = self.eval(room, memory, span, of.get())?;
+                unary_operator(self.alloc, self.bounds.int_bits, span, *op, &v)
+            }
+            PEForm::Binary { op, left, right } => {
+                self.binary(room, memory, span, *op, left.get(), right.get())
+            }
+            PEForm::Cond { cond, then, other } => {
+                match self.eval(room, memory, span, cond.get())? {
+                    Value::Bit(true) => self.eval(room, memory, span, then.get()),
+                    Value::Bit(false) => self.eval(room, memory, span, other.get()),
+                    _ => Err(Stop::Failed { span }),
+                }
+            }
+            PEForm::ToInt(a) => {
+                let v = self.eval(room, memory, span, a.get())?;
+                to_int(span, &v)
+            }
+            PEForm::Pad(a) => {
+                let v = self.eval(room, memory, span, a.get())?;
+                let v = padded_at(self.alloc, e.ty, v)?;
+                Ok(v)
+            }
+        }
+    }
+
+    /// The value of a call.
+    #[cycle(run)]
+    fn call_value(
+        &self,
+        room: u32,
+        memory: &mut Memory,
+        span: Span,
+        f: FunId,
+        args: &List<PExpr>,
+    ) -> Result<Value, Stop>
+        requires bits_low { 2 ≤ self.now.bounds.int_bits }
+        requires bits_high { self.now.bounds.int_bits ≤ 32 }
+        ensures { Gives result memory.new (value_of_call self.now span f args.now memory.old) }
+    {
+        let args = args.as_slice();
+        let values = self.eval_all(room, memory, span, args)?;
+        let called = self.call(room, memory, span, f.index, values)?;
+        let params = params_of(self.prog.funs.get(f.index as usize));
+        self.copy_back(room, memory, span, params, args, called.refs.as_slice())?;
+        Ok(result_value(called.result))
+    }
+
+    /// A new record, with its fields set.
+    #[cycle(run)]
+    fn new_record(
+        &self,
+        room: u32,
+        memory: &mut Memory,
+        span: Span,
+        s: StructId,
+        fields: &List<PField>,
+    ) -> Result<Value, Stop>
+        requires bits_low { 2 ≤ self.now.bounds.int_bits }
+        requires bits_high { self.now.bounds.int_bits ≤ 32 }
+        ensures { Gives result memory.new (value_of_new self.now span s fields.now memory.old) }
+    {
+        let set = self.eval_fields(room, memory, span, fields.as_slice())?;
+        allocate(self.alloc, memory, self.prog, s, set)
+    }
+
+    /// An array of elements that are written out, at its type.
+    #[cycle(run)]
+    fn braces(
+        &self,
+        room: u32,
+        memory: &mut Memory,
+        span: Span,
+        ty: Option<Ty>,
+        parts: &List<PExpr>,
+    ) -> Result<Value, Stop>
+        requires bits_low { 2 ≤ self.now.bounds.int_bits }
+        requires bits_high { self.now.bounds.int_bits ≤ 32 }
+        ensures { Gives result memory.new (value_of_braces self.now span ty parts.now memory.old) }
+    {
+        let vs = self.eval_all(room, memory, span, parts.as_slice())?;
+        let v = padded_at(self.alloc, ty, Value::Array(vs))?;
+        Ok(v)
+    }
+
+    #[cycle(run)]
+    #[tactic(auto, using(crate::proofs::Activations::eager))]
+    fn binary(
+        &self,
+        room: u32,
+        memory: &mut Memory,
+        span: Span,
+        op: BinOp,
+        left: &PExpr,
+        right: &PExpr,
+    ) -> Result<Value, Stop>
+        requires bits_low { 2 ≤ self.now.bounds.int_bits }
+        requires bits_high { self.now.bounds.int_bits ≤ 32 }
+        ensures { Gives result memory.new (binary self.now.bounds.int_bits span op ((does_in self.now left.now).value span) ((does_in self.now right.now).value span) memory.old) }
+    {
+        match op {
+            BinOp::AndThen => match self.eval(room, memory, span, left)? {
+                Value::Bit(true) => self.eval(room, memory, span, right),
+                Value::Bit(false) => Ok(Value::Bit(false)),
+                _ => Err(Stop::Failed { span }),
+            },
+            BinOp::OrElse => match self.eval(room, memory, span, left)? {
+                Value::Bit(true) => Ok(Value::Bit(true)),
+                Value::Bit(false) => self.eval(room, memory, span, right),
+                _ => Err(Stop::Failed { span }),
+            },
+            _ => {
+                let v = self.eval(room, memory, span, left)?;
+                let w = self.eval(room, memory, span, right)?;
+                operator(self.alloc, self.bounds.int_bits, span, op, &v, &w)
+            }
+        }
+    }
+
+    /// The values of expressions, from the first to the last.
+    #[cycle(run)]
+    #[tactic(auto, using(crate::proofs::Activations::split_at))]
+    fn eval_all(
+        &self,
+        room: u32,
+        memory: &mut Memory,
+        span: Span,
+        es: &[PExpr],
+    ) -> Result<List<Value>, Stop>
+        requires bits_low { 2 ≤ self.now.bounds.int_bits }
+        requires bits_high { self.now.bounds.int_bits ≤ 32 }
+        ensures { Gives result memory.new (in_order span (each_in self.now es.now) memory.old) }
+    {
+        let mut values = List::new(self.alloc);
+        for e in es {
+            let value = self.eval(room, memory, span, e)?;
+            values.push(value)?;
+        }
+        Ok(values)
+    }
+
+    /// The fields that `new` sets, from the first to the last.
+    #[cycle(run)]
+    #[tactic(auto, using(crate::proofs::Activations::split_at))]
+    fn eval_fields(
+        &self,
+        room: u32,
+        memory: &mut Memory,
+        span: Span,
+        fields: &[PField],
+    ) -> Result<Vec<(u32, Value)>, Stop>
+        requires bits_low { 2 ≤ self.now.bounds.int_bits }
+        requires bits_high { self.now.bounds.int_bits ≤ 32 }
+        ensures { GivesAs (λ set. set.items) result memory.new (fields_in_order span (map (field_in self.now) fields.now) memory.old) }
+    {
+        let mut set = Vec::new(self.alloc);
+        for f in fields {
+            let v = self.eval(room, memory, span, &f.value)?;
+            set.push((f.field, v))?;
+        }
+        Ok(set)
+    }
+
+    /// What an expression names as a target.
+    #[cycle(run)]
+    fn target(
+        &self,
+        room: u32,
+        memory: &mut Memory,
+        span: Span,
+        e: &PExpr,
+    ) -> Result<Location, Stop>
+        requires bits_low { 2 ≤ self.now.bounds.int_bits }
+        requires bits_high { self.now.bounds.int_bits ≤ 32 }
+        ensures { GivesAs location_of result memory.new ((does_in self.now e.now).target span memory.old) }
+    {
+        if room == 0 {
+            return Err(Stop::NoMemory);
+        }
+        let room = room - 1;
+        match &e.form {
+            PEForm::Var { slot, .. } => Ok(Location::new(
+                self.alloc,
+                Root::Variable { slot: *slot },
+            )),
+            PEForm::Member { base, field, .. } => {
+                let reference = self.eval(room, memory, span, base.get())?;
+                let field = *field;
+                Ok(Location::new(self.alloc, Root::Field { reference, field }))
+            }
+            PEForm::Index { base, index } => {
+                let location = self.target(room, memory, span, base.get())?;
+                let i = self.eval(room, memory, span, index.get())?;
+                location.with_index(span, &i)
+            }
+            PEForm::Number(_) => Err(Stop::Failed { span }),
+            PEForm::True => Err(Stop::Failed { span }),
+            PEForm::False => Err(Stop::Failed { span }),
+            PEForm::Null => Err(Stop::Failed { span }),
+            PEForm::Const(_) => Err(Stop::Failed { span }),
+            PEForm::Hole(_) => Err(Stop::Failed { span }),
+            PEForm::Pattern(_) => Err(Stop::Failed { span }),
+            PEForm::Paren(_) => Err(Stop::Failed { span }),
+            PEForm::Call { .. } => Err(Stop::Failed { span }),
+            PEForm::New { .. } => Err(Stop::Failed { span }),
+            PEForm::Braces(_) => Err(Stop::Failed { span }),
+            PEForm::Slice { .. } => Err(Stop::Failed { span }),
+            PEForm::Unary { .. } => Err(Stop::Failed { span }),
+            PEForm::Binary { .. } => Err(Stop::Failed { span }),
+            PEForm::Cond { .. } => Err(Stop::Failed { span }),
+            PEForm::ToInt(_) => Err(Stop::Failed { span }),
+            PEForm::Pad(_) => Err(Stop::Failed { span }),
+        }
+    }
+
+    /// A call of a function with these arguments.
+    #[cycle(run)]
+    pub fn call(
+        &self,
+        room: u32,
+        memory: &mut Memory,
+        span: Span,
+        f: u32,
+        args: List<Value>,
+    ) -> Result<Called, Stop>
+        requires bits_low { 2 ≤ self.now.bounds.int_bits }
+        requires bits_high { self.now.bounds.int_bits ≤ 32 }
+        ensures { GivesAs called_of result memory.new (calls_in self.now span f args memory.old) }
+    {
+        let fun = match self.callee(f) {
+            None => return Err(Stop::Failed { span }),
+            Some(fun) => fun,
+        };
+        let active = with_function(self.alloc, self.active, f)?;
+        let inner = Activation {
+            alloc: self.alloc,
+            prog: self.prog,
+            bounds: self.bounds,
+            left: self.left - 1,
+            active: active.as_slice(),
+        };
+        let outer = memory.exchange(first_slots(fun, args)?);
+        let flow = inner.exec_all(room, memory, fun.body.as_slice())?;
+        let slots = memory.exchange(outer);
+        let called = finished(self.alloc, fun, flow, slots.as_slice())?;
+        Ok(called)
+    }
+
+    /// Copies the final values of `ref` parameters back to the variables that were passed, in order.
+    #[cycle(run)]
+    #[tactic(auto, using(crate::proofs::Activations::back))]
+    fn copy_back(
+        &self,
+        room: u32,
+        memory: &mut Memory,
+        span: Span,
+        params: &[ParamDef],
+        args: &[PExpr],
+        refs: &[Value],
+    ) -> Result<(), Stop>
+        requires bits_low { 2 ≤ self.now.bounds.int_bits }
+        requires bits_high { self.now.bounds.int_bits ≤ 32 }
+        ensures { Gives result memory.new (copy_back span (ref_args params.now (each_in self.now args.now)) refs.now memory.old) }
+    {
+        let mut params = params;
+        let mut refs = refs;
+        for a in args {
+            let [p, others @ ..] = params else {
+                return Ok(());
+            };
+            params = others;
+            if !p.by_ref {
+                continue;
+            }
+            let [v, more @ ..] = refs else {
+                return Ok(());
+            };
+            refs = more;
+            let location = self.target(room, memory, span, a)?;
+            let v = copy(self.alloc, v)?;
+            location.store(self.alloc, memory, span, v)?;
+        }
+        Ok(())
+    }
+
+    /// Statements one after another, until one returns.
+    #[cycle(run)]
+    #[tactic(auto, using(crate::proofs::Activations::split_at))]
+    fn exec_all(&self, room: u32, memory: &mut Memory, stmts: &[PStmt]) -> Result<Flow, Stop>
+        requires bits_low { 2 ≤ self.now.bounds.int_bits }
+        requires bits_high { self.now.bounds.int_bits ≤ 32 }
+        ensures { GivesAs flow_of result memory.new (exec_all_in self.now stmts.now memory.old) }
+    {
+        for stmt in stmts {
+            if let Flow::Returns(v) = self.exec(room, memory, stmt)? {
+                return Ok(Flow::Returns(v));
+            }
+        }
+        Ok(Flow::Onward)
+    }
+
+    /// One statement.
+    #[cycle(run)]
+    fn exec(&self, room: u32, memory: &mut Memory, stmt: &PStmt) -> Result<Flow, Stop>
+        requires bits_low { 2 ≤ self.now.bounds.int_bits }
+        requires bits_high { self.now.bounds.int_bits ≤ 32 }
+        ensures { GivesAs flow_of result memory.new (exec_in self.now stmt.now memory.old) }
+    {
+        if room == 0 {
+            return Err(Stop::NoMemory);
+        }
+        let room = room - 1;
+        let span = stmt.span;
+        match &stmt.form {
+            PForm::Block(stmts) => self.exec_all(room, memory, stmts.as_slice()),
+            PForm::Declare {
+                slot,
+                ty,
+                value,
+                ..
+            } => match value {
+                None => declare(self.alloc, memory, *slot, *ty),
+                Some(e) => {
+                    let v = self.eval(room, memory, span, e)?;
+                    memory.write(*slot, v)?;
+                    Ok(Flow::Onward)
+                }
+            },
+            PForm::Assign { target, value } => {
+                let location = self.target(room, memory, span, target)?;
+                let v = self.eval(room, memory, span, value)?;
+                location.assign(self.alloc, memory, span, v)
+            }
+            PForm::Call(e) => {
+                self.eval(room, memory, span, e)?;
+                Ok(Flow::Onward)
+            }
+            PForm::If { cond, then, other } => match other {
+                None => match self.eval(room, memory, span, cond)? {
+                    Value::Bit(true) => self.exec(room, memory, then.get()),
+                    Value::Bit(false) => Ok(Flow::Onward),
+                    _ => Err(Stop::Failed { span }),
+                },
+                Some(other) => match self.eval(room, memory, span, cond)? {
+                    Value::Bit(true) => self.exec(room, memory, then.get()),
+                    Value::Bit(false) => self.exec(room, memory, other.get()),
+                    _ => Err(Stop::Failed { span }),
+                },
+            },
+            PForm::While { cond, body } => self.turns(room, memory, span, cond, body.get()),
+            PForm::Return(value) => match value {
+                None => Ok(Flow::Returns(None)),
+                Some(e) => {
+                    let v = self.eval(room, memory, span, e)?;
+                    Ok(Flow::Returns(Some(v)))
+                }
+            },
+            PForm::Assert(e) => match self.eval(room, memory, span, e)? {
+                Value::Bit(true) => Ok(Flow::Onward),
+                Value::Bit(false) => Err(Stop::Failed { span }),
+                _ => Err(Stop::Failed { span }),
+            },
+            PForm::Assume(e) => match self.eval(room, memory, span, e)? {
+                Value::Bit(true) => Ok(Flow::Onward),
+                Value::Bit(false) => Err(Stop::Skipped { span }),
+                _ => Err(Stop::Failed { span }),
+            },
+            PForm::Minimize(e) => {
+                let v = self.eval(room, memory, span, e)?;
+                pay(memory, span, &v)
+            }
+            PForm::Repeat { count, copies } => {
+                if is_hole(count) {
+                    return Err(Stop::Failed { span });
+                }
+                self.exec_all(room, memory, copies.as_slice())
+            }
+            PForm::MinRepeat(_) => Err(Stop::Failed { span }),
+            PForm::Reorder(stmts) => {
+                if has_one_order(stmts.as_slice()) {
+                    return self.exec_all(room, memory, stmts.as_slice());
+                }
+                Err(Stop::Failed { span })
+            }
+        }
+    }
+
+    /// The turns of a loop.
+    #[cycle(run)]
+    #[tactic(auto, using(crate::proofs::Activations::turn_on))]
+    fn turns(
+        &self,
+        room: u32,
+        memory: &mut Memory,
+        span: Span,
+        cond: &PExpr,
+        body: &PStmt,
+    ) -> Result<Flow, Stop>
+        requires bits_low { 2 ≤ self.now.bounds.int_bits }
+        requires bits_high { self.now.bounds.int_bits ≤ 32 }
+        ensures { GivesAs flow_of result memory.new (turns self.now.bounds.unroll span (does_in self.now cond.now) (exec_in self.now body.now) memory.old) }
+    {
+        for _turn in 0..self.bounds.unroll {
+            match self.eval(room, memory, span, cond)? {
+                Value::Bit(true) => {}
+                Value::Bit(false) => return Ok(Flow::Onward),
+                _ => return Err(Stop::Failed { span }),
+            }
+            if let Flow::Returns(v) = self.exec(room, memory, body)? {
+                return Ok(Flow::Returns(v));
+            }
+        }
+        match self.eval(room, memory, span, cond)? {
+            Value::Bit(true) => Err(Stop::Failed { span }),
+            Value::Bit(false) => Ok(Flow::Onward),
+            _ => Err(Stop::Failed { span }),
+        }
+    }
+}
