@@ -1,0 +1,5 @@
+pub mod Envs
+pub mod Elaborate
+pub mod Owns
+pub mod Parts
+pub mod LawNames
