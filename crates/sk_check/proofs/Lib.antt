@@ -6,3 +6,12 @@ pub mod Complete
 pub mod Sound
 pub mod Joined
 pub mod Exact
+pub mod Scopes
+pub mod Views
+pub mod Calls
+pub mod CallsComplete
+pub mod StepSound
+pub mod StepComplete
+pub mod WholeNames
+pub mod WholeSound
+pub mod WholeComplete

@@ -1,4 +1,4 @@
-//! Typing: what expressions become where a type is wanted, and the law that this is what they mean.
+//! Typing: what a tree becomes, as a function of it, and the laws that this is what it means.
 #![tactic(auto)]
 
 mod env;
