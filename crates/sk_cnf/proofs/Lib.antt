@@ -1,3 +1,5 @@
 mod NumberLaws
 mod SignedLaws
 mod StepLaws
+mod CodeLaws
+mod LeafLaws

@@ -1,3 +1,4 @@
 pub mod Leaves
 pub mod Signed
 pub mod Formula
+pub mod Codes
