@@ -2,4 +2,10 @@ mod NumberLaws
 mod SignedLaws
 mod StepLaws
 mod CodeLaws
+mod CoverLaws
 mod LeafLaws
+mod FormulaLaws
+mod GrowingLaws
+mod LeafEq
+mod DistinctLaws
+mod StandingLaws

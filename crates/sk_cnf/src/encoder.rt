@@ -1,4 +1,4 @@
-//! The bits of nodes that name none, of negations, and of the input's truth values.
+//! The bits of a node, whatever it is.
 
 ghost use Rattle.std.specs.Prelude.{◌≡◌, ◌≤◌, ◌<◌, ℕ, List, Option, length, All, IfOk, OnErr, ℤ};
 ghost use Rattle.sk_base.specs.Word.{IsWord};
@@ -12,10 +12,11 @@ ghost use Rattle.sk_cnf.specs.Codes.{Computes, IsCode, TableFits};
 use crate::code::{Code, truth_of};
 use crate::leaf::Leaf;
 use crate::leaves::{leaf_literal, leaf_word};
+use crate::nodes;
 use crate::signed::{apart, given_word};
 use indexmap::IndexSet;
 use sk_clause::Clauses;
-use sk_dag::BoolId;
+use sk_dag::{BoolId, Node};
 use sk_gates::{Bit, zeros};
 use std::alloc::{AllocError, Global};
 
@@ -118,4 +119,51 @@ fn cost_zero(alloc: Global) -> Result<Code, AllocError>
 {
     let bits = zeros(alloc, 64)?;
     Ok(Code::Cost(bits))
+}
+
+// The bits that stand for the value of a node, where the table has those of the nodes that it names.
+#[tactic(auto, using(crate::proofs::CodeLaws::coding))]
+pub fn encode_node(
+    alloc: Global,
+    to: &mut Clauses,
+    leaves: &IndexSet<Leaf>,
+    names: &[usize],
+    width: u32,
+    codes: &[Option<Code>],
+    node: Node,
+) -> Result<Code, AllocError>
+    requires low { 2 ≤ width }
+    requires high { width ≤ 32 }
+    requires names { length names.now ≡ length leaves.now.keys }
+    requires within { All (λ x. x < to.old.vars) names.now }
+    requires table { TableFits width to.old.vars codes.now }
+    requires word { (z : ℤ) → node ≡ Word z → IsWord width z }
+    ensures code { IfOk result (IsCode width leaves.now.keys names.now codes.now node to.old to.new) }
+    ensures err { OnErr result (Continues to.old to.new) }
+{
+    let size = width as usize;
+    match node {
+        Node::Flag(value) => Ok(flag(value)),
+        Node::Word(value) => Ok(word(alloc, width, value)?),
+        Node::HoleBit(site, k) => Ok(hole_bit(leaves, names, site, k)),
+        Node::HoleWord(site) => Ok(hole_word(alloc, leaves, names, width, site)?),
+        Node::InputBit(scalar) => Ok(input_bit(alloc, to, leaves, names, width, codes, scalar)?),
+        Node::InputWord(scalar) => Ok(input_word(alloc, leaves, names, width, scalar)?),
+        Node::Not(a) => Ok(not(codes, a)),
+        Node::And(a, b) => Ok(nodes::and(to, size, codes, a, b)?),
+        Node::Or(a, b) => Ok(nodes::or(to, size, codes, a, b)?),
+        Node::Xor(a, b) => Ok(nodes::xor(to, size, codes, a, b)?),
+        Node::BoolMux(c, a, b) => Ok(nodes::bool_mux(to, size, codes, c, a, b)?),
+        Node::Mux(c, a, b) => Ok(nodes::mux(alloc, to, size, codes, c, a, b)?),
+        Node::Add(a, b) => Ok(nodes::add(alloc, to, size, codes, a, b)?),
+        Node::Sub(a, b) => Ok(nodes::sub(alloc, to, size, codes, a, b)?),
+        Node::Mul(a, b) => Ok(nodes::mul(alloc, to, size, codes, a, b)?),
+        Node::Div(a, b) => Ok(nodes::div(alloc, to, size, codes, a, b)?),
+        Node::Rem(a, b) => Ok(nodes::rem(alloc, to, size, codes, a, b)?),
+        Node::Lt(a, b) => Ok(nodes::lt(to, size, codes, a, b)?),
+        Node::Eq(a, b) => Ok(nodes::eq(to, size, codes, a, b)?),
+        Node::CostZero => Ok(cost_zero(alloc)?),
+        Node::CostAdd(cost, g, x) => Ok(nodes::cost_add(alloc, to, size, codes, cost, g, x)?),
+        Node::CostLe(cost, limit) => Ok(nodes::cost_le(alloc, to, size, codes, cost, limit)?),
+    }
 }
