@@ -1,3 +1,11 @@
 mod NumberLaws
 mod SignedLaws
 mod StepLaws
+mod CodeLaws
+mod CoverLaws
+mod LeafLaws
+mod FormulaLaws
+mod GrowingLaws
+mod LeafEq
+mod DistinctLaws
+mod StandingLaws

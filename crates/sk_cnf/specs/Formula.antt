@@ -34,6 +34,10 @@ AreTrue g roots e = All (λ r. bool_value g e r ≡ true) roots
 pub record AreLeaves (leaves : List Leaf) : Type 0 where
   pub distinct : (i j : ℕ) (l : Leaf) → slice_get leaves i ≡ Some l → slice_get leaves j ≡ Some l → i ≡ j
 
+-- the leaf is not among these
+abbrev pub IsAbsent : List Leaf → Leaf → Type 0
+IsAbsent leaves x = (i : ℕ) → slice_get leaves i ≡ Some x → ⊥
+
 -- The formula has a name for each leaf, in order. Bits for the leaves extend exactly where the roots are true in the
 -- environment that the leaves say (and so in each that has the values that they say), and in one way at most.
 pub record IsEncoding (f : Encoded) (leaves : List Leaf) (g : Graph) (roots : List BoolId) : Type 0 where

@@ -1,3 +1,5 @@
 pub mod Leaves
-pub mod Signed
 pub mod Formula
+pub mod Codes
+pub mod Signed
+pub mod Standing

@@ -1,6 +1,7 @@
 //! The literals of leaves.
 
-ghost use Rattle.std.specs.Prelude.{◌≡◌, ℕ, ◌≤◌, ◌<◌, Bool, length, map, position, All, IfSome, IfOk};
+ghost use Rattle.std.specs.Prelude.{◌≡◌, ℕ, ◌≤◌, ◌<◌, Bool, length, map, position, All, IfSome, IfOk, IsTrue, ◌↔◌};
+ghost use Rattle.sk_cnf.specs.Formula.{AreLeaves};
 ghost use Rattle.sk_gates.specs.Bits.{bit_true, reach, AreOver};
 ghost use Rattle.sk_gates.specs.Words.{bits_word};
 ghost use Rattle.sk_cnf.specs.Leaves.{same_leaf, leaf_bit, with_bit, number_of};
@@ -33,6 +34,20 @@ pub fn leaf_literal(leaves: &IndexSet<Leaf>, names: &[usize], leaf: Leaf) -> Bit
         }),
         None => Bit::Constant(false),
     }
+}
+
+/// Whether no leaf stands twice.
+pub fn are_distinct(alloc: Global, leaves: &[Leaf]) -> Result<bool, AllocError>
+    ensures { IfOk result (λ yes. IsTrue yes ↔ AreLeaves leaves.now) }
+{
+    let mut seen = IndexSet::new(alloc);
+    for i in 0..leaves.len() {
+        let (_, is_new) = seen.insert_full(leaves[i])?;
+        if !is_new {
+            return Ok(false);
+        }
+    }
+    Ok(true)
 }
 
 // Another bit of the same hole or scalar.

@@ -1,12 +1,12 @@
 //! Arithmetic of words in two's complement, over bits: the least is first.
 
 ghost use Rattle.std.specs.Prelude.{◌≡◌, ℕ, ◌+◌, ◌-◌, ◌%◌, ◌^◌, ◌≤◌, ◌<◌, Bool, false, not, ◌&&◌, length, if◌then◌else◌, nat_eq, nat_lt, pos, ◌+ℤ◌, ◌-ℤ◌, ◌*ℤ◌, slice_index_or, IfOk, OnErr};
-ghost use Rattle.sk_base.specs.Word.{half, signed, wrapped};
+ghost use Rattle.sk_base.specs.Word.{half, pattern, signed, wrapped, IsWord};
 ghost use Rattle.sk_dag.specs.Eval.{charge as charge_of};
 ghost use Rattle.sk_dag.specs.Word.{bit_of, quotient, remainder};
 ghost use Rattle.sk_gates.specs.Bits.{bit_true, reach, AreOver, differ};
 ghost use Rattle.sk_gates.specs.Extension.{Adds, Continues};
-ghost use Rattle.sk_gates.specs.Words.{digit, bits_word};
+ghost use Rattle.sk_gates.specs.Words.{digit, bits_word, quotient_of, remainder_of};
 ghost use Rattle.sk_cnf.specs.Signed.{HasSign};
 ghost use Rattle.sk_gates.specs.declared.bit.Bit.TheVariants.{Constant};
 
@@ -48,6 +48,28 @@ pub fn constant(alloc: Global, number: u64, len: usize) -> Result<List<Bit>, All
         bits.push(Bit::Constant(digit))?;
     }
     Ok(bits)
+}
+
+// The number whose digits are the bits of a word.
+fn pattern_of(value: i64, width: u32) -> u64
+    requires low { 2 ≤ width }
+    requires high { width ≤ 32 }
+    ensures { result ≡ pattern width value }
+{
+    value.rem_euclid((1u64 << width) as i64) as u64
+}
+
+// The bits of a word that is given.
+pub fn given_word(alloc: Global, value: i64, width: u32) -> Result<List<Bit>, AllocError>
+    requires low { 2 ≤ width }
+    requires high { width ≤ 32 }
+    requires word { IsWord width value }
+    ensures length { IfOk result (λ r. length r ≡ width) }
+    ensures within { IfOk result (λ r. (n : ℕ) → AreOver n r) }
+    ensures value { IfOk result (λ r. (v : ℕ → Bool) → signed width (bits_word v r) ≡ value) }
+{
+    let r = constant(alloc, pattern_of(value, width), width as usize)?;
+    Ok(r)
 }
 
 // Whether two words are not the same.

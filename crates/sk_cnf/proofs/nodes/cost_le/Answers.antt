@@ -1,0 +1,33 @@
+use Rattle.std.proofs.Common.{◌≡◌, ◌∙◌, ◌&&◌, ◌||◌, not, ap, sym, arith, length, if◌then◌else◌, ◌+ℤ◌, ◌-ℤ◌, ◌*ℤ◌}
+use Rattle.std.specs.Prelude.{int_lt}
+use Rattle.sk_base.specs.Word.{signed, wrapped}
+use Rattle.sk_dag.specs.Word.{quotient, remainder}
+use Rattle.sk_dag.specs.Eval.{value_of, charge}
+use Rattle.sk_dag.specs.declared.value.Value.TheVariants.{Bit as BitValue, Int as IntValue, Cost as CostValue}
+use Rattle.sk_gates.specs.Bits.{bit_true, differ, choose}
+use Rattle.sk_gates.specs.Words.{bits_word, is_less}
+use Rattle.sk_gates.proofs.ExtensionLaws.{Adds-weaker}
+use Rattle.sk_gates.proofs.WordLaws.{bits_below}
+use Rattle.std.proofs.Common.{nat_lt, nat_le, ◌%◌, ◌^◌}
+use Rattle.sk_cnf.proofs.CodeLaws.{not_below}
+use Rattle.sk_cnf.proofs.nodes.cost_le.Goals as goal
+
+pub returns-clause-code : goal.returns-clause-code
+unfolding value_of
+returns-clause-code c =
+    let w = c.args.width in
+    let most : c.args.limit % 2 ^ 64 ≡ c.args.limit = omega arith in
+    record {
+      fits = omega (arith, c.in_ok-above.ensures.within, c.negate.ensures.within);
+      gate = Adds-weaker _ _ c.in_ok-above.ensures.gate (λ v h e.
+          ap BitValue (c.negate.ensures.value v ∙ ap not h
+          ∙ ap (λ m. not (nat_lt m (bits_word v c.cost_of.result.now))) (ap (bits_word v) c.as_slice.ensures ∙ c.in_ok-most.ensures.value v ∙ most)
+          ∙ not_below c.args.limit (bits_word v c.cost_of.result.now)
+          ∙ ap (λ z. nat_le z c.args.limit) (c.cost_of.ensures.value w v)));
+    }
+
+pub less_bits-requires-clause-lengths : goal.less_bits-requires-clause-lengths
+less_bits-requires-clause-lengths c = ap length c.as_slice.ensures ∙ c.in_ok-most.ensures.length ∙ sym (c.cost_of.ensures.length c.args.width c.args.to.now.vars c.requires.table)
+
+pub less_bits-requires-clause-b : goal.less_bits-requires-clause-b
+less_bits-requires-clause-b c = c.cost_of.ensures.within c.args.width c.args.to.now.vars c.requires.table

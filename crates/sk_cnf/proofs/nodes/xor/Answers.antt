@@ -1,0 +1,26 @@
+use Rattle.std.proofs.Common.{◌≡◌, ◌∙◌, ◌&&◌, ◌||◌, not, ap, sym, arith, length, if◌then◌else◌, ◌+ℤ◌, ◌-ℤ◌, ◌*ℤ◌}
+use Rattle.std.specs.Prelude.{int_lt}
+use Rattle.sk_base.specs.Word.{signed, wrapped}
+use Rattle.sk_dag.specs.Word.{quotient, remainder}
+use Rattle.sk_dag.specs.Eval.{value_of, charge}
+use Rattle.sk_dag.specs.declared.value.Value.TheVariants.{Bit as BitValue, Int as IntValue, Cost as CostValue}
+use Rattle.sk_gates.specs.Bits.{bit_true, differ, choose}
+use Rattle.sk_gates.specs.Words.{bits_word, is_less}
+use Rattle.sk_gates.proofs.ExtensionLaws.{Adds-weaker}
+use Rattle.sk_gates.proofs.WordLaws.{bits_below}
+use Rattle.sk_cnf.proofs.nodes.xor.Goals as goal
+
+pub returns-clause-code : goal.returns-clause-code
+unfolding value_of
+returns-clause-code c =
+    let w = c.args.width in
+    record {
+      fits = c.in_ok-r.ensures.within;
+      gate = Adds-weaker _ _ c.in_ok-r.ensures.gate (λ v h e. ap BitValue (h ∙ (λ i. differ (c.truth_of.ensures.value w v i) (c.truth_of-2.ensures.value w v i))));
+    }
+
+pub xor_bits-requires-clause-a : goal.xor_bits-requires-clause-a
+xor_bits-requires-clause-a c = c.truth_of.ensures.within c.args.width c.args.to.now.vars c.requires.table
+
+pub xor_bits-requires-clause-b : goal.xor_bits-requires-clause-b
+xor_bits-requires-clause-b c = c.truth_of-2.ensures.within c.args.width c.args.to.now.vars c.requires.table
