@@ -1,0 +1,112 @@
+//! The numbers of constant expressions.
+ghost use Rattle.std.specs.Prelude.{◌≡◌, map, pos, ◌+ℤ◌, ◌-ℤ◌, ◌*ℤ◌};
+ghost use Rattle.sk_types.specs.Constants.{number_known, number_named, near, computed, whole_number, natural, constant_number};
+ghost use Rattle.sk_check.specs.Envs.{context_of, known, IsEnv};
+ghost use Rattle.sk_check.specs.Numbers.{form_number};
+ghost use Rattle.sk_check.specs.Gives.{IsWidth};
+
+use crate::env::{Constant, Env, is_same};
+use sk_base::{Bounds, Name};
+use sk_tree::{EForm, Expr, Mark};
+use sk_types::{Place, Variable, in_range, lookup};
+
+/// A number from -2^62 to 2^62.
+fn near(z: i128) -> Option<i64>
+    ensures { result ≡ near z }
+{
+    if -4_611_686_018_427_387_904 <= z && z <= 4_611_686_018_427_387_904 {
+        Some(z as i64)
+    } else {
+        None
+    }
+}
+
+fn computed(op: Mark, a: i64, b: i64) -> Option<i64>
+    ensures { result ≡ computed op a b }
+{
+    match op {
+        Mark::Plus => near(i128::from(a) + i128::from(b)),
+        Mark::Minus => near(i128::from(a) - i128::from(b)),
+        Mark::Star => near(i128::from(a) * i128::from(b)),
+        _ => None,
+    }
+}
+
+#[tactic(auto, using(crate::proofs::Places::split_at))]
+fn number_known(constants: &[Constant], name: &Name) -> Option<i64>
+    ensures { result ≡ number_known (map known constants.now) name.now }
+{
+    for constant in constants {
+        if is_same(&constant.name, name) {
+            return Some(i64::from(constant.number));
+        }
+    }
+    None
+}
+
+fn number_named(place: Option<Place>, constants: &[Constant], name: &Name) -> Option<i64>
+    ensures { result ≡ number_named place (map known constants.now) name.now }
+{
+    match place {
+        Some(_) => None,
+        None => number_known(constants, name),
+    }
+}
+
+fn number_of(bounds: &Bounds, n: u32) -> Option<i64>
+    requires { IsWidth bounds.now }
+    ensures { result ≡ only_if (in_range bounds.now n) (pos n) }
+{
+    if in_range(bounds, n) {
+        Some(i64::from(n))
+    } else {
+        None
+    }
+}
+
+fn natural(bounds: &Bounds, z: i64) -> Option<u32>
+    requires { IsWidth bounds.now }
+    ensures { result ≡ natural bounds.now z }
+{
+    match u32::try_from(z) {
+        Ok(n) if in_range(bounds, n) => Some(n),
+        _ => None,
+    }
+}
+
+impl Env<'_> {
+    #[cycle(number)]
+    fn whole_number(&self, scope: &[Variable], e: &Expr) -> Option<i64>
+        requires { IsEnv self.now }
+        ensures { result ≡ whole_number (context_of self.now) scope.now e.now }
+    {
+        self.form_number(scope, &e.form)
+    }
+
+    #[cycle(number)]
+    fn form_number(&self, scope: &[Variable], form: &EForm) -> Option<i64>
+        requires { IsEnv self.now }
+        ensures { result ≡ form_number (context_of self.now) scope.now form.now }
+    {
+        match form {
+            EForm::Number(n) => number_of(&self.bounds, *n),
+            EForm::Word(name) => number_named(lookup(scope, name), self.known, name),
+            EForm::Paren(of) => self.whole_number(scope, of.get()),
+            EForm::Binary { op, left, right } => {
+                let left = self.whole_number(scope, left.get())?;
+                let right = self.whole_number(scope, right.get())?;
+                computed(*op, left, right)
+            }
+            _ => None,
+        }
+    }
+
+    /// The number of a constant expression.
+    pub fn constant_number(&self, scope: &[Variable], e: &Expr) -> Option<u32>
+        requires { IsEnv self.now }
+        ensures { result ≡ constant_number (context_of self.now) scope.now e.now }
+    {
+        let z = self.whole_number(scope, e)?;
+        natural(&self.bounds, z)
+    }
+}
