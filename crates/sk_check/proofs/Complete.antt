@@ -45,18 +45,15 @@ use Rattle.sk_types.specs.Sorts.{struct_meant, variable_type, is_some_type, refe
 use Rattle.sk_types.specs.Types.{ExprRule, EFormRule, FieldRule, HasType, Wanted, MeansOperation, MeansLogic, MeansShift, MeansBinary, MeansUnary, IsWidened, IsPadded, EachMeans, MayBeRef, ArgumentsMean, FieldsMean, IsMore, IsCallee, IsStruct, IsField, eform_means, expr_means, field_means, Means, IsAt, is_bare}
 use Rattle.sk_types.proofs.Nearest.{nearest_lookup}
 use Rattle.sk_types.proofs.Layers.{FormMeans, FieldMeans, rule, form_means_are, means_parts}
+use Rattle.sk_check.specs.Envs.{AreDistinct}
 use Rattle.sk_check.specs.declared.found.Found.{Found}
 use Rattle.sk_check.specs.declared.found.View.{View}
 use Rattle.sk_check.specs.declared.found.Wants.{Wants}
 use Rattle.sk_check.specs.declared.found.Called.{Called}
 use Rattle.sk_check.specs.Elaborate.{At, FormAt, typed, coerced, firm_at, number_at, named_at, all_at, element_wanted, string_at, with_string, strings_at, pattern_at, may_pass, argument_at, arguments_at, Setting, field_found, setting_at, settings_at, Callee, callable, callee_meant, called, call_at, record_form, record_in, record_at, member_found, member_in, member_at, viewed, indexed, index_at, cut, slice_at, flip_wants, unary_wants, unary_at, operands_want, shift_wants, binary_wants, binary_at, item_of, argument_of, setting_of, at_of, eform_at, form_at, at, field_at, ats, items, arguments, settings, paired}
-use Rattle.sk_check.proofs.Ats.{both_true, ty_self, fit_same, bind_some, some_same, pexpr_law, form_at_is, at_is, field_at_is}
+use Rattle.sk_check.proofs.Ats.{both_true, both, ty_self, fit_same, bind_some, some_same, pexpr_law, form_at_is, at_is, field_at_is}
 use Rattle.sk_check.proofs.Stands.{dropped_none}
 use Rattle.sk_check.proofs.Bare.{placed, bare_at}
-
--- No struct names a field twice.
-abbrev pub AreDistinct : Top → Type 0
-AreDistinct top = (i : ℕ) (d : StructDef) → slice_get top.structs i ≡ Some d → IsTrue (all_distinct (map (λ (y : FieldDef). y.name) d.fields))
 
 -- Literals
 
@@ -311,7 +308,7 @@ module _ (context : Context) (scope : List Variable) (good : AreDistinct context
           let is : u ≡ r.1 = some_same _ _ r.2 in
           at_layer e u _ (E.Word x) _ r.0 (sym (eform.rolls-Word x)) (subst (λ t. named_at (meaning_of context.top scope x) x e.span t ≡ Some (typed e.span t (pform.Var slot x))) (sym is) (rw (meaning_here x slot r.1 r.3) (own_firm r.1 (pform.Var slot x) e.span))))
       form_layer (P.Const c) = of_rule (P.Const c) (pform.Const c) (pform.rolls-Const c) (λ u e r. at_layer e u _ (E.Word r.0) _ r.1 (sym (eform.rolls-Word r.0)) (subst (λ t. named_at (meaning_of context.top scope r.0) r.0 e.span t ≡ Some (typed e.span t (pform.Const c))) (sym (some_same _ _ r.3)) (rw (r.2) (own_firm int (pform.Const c) e.span))))
-      form_layer (P.Hole n) = of_rule (P.Hole n) (pform.Hole n) (pform.rolls-Hole n) (λ u e r. at_layer e u _ (E.Hole n) _ r.0 (sym (eform.rolls-Hole n)) (rw (r.1, r.2) refl))
+      form_layer (P.Hole n) = of_rule (P.Hole n) (pform.Hole n) (pform.rolls-Hole n) (λ u e r. at_layer e u _ (E.Hole n) _ r.0 (sym (eform.rolls-Hole n)) (only_is _ _ (both _ _ r.1 r.2)))
       form_layer (P.Pattern qs) = of_rule (P.Pattern (map (λ q. q.0) qs)) (pform.Pattern (map (λ q. q.0) qs)) (pform.rolls-Pattern (map (λ q. q.0) qs)) (λ u e r.
           let is : u ≡ r.3 = some_same _ _ r.4 in
           let m = subst (λ t. EachMeans (λ p. p) (Means context scope) t (map (λ q. q.0) qs) (kept context scope t r.1)) (sym is) r.6 in

@@ -7,3 +7,4 @@ pub mod Stands
 pub mod Bare
 pub mod Complete
 pub mod Sound
+pub mod Exact

@@ -397,12 +397,12 @@ module _ (context : Context) (scope : List Variable) where
   strings_sound t [] = tt
   strings_sound t (e ∷ es) = one (string_at t (item_of context scope (e.0, at_tree e.0))) refl (strings_sound t es)
     where
-      one : (o : Option PExpr) → string_at t (item_of context scope (e.0, at_tree e.0)) ≡ o → EachMeans (λ p. p) (Means context scope) t (strings_at t (map (item_of context scope) (with_ats (map (λ q. q.0) es)))) kept context scope t (map (λ q. q.0) es) → EachMeans (λ p. p) (Means context scope) t (with_string o (strings_at t (map (item_of context scope) (with_ats (map (λ q. q.0) es))))) (if keeps (sort context scope e.0) t then e.0 ∷ kept context scope t (map (λ q. q.0) es) else kept context scope t (map (λ q. q.0) es))
-      one None is m = subst (λ b. EachMeans (λ p. p) (Means context scope) t (strings_at t (map (item_of context scope) (with_ats (map (λ q. q.0) es)))) (if b then e.0 ∷ kept context scope t (map (λ q. q.0) es) else kept context scope t (map (λ q. q.0) es))) (sym (kept_string context scope t e.0 ∙ ap is_some is)) m
+      one : (o : Option PExpr) → string_at t (item_of context scope (e.0, at_tree e.0)) ≡ o → EachMeans (λ p. p) (Means context scope) t (strings_at t (map (item_of context scope) (with_ats (map (λ q. q.0) es)))) (kept context scope t (map (λ q. q.0) es)) → EachMeans (λ p. p) (Means context scope) t (with_string o (strings_at t (map (item_of context scope) (with_ats (map (λ q. q.0) es))))) (if keeps (sort context scope e.0) t then e.0 ∷ (kept context scope t (map (λ q. q.0) es)) else (kept context scope t (map (λ q. q.0) es)))
+      one None is m = subst (λ b. EachMeans (λ p. p) (Means context scope) t (strings_at t (map (item_of context scope) (with_ats (map (λ q. q.0) es)))) (if b then e.0 ∷ (kept context scope t (map (λ q. q.0) es)) else (kept context scope t (map (λ q. q.0) es)))) (sym (kept_string context scope t e.0 ∙ ap is_some is)) m
       one (Some p) is m =
           let a = if_some (may_keep (own_tree e.0) t) (at_tree e.0 t) p is in
           let good = e.1 t p a.1 in
-          subst (λ b. EachMeans (λ p. p) (Means context scope) t (p ∷ (strings_at t (map (item_of context scope) (with_ats (map (λ q. q.0) es))))) (if b then e.0 ∷ kept context scope t (map (λ q. q.0) es) else kept context scope t (map (λ q. q.0) es))) (sym (kept_string context scope t e.0 ∙ ap is_some is)) (good.means, good.type, m)
+          subst (λ b. EachMeans (λ p. p) (Means context scope) t (p ∷ (strings_at t (map (item_of context scope) (with_ats (map (λ q. q.0) es))))) (if b then e.0 ∷ (kept context scope t (map (λ q. q.0) es)) else (kept context scope t (map (λ q. q.0) es)))) (sym (kept_string context scope t e.0 ∙ ap is_some is)) (good.means, good.type, m)
 
   ref_sound : (d : ParamDef) (f : EForm) → may_pass d (variable_type scope f) ≡ true → MayBeRef d.by_ref scope d.ty f
   ref_sound d f h = go d.by_ref h

@@ -1,6 +1,8 @@
 -- How the code sees what an expression is typed by.
-use Rattle.std.specs.Prelude.{◌≤◌, ◌<◌, ◌^◌, ℕ, length, List, [], ◌∷◌, map, Option, Some, None}
-use Rattle.sk_types.specs.Scope.{Signature, Top, Known, Context, Meaning, AVariable, AStruct, AConstant, AFunction, Nothing}
+use Rattle.std.specs.Prelude.{◌≡◌, IsTrue, slice_get, ◌≤◌, ◌<◌, ◌^◌, ℕ, length, List, [], ◌∷◌, map, Option, Some, None}
+use Rattle.sk_prog.specs.declared.prog.FieldDef.{FieldDef}
+use Rattle.sk_prog.specs.declared.prog.StructDef.{StructDef}
+use Rattle.sk_types.specs.Scope.{all_distinct, Signature, Top, Known, Context, Meaning, AVariable, AStruct, AConstant, AFunction, Nothing}
 use Rattle.sk_check.specs.declared.env.Heading.{Heading}
 use Rattle.sk_check.specs.declared.env.Constant.{Constant}
 use Rattle.sk_check.specs.declared.env.Env.{Env}
@@ -33,3 +35,7 @@ pub record IsEnv (env : Env) : Type 0 where
   pub structs : length env.structs.now < 2 ^ 32
   pub consts : length env.consts.now < 2 ^ 32
   pub funs : length env.funs.now < 2 ^ 32
+
+-- No struct names a field twice.
+abbrev pub AreDistinct : Top → Type 0
+AreDistinct top = (i : ℕ) (d : StructDef) → slice_get top.structs i ≡ Some d → IsTrue (all_distinct (map (λ (y : FieldDef). y.name) d.fields))

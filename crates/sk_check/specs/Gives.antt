@@ -23,3 +23,7 @@ abbrev pub Makes : {A : Type 0} → Result A Typing → A → Type 0
 Makes (Ok a) b = b ≡ a
 Makes (Err Memory) b = Unit {0}
 Makes (Err (Fault f)) b = ⊥
+
+abbrev pub IsMemory : Typing → Type 0
+IsMemory Memory = Unit {0}
+IsMemory (Fault f) = ⊥

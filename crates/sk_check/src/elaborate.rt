@@ -1,13 +1,15 @@
 //! Expressions where a type is wanted.
-ghost use Rattle.std.specs.Prelude.{◌≡◌, Option, Some, None, map, length};
+ghost use Rattle.std.specs.Prelude.{◌≡◌, Some, map, IfOk, MatchResult};
 ghost use Rattle.std.specs.List.{list_any};
 ghost use Rattle.std.specs.Str.{bytes_eq};
 ghost use Rattle.sk_types.specs.Rules.{operator_of};
 ghost use Rattle.sk_types.specs.Sorts.{own, variable_type};
 ghost use Rattle.sk_types.specs.Scope.{meaning_of, all_distinct};
 ghost use Rattle.sk_types.specs.Constants.{constant_number};
-ghost use Rattle.sk_check.specs.Gives.{Gives, Makes};
-ghost use Rattle.sk_check.specs.Envs.{top_seen, context_of, IsEnv};
+ghost use Rattle.sk_prog.specs.declared.expr.PExpr.{PExpr};
+ghost use Rattle.sk_types.specs.Types.{IsAt};
+ghost use Rattle.sk_check.specs.Gives.{Gives, Makes, IsMemory};
+ghost use Rattle.sk_check.specs.Envs.{top_seen, context_of, IsEnv, AreDistinct};
 ghost use Rattle.sk_check.specs.Elaborate.{Setting, item_of, string_at, strings_at, arguments_at, settings_at, callee_meant, called, record_in, member_in, index_at, slice_at, binary_at, all_at, at, ats, items, arguments, settings, form_at};
 
 use crate::env::{Env, Meant, is_same};
@@ -64,7 +66,7 @@ fn all_distinct(fields: &[NewField]) -> bool
 impl Env<'_> {
     /// An expression at a type that its place wants.
     #[cycle(typing)]
-    pub fn at(&self, scope: &[Variable], ty: Ty, e: &Expr) -> Result<PExpr, Typing>
+    pub(crate) fn at(&self, scope: &[Variable], ty: Ty, e: &Expr) -> Result<PExpr, Typing>
         requires { IsEnv self.now }
         ensures { Gives result (at (context_of self.now) scope.now e.now ty) }
     {
@@ -463,5 +465,18 @@ impl Env<'_> {
                 Ok(typed(span, ty, PEForm::Cond { cond, then, other }))
             }
         }
+    }
+
+    /// What an expression means where a type is wanted: that and nothing else, and a fault exactly where it means
+    /// nothing there.
+    #[tactic(auto, using(crate::proofs::Exact::found, crate::proofs::Exact::once, crate::proofs::Exact::none))]
+    pub fn typed(&self, scope: &[Variable], ty: Ty, e: &Expr) -> Result<PExpr, Typing>
+        requires env { IsEnv self.now }
+        requires distinct { AreDistinct (top_seen self.now) }
+        ensures found { IfOk result (λ p. IsAt (context_of self.now) scope.now ty p e.now) }
+        ensures only { (p : PExpr) → IsAt (context_of self.now) scope.now ty p e.now → MatchResult result (λ q. q ≡ p) IsMemory }
+    {
+        let made = self.at(scope, ty, e)?;
+        Ok(made)
     }
 }

@@ -11,7 +11,7 @@ use sk_types::{Place, Variable, lookup};
 use std::alloc::Global;
 
 /// What a function is to its callers.
-#[derive(Debug, Drop)]
+#[derive(Drop)]
 pub struct Heading {
     pub name: Name,
     pub kind: FunKind,
@@ -20,14 +20,14 @@ pub struct Heading {
 }
 
 /// A constant that stands earlier, with its number.
-#[derive(Debug, Drop)]
+#[derive(Drop)]
 pub struct Constant {
     pub name: Name,
     pub number: u32,
 }
 
 /// What a name means.
-#[derive(Debug, Drop, Clone, Copy)]
+#[derive(Drop, Clone, Copy)]
 pub enum Meant {
     Variable(Place),
     Struct(StructId),

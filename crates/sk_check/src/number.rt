@@ -1,5 +1,6 @@
 //! The numbers of constant expressions.
 ghost use Rattle.std.specs.Prelude.{◌≡◌, map, pos, ◌+ℤ◌, ◌-ℤ◌, ◌*ℤ◌};
+ghost use Rattle.sk_types.specs.Rules.{only_if, in_range};
 ghost use Rattle.sk_types.specs.Constants.{number_known, number_named, near, computed, whole_number, natural, constant_number};
 ghost use Rattle.sk_check.specs.Envs.{context_of, known, IsEnv};
 ghost use Rattle.sk_check.specs.Numbers.{form_number};

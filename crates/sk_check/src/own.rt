@@ -2,7 +2,7 @@
 ghost use Rattle.std.specs.Prelude.{◌≡◌, Option, Some, None};
 ghost use Rattle.sk_types.specs.Sorts.{own, named, any_binary, any_unary, firm_of, member_of, struct_meant, reference_to, reference_meant, array_meant, slice_of, sliced, is_harness};
 ghost use Rattle.sk_types.specs.Constants.{constant_number};
-ghost use Rattle.sk_types.specs.Rules.{array_of};
+ghost use Rattle.sk_types.specs.Rules.{array_of, count_of};
 ghost use Rattle.sk_check.specs.Envs.{top_seen, context_of, meaning, IsEnv};
 ghost use Rattle.sk_check.specs.Owns.{own_type, form_own, callee_result};
 ghost use Rattle.sk_check.specs.Elaborate.{callee_meant};
