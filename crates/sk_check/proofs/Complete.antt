@@ -230,7 +230,7 @@ module _ (context : Context) (scope : List Variable) (good : AreDistinct context
       go true is [] m = absurd m
       go true is (q ∷ qs) m = rw (first is q m.0 m.1, strings_are t es qs m.2) refl
 
-  may_pass_is : (d : ParamDef) (f : EForm) → MayBeRef d.by_ref scope d.ty f → may_pass d (variable_type scope f) ≡ true
+  pub may_pass_is : (d : ParamDef) (f : EForm) → MayBeRef d.by_ref scope d.ty f → may_pass d (variable_type scope f) ≡ true
   may_pass_is d f m = go d.by_ref m
     where
       go : (b : Bool) → MayBeRef b scope d.ty f → (not b || is_some_type (variable_type scope f) d.ty) ≡ true
@@ -271,7 +271,7 @@ module _ (context : Context) (scope : List Variable) (good : AreDistinct context
   meaning_here : (x : List ℕ) (slot : ℕ) (t : Ty) → Nearest scope x slot t → meaning_of context.top scope x ≡ AVariable (record { slot = slot; ty = t })
   meaning_here x slot t n = ap (λ o. variable_or o (top_meaning context.top x)) (nearest_lookup scope x slot t n)
 
-  callee_is : (x : List ℕ) (f : FunId) (g : Signature) → IsCallee context.top scope x f g → callee_meant context.top (meaning_of context.top scope x) ≡ Some (record { id = f; signature = g })
+  pub callee_is : (x : List ℕ) (f : FunId) (g : Signature) → IsCallee context.top scope x f g → callee_meant context.top (meaning_of context.top scope x) ≡ Some (record { id = f; signature = g })
   callee_is x f g c = rw (c.meaning, c.there, c.callable) refl
 
   -- A call is what it means, also one without a type.

@@ -236,7 +236,7 @@ no_variable top x v h = of_struct (place_of (map (λ (d : StructDef). d.name) to
     of_struct None None (Some i) h = cc
     of_struct None None None h = cc
 
-callee_found : (top : Top) (m : Meaning) (g : Callee) → callee_meant top m ≡ Some g → (m ≡ AFunction g.id) × ((slice_get top.funs g.id.index ≡ Some g.signature) × (is_harness g.signature.kind ≡ false))
+pub callee_found : (top : Top) (m : Meaning) (g : Callee) → callee_meant top m ≡ Some g → (m ≡ AFunction g.id) × ((slice_get top.funs g.id.index ≡ Some g.signature) × (is_harness g.signature.kind ≡ false))
 callee_found top (AVariable v) g e = cc
 callee_found top (AStruct r) g e = cc
 callee_found top (AConstant c) g e = cc
@@ -404,7 +404,7 @@ module _ (context : Context) (scope : List Variable) where
           let good = e.1 t p a.1 in
           subst (λ b. EachMeans (λ p. p) (Means context scope) t (p ∷ (strings_at t (map (item_of context scope) (with_ats (map (λ q. q.0) es))))) (if b then e.0 ∷ (kept context scope t (map (λ q. q.0) es)) else (kept context scope t (map (λ q. q.0) es)))) (sym (kept_string context scope t e.0 ∙ ap is_some is)) (good.means, good.type, m)
 
-  ref_sound : (d : ParamDef) (f : EForm) → may_pass d (variable_type scope f) ≡ true → MayBeRef d.by_ref scope d.ty f
+  pub ref_sound : (d : ParamDef) (f : EForm) → may_pass d (variable_type scope f) ≡ true → MayBeRef d.by_ref scope d.ty f
   ref_sound d f h = go d.by_ref h
     where
       go : (b : Bool) → (not b || is_some_type (variable_type scope f) d.ty) ≡ true → MayBeRef b scope d.ty f

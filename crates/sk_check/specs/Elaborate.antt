@@ -309,20 +309,3 @@ module _ (context : Context) (scope : List Variable) where
 
   abbrev pub field_at : NewField → At
   field_at = para-NewField FormAt At At eform_at (λ x. x.form.1 x.span) (λ x. x.value.1)
-
-  -- the parts of lists
-
-  abbrev pub paired : List Expr → List (Expr × At)
-  paired es = map (λ e. (e, at e)) es
-
-  abbrev pub ats : List Expr → List At
-  ats es = map at_of (paired es)
-
-  abbrev pub items : List Expr → List Item
-  items es = map item_of (paired es)
-
-  abbrev pub arguments : List Expr → List Argument
-  arguments es = map argument_of (paired es)
-
-  abbrev pub settings : List NewField → List Setting
-  settings es = map setting_of (map (λ e. (e, field_at e)) es)

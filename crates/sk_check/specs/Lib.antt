@@ -3,5 +3,8 @@ pub mod Gives
 pub mod Envs
 pub mod Elaborate
 pub mod Owns
-pub mod Numbers
+pub mod Parts
 pub mod Making
+pub mod Targets
+pub mod Leaves
+pub mod Whole

@@ -23,7 +23,8 @@ use Rattle.sk_types.specs.Constants.{constant_number}
 use Rattle.sk_types.specs.Sorts.{target_type, first_target, kept_targets, written_type}
 use Rattle.sk_types.specs.Types.{may_reorder}
 use Rattle.sk_check.specs.declared.found.Called.{Called}
-use Rattle.sk_check.specs.Elaborate.{typed, all_at, callee_meant, called, at, ats, arguments}
+use Rattle.sk_check.specs.Elaborate.{typed, all_at, callee_meant, called}
+use Rattle.sk_check.specs.Parts.{part, ats, arguments}
 
 -- what is made, and the variables in scope after it
 pub record Made (A : Type 0) : Type 0 where
@@ -40,7 +41,7 @@ Maker A = List Variable → Option (Made A)
 
 -- an expression at a type
 unfoldable pub value_at : Context → List Variable → Ty → Expr → Option PExpr
-value_at context scope t e = at context scope e t
+value_at context scope t e = (part context scope e).at t
 
 abbrev pub any_value_at : Context → List Variable → Ty → Option Expr → Option (Option PExpr)
 any_value_at context scope t None = Some None
@@ -72,7 +73,7 @@ unfoldable pub call_of : Context → List Variable → Expr → Option PExpr
 call_of context scope e = form_call context scope e.span e.form
 
 abbrev pub form_count : Context → List Variable → Expr → EForm → Option PExpr
-form_count context scope e (eform.Hole n) = at context scope e int
+form_count context scope e (eform.Hole n) = (part context scope e).at int
 form_count context scope e _ = constant_number context scope e >>= λ n. only_if (nat_le n 64) (typed e.span int (pform.Number n))
 
 -- the count of a repeat: a hole, or a constant, which becomes its number

@@ -1,13 +1,8 @@
 -- The types that forms have by themselves.
-use Rattle.std.specs.Prelude.{List, Option, Some, None}
-use Rattle.sk_tree.specs.declared.expr.EForm.{EForm}
-use Rattle.sk_tree.specs.declared.expr.EForm.TheFolds.{para-EForm}
+use Rattle.std.specs.Prelude.{Option, Some, None}
 use Rattle.sk_prog.specs.declared.ty.Ty.{Ty}
 use Rattle.sk_types.specs.declared.rules.Own.{Own}
 use Rattle.sk_types.specs.declared.rules.Own.TheVariants.{Wrong, Firm}
-use Rattle.sk_types.specs.declared.scope.Variable.{Variable}
-use Rattle.sk_types.specs.Scope.{Context}
-use Rattle.sk_types.specs.Sorts.{Sort, eform_sort}
 use Rattle.sk_check.specs.Elaborate.{Callee}
 
 -- what an expression of this type, if any, has by itself
@@ -18,6 +13,3 @@ own_type (Some t) = Firm t
 abbrev pub callee_result : Option Callee → Option Ty
 callee_result None = None
 callee_result (Some g) = g.signature.result
-
-abbrev pub form_own : Context → List Variable → EForm → Own
-form_own context scope f = (para-EForm Sort Sort Sort (eform_sort context scope) (λ x. x.form.1) (λ x. x.value.1) f).own

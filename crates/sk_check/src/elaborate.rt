@@ -2,15 +2,13 @@
 ghost use Rattle.std.specs.Prelude.{◌≡◌, Some, map, IfOk, MatchResult};
 ghost use Rattle.std.specs.List.{list_any};
 ghost use Rattle.std.specs.Str.{bytes_eq};
-ghost use Rattle.sk_types.specs.Rules.{operator_of};
-ghost use Rattle.sk_types.specs.Sorts.{own, variable_type};
-ghost use Rattle.sk_types.specs.Scope.{meaning_of, all_distinct};
-ghost use Rattle.sk_types.specs.Constants.{constant_number};
 ghost use Rattle.sk_prog.specs.declared.expr.PExpr.{PExpr};
+ghost use Rattle.sk_types.specs.Scope.{meaning_of, all_distinct};
 ghost use Rattle.sk_types.specs.Types.{IsAt};
 ghost use Rattle.sk_check.specs.Gives.{Gives, Makes, IsMemory};
 ghost use Rattle.sk_check.specs.Envs.{top_seen, context_of, IsEnv, AreDistinct};
-ghost use Rattle.sk_check.specs.Elaborate.{Setting, item_of, string_at, strings_at, arguments_at, settings_at, callee_meant, called, record_in, member_in, index_at, slice_at, binary_at, all_at, at, ats, items, arguments, settings, form_at};
+ghost use Rattle.sk_check.specs.Elaborate.{string_at, strings_at, arguments_at, settings_at, callee_meant, called, record_in, member_in, index_at, slice_at, binary_at, all_at};
+ghost use Rattle.sk_check.specs.Parts.{item_part, form_part, part, length_of, ats, items, arguments, settings};
 
 use crate::env::{Env, Meant, is_same};
 use crate::fault::{Rule, Typing};
@@ -24,19 +22,6 @@ use sk_base::{Boxed, List, Name, Span, at as item_at};
 use sk_prog::{BinOp, PEForm, PExpr, PField, ParamDef, StructDef, StructId, Ty};
 use sk_tree::{EForm, Expr, NewField};
 use sk_types::{Variable, lookup, operator_of, unary_of};
-
-/// The type of the variable that an expression names, where it is a name of one.
-pub fn variable_type(scope: &[Variable], form: &EForm) -> Option<Ty>
-    ensures { result ≡ variable_type scope.now form.now }
-{
-    match form {
-        EForm::Word(name) => match lookup(scope, name) {
-            None => None,
-            Some(place) => Some(place.ty),
-        },
-        _ => None,
-    }
-}
 
 #[tactic(auto, using(crate::proofs::Places::split_at))]
 fn is_set(fields: &[NewField], name: &Name) -> bool
@@ -64,11 +49,24 @@ fn all_distinct(fields: &[NewField]) -> bool
 }
 
 impl Env<'_> {
+    /// The type of the variable that an expression names, where it is a name of one.
+    pub(crate) fn variable(&self, scope: &[Variable], form: &EForm) -> Option<Ty>
+        ensures { result ≡ (form_part (context_of self.now) scope.now form.now).variable }
+    {
+        match form {
+            EForm::Word(name) => match lookup(scope, name) {
+                None => None,
+                Some(place) => Some(place.ty),
+            },
+            _ => None,
+        }
+    }
+
     /// An expression at a type that its place wants.
     #[cycle(typing)]
     pub(crate) fn at(&self, scope: &[Variable], ty: Ty, e: &Expr) -> Result<PExpr, Typing>
         requires { IsEnv self.now }
-        ensures { Gives result (at (context_of self.now) scope.now e.now ty) }
+        ensures { Gives result ((part (context_of self.now) scope.now e.now).at ty) }
     {
         let p = self.form_at(scope, e.span, ty, &e.form)?;
         Ok(p)
@@ -77,7 +75,7 @@ impl Env<'_> {
     #[cycle(typing)]
     fn part(&self, scope: &[Variable], ty: Ty, e: &Expr) -> Result<Boxed<PExpr>, Typing>
         requires { IsEnv self.now }
-        ensures { Gives result (at (context_of self.now) scope.now e.now ty) }
+        ensures { Gives result ((part (context_of self.now) scope.now e.now).at ty) }
     {
         let p = self.at(scope, ty, e)?;
         let p = boxed(self.alloc, p)?;
@@ -103,7 +101,7 @@ impl Env<'_> {
     #[cycle(typing)]
     fn string(&self, scope: &[Variable], ty: Ty, e: &Expr) -> Result<Option<PExpr>, Typing>
         requires { IsEnv self.now }
-        ensures { Makes result (string_at ty (record { own = own (context_of self.now) scope.now e.now; at = at (context_of self.now) scope.now e.now })) }
+        ensures { Makes result (string_at ty (item_part (part (context_of self.now) scope.now e.now))) }
     {
         if !may_keep(self.own(scope, e), ty) {
             return Ok(None);
@@ -147,7 +145,7 @@ impl Env<'_> {
             let Some(param) = item_at(params, i) else {
                 return Err(fault(Rule::Mismatch, span));
             };
-            if !may_pass(param, variable_type(scope, &e.form)) {
+            if !may_pass(param, self.variable(scope, &e.form)) {
                 return Err(fault(Rule::NotTarget, e.span));
             }
             let p = self.at(scope, param.ty, e)?;
@@ -253,7 +251,7 @@ impl Env<'_> {
         ty: Ty,
     ) -> Result<PExpr, Typing>
         requires { IsEnv self.now }
-        ensures { Gives result (member_in (top_seen self.now) s (at (context_of self.now) scope.now base.now) name.now span ty) }
+        ensures { Gives result (member_in (top_seen self.now) s (part (context_of self.now) scope.now base.now).at name.now span ty) }
     {
         let Some(def) = item_at(self.structs, s.index as usize) else {
             return Err(fault(Rule::UnknownName, span));
@@ -281,7 +279,7 @@ impl Env<'_> {
         ty: Ty,
     ) -> Result<PExpr, Typing>
         requires { IsEnv self.now }
-        ensures { Gives result (index_at (own (context_of self.now) scope.now base.now) (at (context_of self.now) scope.now base.now) (at (context_of self.now) scope.now index.now) span ty) }
+        ensures { Gives result (index_at (part (context_of self.now) scope.now base.now).own (part (context_of self.now) scope.now base.now).at (part (context_of self.now) scope.now index.now).at span ty) }
     {
         let Some(view) = indexed(self.own(scope, base)) else {
             return Err(fault(Rule::Mismatch, span));
@@ -309,7 +307,7 @@ impl Env<'_> {
         ty: Ty,
     ) -> Result<PExpr, Typing>
         requires { IsEnv self.now }
-        ensures { Gives result (slice_at (own (context_of self.now) scope.now base.now) (constant_number (context_of self.now) scope.now length.now) (at (context_of self.now) scope.now base.now) (at (context_of self.now) scope.now from.now) span ty) }
+        ensures { Gives result (slice_at (part (context_of self.now) scope.now base.now).own (length_of (context_of self.now) scope.now length.now) (part (context_of self.now) scope.now base.now).at (part (context_of self.now) scope.now from.now).at span ty) }
     {
         let Some(length) = self.constant_number(scope, length) else {
             return Err(fault(Rule::NotConstant, span));
@@ -340,7 +338,7 @@ impl Env<'_> {
         ty: Ty,
     ) -> Result<PExpr, Typing>
         requires { IsEnv self.now }
-        ensures { Gives result (binary_at (Some op) (own (context_of self.now) scope.now left.now) (own (context_of self.now) scope.now right.now) (at (context_of self.now) scope.now left.now) (at (context_of self.now) scope.now right.now) span ty) }
+        ensures { Gives result (binary_at (Some op) (part (context_of self.now) scope.now left.now).own (part (context_of self.now) scope.now right.now).own (part (context_of self.now) scope.now left.now).at (part (context_of self.now) scope.now right.now).at span ty) }
     {
         let left_own = self.own(scope, left);
         let right_own = self.own(scope, right);
@@ -364,7 +362,7 @@ impl Env<'_> {
     #[tactic(auto, using(crate::proofs::Follows::length_map))]
     fn form_at(&self, scope: &[Variable], span: Span, ty: Ty, form: &EForm) -> Result<PExpr, Typing>
         requires { IsEnv self.now }
-        ensures { Gives result (form_at (context_of self.now) scope.now form.now span ty) }
+        ensures { Gives result ((form_part (context_of self.now) scope.now form.now).at span ty) }
     {
         match form {
             EForm::Number(n) => {
@@ -476,7 +474,7 @@ impl Env<'_> {
         ensures found { IfOk result (λ p. IsAt (context_of self.now) scope.now ty p e.now) }
         ensures only { (p : PExpr) → IsAt (context_of self.now) scope.now ty p e.now → MatchResult result (λ q. q ≡ p) IsMemory }
     {
-        let made = self.at(scope, ty, e)?;
-        Ok(made)
+        let typed = self.at(scope, ty, e)?;
+        Ok(typed)
     }
 }

@@ -1,9 +1,9 @@
 //! The numbers of constant expressions.
 ghost use Rattle.std.specs.Prelude.{◌≡◌, map, pos, ◌+ℤ◌, ◌-ℤ◌, ◌*ℤ◌};
 ghost use Rattle.sk_types.specs.Rules.{only_if, in_range};
-ghost use Rattle.sk_types.specs.Constants.{number_known, number_named, near, computed, whole_number, natural, constant_number};
+ghost use Rattle.sk_types.specs.Constants.{number_known, number_named, near, computed, natural};
 ghost use Rattle.sk_check.specs.Envs.{context_of, known, IsEnv};
-ghost use Rattle.sk_check.specs.Numbers.{form_number};
+ghost use Rattle.sk_check.specs.Parts.{form_part, part, length_of};
 ghost use Rattle.sk_check.specs.Gives.{IsWidth};
 
 use crate::env::{Constant, Env, is_same};
@@ -12,13 +12,43 @@ use sk_tree::{EForm, Expr, Mark};
 use sk_types::{Place, Variable, in_range, lookup};
 
 /// A number from -2^62 to 2^62.
-fn near(z: i128) -> Option<i64>
+fn near(z: i64) -> Option<i64>
     ensures { result ≡ near z }
 {
     if -4_611_686_018_427_387_904 <= z && z <= 4_611_686_018_427_387_904 {
-        Some(z as i64)
+        Some(z)
     } else {
         None
+    }
+}
+
+#[tactic(auto, using(crate::proofs::NumberLaws::near_some, crate::proofs::NumberLaws::near_none))]
+fn added(a: i64, b: i64) -> Option<i64>
+    ensures { result ≡ near (a +ℤ b) }
+{
+    match a.checked_add(b) {
+        None => None,
+        Some(z) => near(z),
+    }
+}
+
+#[tactic(auto, using(crate::proofs::NumberLaws::near_some, crate::proofs::NumberLaws::near_none))]
+fn subtracted(a: i64, b: i64) -> Option<i64>
+    ensures { result ≡ near (a -ℤ b) }
+{
+    match a.checked_sub(b) {
+        None => None,
+        Some(z) => near(z),
+    }
+}
+
+#[tactic(auto, using(crate::proofs::NumberLaws::near_some, crate::proofs::NumberLaws::near_none))]
+fn multiplied(a: i64, b: i64) -> Option<i64>
+    ensures { result ≡ near (a *ℤ b) }
+{
+    match a.checked_mul(b) {
+        None => None,
+        Some(z) => near(z),
     }
 }
 
@@ -26,9 +56,9 @@ fn computed(op: Mark, a: i64, b: i64) -> Option<i64>
     ensures { result ≡ computed op a b }
 {
     match op {
-        Mark::Plus => near(i128::from(a) + i128::from(b)),
-        Mark::Minus => near(i128::from(a) - i128::from(b)),
-        Mark::Star => near(i128::from(a) * i128::from(b)),
+        Mark::Plus => added(a, b),
+        Mark::Minus => subtracted(a, b),
+        Mark::Star => multiplied(a, b),
         _ => None,
     }
 }
@@ -65,13 +95,18 @@ fn number_of(bounds: &Bounds, n: u32) -> Option<i64>
     }
 }
 
+/// A number in the range of `int` that is not negative.
+#[tactic(auto, using(crate::proofs::NumberLaws::natural_negative, crate::proofs::NumberLaws::natural_positive))]
 fn natural(bounds: &Bounds, z: i64) -> Option<u32>
     requires { IsWidth bounds.now }
     ensures { result ≡ natural bounds.now z }
 {
-    match u32::try_from(z) {
-        Ok(n) if in_range(bounds, n) => Some(n),
-        _ => None,
+    if z < 0 {
+        return None;
+    }
+    match u32::try_from(z.unsigned_abs()) {
+        Err(_) => None,
+        Ok(n) => { if in_range(bounds, n) { Some(n) } else { None } }
     }
 }
 
@@ -79,7 +114,7 @@ impl Env<'_> {
     #[cycle(number)]
     fn whole_number(&self, scope: &[Variable], e: &Expr) -> Option<i64>
         requires { IsEnv self.now }
-        ensures { result ≡ whole_number (context_of self.now) scope.now e.now }
+        ensures { result ≡ (part (context_of self.now) scope.now e.now).whole }
     {
         self.form_number(scope, &e.form)
     }
@@ -87,7 +122,7 @@ impl Env<'_> {
     #[cycle(number)]
     fn form_number(&self, scope: &[Variable], form: &EForm) -> Option<i64>
         requires { IsEnv self.now }
-        ensures { result ≡ form_number (context_of self.now) scope.now form.now }
+        ensures { result ≡ (form_part (context_of self.now) scope.now form.now).whole }
     {
         match form {
             EForm::Number(n) => number_of(&self.bounds, *n),
@@ -105,7 +140,7 @@ impl Env<'_> {
     /// The number of a constant expression.
     pub fn constant_number(&self, scope: &[Variable], e: &Expr) -> Option<u32>
         requires { IsEnv self.now }
-        ensures { result ≡ constant_number (context_of self.now) scope.now e.now }
+        ensures { result ≡ length_of (context_of self.now) scope.now e.now }
     {
         let z = self.whole_number(scope, e)?;
         natural(&self.bounds, z)

@@ -1,11 +1,11 @@
 //! The type that an expression has by itself.
-ghost use Rattle.std.specs.Prelude.{◌≡◌, Option, Some, None};
-ghost use Rattle.sk_types.specs.Sorts.{own, named, any_binary, any_unary, firm_of, member_of, struct_meant, reference_to, reference_meant, array_meant, slice_of, sliced, is_harness};
-ghost use Rattle.sk_types.specs.Constants.{constant_number};
+ghost use Rattle.std.specs.Prelude.{◌≡◌};
 ghost use Rattle.sk_types.specs.Rules.{array_of, count_of};
+ghost use Rattle.sk_types.specs.Sorts.{named, member_of, struct_meant, reference_to, reference_meant, array_meant, slice_of, sliced, is_harness};
 ghost use Rattle.sk_check.specs.Envs.{top_seen, context_of, meaning, IsEnv};
-ghost use Rattle.sk_check.specs.Owns.{own_type, form_own, callee_result};
+ghost use Rattle.sk_check.specs.Owns.{own_type, callee_result};
 ghost use Rattle.sk_check.specs.Elaborate.{callee_meant};
+ghost use Rattle.sk_check.specs.Parts.{form_part, part};
 
 use crate::env::{Env, Meant};
 use sk_base::{Name, at};
@@ -159,16 +159,15 @@ impl Env<'_> {
     #[cycle(own)]
     pub fn own(&self, scope: &[Variable], e: &Expr) -> Own
         requires { IsEnv self.now }
-        ensures { result ≡ own (context_of self.now) scope.now e.now }
+        ensures { result ≡ (part (context_of self.now) scope.now e.now).own }
     {
         self.form_own(scope, &e.form)
     }
 
     #[cycle(own)]
-    #[tactic(auto, using(crate::proofs::OwnLaws::owns))]
     fn form_own(&self, scope: &[Variable], form: &EForm) -> Own
         requires { IsEnv self.now }
-        ensures { result ≡ form_own (context_of self.now) scope.now form.now }
+        ensures { result ≡ (form_part (context_of self.now) scope.now form.now).own }
     {
         match form {
             EForm::Number(n) => number_own(*n),

@@ -2,7 +2,8 @@ use Rattle.std.proofs.Common.{◌≡◌, drop, ◌++◌}
 use Rattle.std.specs.Prelude.{Some}
 use Rattle.sk_types.specs.Rules.{◌>>=◌}
 use Rattle.sk_check.specs.Envs.{context_of}
-use Rattle.sk_check.specs.Elaborate.{all_at, ats, strings_at, items, arguments_at, arguments, settings_at, settings}
+use Rattle.sk_check.specs.Elaborate.{all_at, strings_at, arguments_at, settings_at}
+use Rattle.sk_check.specs.Parts.{ats, items, arguments, settings}
 use Rattle.sk_check.proofs.env.Env.+typing.Given as goal
 
 -- what is made so far and what is to come

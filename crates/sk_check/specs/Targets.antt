@@ -1,0 +1,11 @@
+-- The types of forms as targets.
+use Rattle.std.specs.Prelude.{List, Option}
+use Rattle.sk_tree.specs.declared.expr.EForm.{EForm}
+use Rattle.sk_tree.specs.declared.expr.EForm.TheFolds.{para-EForm}
+use Rattle.sk_prog.specs.declared.ty.Ty.{Ty}
+use Rattle.sk_types.specs.declared.scope.Variable.{Variable}
+use Rattle.sk_types.specs.Scope.{Context}
+use Rattle.sk_types.specs.Sorts.{eform_target}
+
+abbrev pub form_target_type : Context → List Variable → EForm → Option Ty
+form_target_type context scope = para-EForm (Option Ty) (Option Ty) (Unit {0}) (eform_target context scope) (λ x. x.form.1) (λ x. tt)
