@@ -15,3 +15,4 @@ pub mod Calls
 pub mod CallsComplete
 pub mod StepSound
 pub mod StepComplete
+pub mod WholeNames

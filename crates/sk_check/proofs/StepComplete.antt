@@ -140,22 +140,22 @@ module _ (context : Context) (result : Option Ty) (good : AreDistinct context.to
   form_layer_is : (f g : Form) (l : F.Form-F Form Stmt) (from : ℕ) (s : List Variable) (r : Option (Made PForm)) → f ≡ g → g ≡ roll-Form l → form_made context result (map-Form Form Stmt Act Do (make_form context result) (make context result) l) from s ≡ r → make_form context result f from s ≡ r
   form_layer_is f g l from s r is to h = ap (λ f. make_form context result f from s) (is ∙ to) ∙ ap (λ (k : Act). k from s) (make_form_is context result l) ∙ h
 
-  inside_is : (q : Meant) (from : ℕ) (s : List Variable) (e : Stmt) → StmtMeans context result q.0 from s e → inside context result (make context result e) from s ≡ makes q.0 s
+  inside_is : (q : Meant) (from : ℕ) (s : List Variable) (e : Stmt) → StmtMeans context result q.0 from s e → inside (make context result e) from s ≡ makes q.0 s
   inside_is q from s e m = rw (q.1 from s e m, left_of q.0 s) refl
 
-  in_order_is : (qs : List Meant) (from : ℕ) (s : List Variable) (es : List Stmt) → BlockMeans (λ p. p) (StmtMeans context result) from s (map (λ q. q.0) qs) es → in_order context result (map (make context result) es) from s ≡ makes (map (λ q. q.0) qs) (after_all (map (λ q. q.0) qs) s)
+  in_order_is : (qs : List Meant) (from : ℕ) (s : List Variable) (es : List Stmt) → BlockMeans (λ p. p) (StmtMeans context result) from s (map (λ q. q.0) qs) es → in_order (map (make context result) es) from s ≡ makes (map (λ q. q.0) qs) (after_all (map (λ q. q.0) qs) s)
   in_order_is [] from s [] m = refl
   in_order_is (q ∷ qs) from s (e ∷ es) m = rw (q.1 from s e m.0, in_order_is qs from (after q.0 s) es m.1) refl
   in_order_is [] from s (e ∷ es) m = absurd m
   in_order_is (q ∷ qs) from s [] m = absurd m
 
-  block_is : (qs : List Meant) (s : List Variable) (es : List Stmt) → BlockMeans (λ p. p) (StmtMeans context result) (length s) s (map (λ q. q.0) qs) es → block context result (map (make context result) es) s ≡ makes (map (λ q. q.0) qs) s
+  block_is : (qs : List Meant) (s : List Variable) (es : List Stmt) → BlockMeans (λ p. p) (StmtMeans context result) (length s) s (map (λ q. q.0) qs) es → block (map (make context result) es) s ≡ makes (map (λ q. q.0) qs) s
   block_is qs s es m = rw (in_order_is qs (length s) s es m, left_of_all (map (λ q. q.0) qs) s) refl
 
-  declare_is : (from : ℕ) (s : List Variable) (slot : ℕ) (x : List ℕ) (t : Ty) (v : Option PExpr) (y : TyTree) (d : Declared) → MeansDeclare context result from s slot x t v y d → declare context result from s y d ≡ makes (act.Declare slot x t v) (s ++ record { name = x; ty = t } ∷ [])
+  declare_is : (from : ℕ) (s : List Variable) (slot : ℕ) (x : List ℕ) (t : Ty) (v : Option PExpr) (y : TyTree) (d : Declared) → MeansDeclare context result from s slot x t v y d → declare context from s y d ≡ makes (act.Declare slot x t v) (s ++ record { name = x; ty = t } ∷ [])
   declare_is from s slot x t v y d r = rw (r.once, r.type, any_complete s t d.value v r.value) (λ i. makes (act.Declare (sym r.next i) (sym r.name i) t v) (s ++ record { name = sym r.name i; ty = t } ∷ []))
 
-  assign_is : (s : List Variable) (t : Ty) (p q : PExpr) (x y : Expr) → MeansAssign context result s t p q x y → p.ty ≡ Some t → (target_at context s x >>= λ p. assign_to context result s y p) ≡ makes (act.Assign p q) s
+  assign_is : (s : List Variable) (t : Ty) (p q : PExpr) (x y : Expr) → MeansAssign context result s t p q x y → p.ty ≡ Some t → (target_at context s x >>= λ p. assign_to context s y p) ≡ makes (act.Assign p q) s
   assign_is s t p q x y m type = rw (target_complete s t x p m.target, type, value_complete s t y q m.value) refl
 
   -- a target has its type
@@ -163,7 +163,7 @@ module _ (context : Context) (result : Option Ty) (good : AreDistinct context.to
   target_type_is s t p e (inl m) = m.is_at.type
   target_type_is s t p e (inr m) = ap (λ (p : PExpr). p.ty) m.made
 
-  return_is : (s : List Variable) (r : Option Ty) (v : Option PExpr) (e : Option Expr) → ReturnMeans context result s r v e → returned context result s r e ≡ makes (act.Return v) s
+  return_is : (s : List Variable) (r : Option Ty) (v : Option PExpr) (e : Option Expr) → ReturnMeans context result s r v e → returned context s r e ≡ makes (act.Return v) s
   return_is s None None None m = refl
   return_is s (Some t) (Some p) (Some e) m = rw (value_complete s t e p m) refl
   return_is s None None (Some e) m = absurd m

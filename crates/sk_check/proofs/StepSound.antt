@@ -147,7 +147,7 @@ module _ (context : Context) (result : Option Ty) where
     pub means : StmtMeans context result m.made from s e
     pub scope : m.scope ≡ s
 
-  inside_sound : (e : Sounded) (from : ℕ) (s : List Variable) (m : Made PStmt) → inside context result (make context result e.0) from s ≡ Some m → Inside from s e.0 m
+  inside_sound : (e : Sounded) (from : ℕ) (s : List Variable) (m : Made PStmt) → inside (make context result e.0) from s ≡ Some m → Inside from s e.0 m
   inside_sound e from s m h =
       let a = bind_some (make context result e.0 from s) _ m h in
       let g = e.1 from s a.0 a.1 in
@@ -165,19 +165,19 @@ module _ (context : Context) (result : Option Ty) where
   maker_of None = None
   maker_of (Some e) = Some (make context result e.0)
 
-  any_inside_sound : (o : Option Sounded) (from : ℕ) (s : List Variable) (m : Made (Option PStmt)) → any_inside context result (maker_of o) from s ≡ Some m → AnyInside from s (first_of o) m
+  any_inside_sound : (o : Option Sounded) (from : ℕ) (s : List Variable) (m : Made (Option PStmt)) → any_inside (maker_of o) from s ≡ Some m → AnyInside from s (first_of o) m
   any_inside_sound None from s m h = subst (AnyInside from s None) (some_same _ _ h) (record { means = tt; scope = refl })
   any_inside_sound (Some e) from s m h =
-      let a = bind_some (inside context result (make context result e.0) from s) _ m h in
+      let a = bind_some (inside (make context result e.0) from s) _ m h in
       let g = inside_sound e from s a.0 a.1 in
       subst (AnyInside from s (Some e.0)) (some_same _ _ a.2) (record { means = g.means; scope = g.scope })
 
-  in_order_sound : (es : List Sounded) (from : ℕ) (s : List Variable) (m : Made (List PStmt)) → in_order context result (map (make context result) (map (λ q. q.0) es)) from s ≡ Some m → AllGood from s (map (λ q. q.0) es) m
+  in_order_sound : (es : List Sounded) (from : ℕ) (s : List Variable) (m : Made (List PStmt)) → in_order (map (make context result) (map (λ q. q.0) es)) from s ≡ Some m → AllGood from s (map (λ q. q.0) es) m
   in_order_sound [] from s m h = subst (AllGood from s []) (some_same _ m h) (record { mean = tt; grown = refl })
   in_order_sound (e ∷ es) from s m h =
       let p = bind_some (make context result e.0 from s) _ m h in
       let g = e.1 from s p.0 p.1 in
-      let r = bind_some (in_order context result (map (make context result) (map (λ q. q.0) es)) from p.0.scope) _ m p.2 in
+      let r = bind_some (in_order (map (make context result) (map (λ q. q.0) es)) from p.0.scope) _ m p.2 in
       let k = in_order_sound es from p.0.scope r.0 r.1 in
       subst (AllGood from s (e.0 ∷ map (λ q. q.0) es)) (some_same _ m r.2) (record {
         mean = (g.means, subst (λ s. BlockMeans (λ p. p) (StmtMeans context result) from s r.0.made (map (λ q. q.0) es)) g.grown k.mean);
@@ -189,9 +189,9 @@ module _ (context : Context) (result : Option Ty) where
     pub mean : BlockMeans (λ p. p) (StmtMeans context result) (length s) s m.made es
     pub scope : m.scope ≡ s
 
-  block_sound : (es : List Sounded) (s : List Variable) (m : Made (List PStmt)) → block context result (map (make context result) (map (λ q. q.0) es)) s ≡ Some m → BlockGood s (map (λ q. q.0) es) m
+  block_sound : (es : List Sounded) (s : List Variable) (m : Made (List PStmt)) → block (map (make context result) (map (λ q. q.0) es)) s ≡ Some m → BlockGood s (map (λ q. q.0) es) m
   block_sound es s m h =
-      let a = bind_some (in_order context result (map (make context result) (map (λ q. q.0) es)) (length s) s) _ m h in
+      let a = bind_some (in_order (map (make context result) (map (λ q. q.0) es)) (length s) s) _ m h in
       let g = in_order_sound es (length s) s a.0 a.1 in
       subst (BlockGood s (map (λ q. q.0) es)) (some_same _ _ a.2) (record { mean = g.mean; scope = ap (take (length s)) g.grown ∙ left_of_all a.0.made s })
 
@@ -205,12 +205,12 @@ module _ (context : Context) (result : Option Ty) where
       let v = bind_some (any_value_at context s t.0 d.value) _ m t.2 in
       act_good (S.Declare (length s) d.name t.0 v.0) (act.Declare (length s) d.name t.0 v.0) from s _ _ m (act.rolls-Declare (length s) d.name t.0 v.0) (y, d, refl, record { name = refl; type = t.1; next = refl; once = is; value = any_sound s t.0 d.value v.0 v.1 }) refl v.2
 
-  declare_one_sound : (from : ℕ) (s : List Variable) (y : TyTree) (ds : List Declared) (m : Made PForm) → declare_one context result from s y ds ≡ Some m → ActGood from s (form.Declare y ds) m
+  declare_one_sound : (from : ℕ) (s : List Variable) (y : TyTree) (ds : List Declared) (m : Made PForm) → declare_one context from s y ds ≡ Some m → ActGood from s (form.Declare y ds) m
   declare_one_sound from s y [] m h = cc
   declare_one_sound from s y (d ∷ []) m h = declare_sound from s y d (is_taken from (lookup s d.name)) refl m h
   declare_one_sound from s y (d ∷ e ∷ ds) m h = cc
 
-  assign_sound : (from : ℕ) (s : List Variable) (x e : Expr) (m : Made PForm) → (target_at context s x >>= λ p. assign_to context result s e p) ≡ Some m → ActGood from s (form.Assign x e) m
+  assign_sound : (from : ℕ) (s : List Variable) (x e : Expr) (m : Made PForm) → (target_at context s x >>= λ p. assign_to context s e p) ≡ Some m → ActGood from s (form.Assign x e) m
   assign_sound from s x e m h =
       let p = bind_some (target_at context s x) _ m h in
       let g = target_sound s x p.0 p.1 in
@@ -219,7 +219,7 @@ module _ (context : Context) (result : Option Ty) where
       let same : t.0 ≡ g.t = some_same _ _ (sym t.1 ∙ g.type) in
       act_good (S.Assign p.0 q.0) (act.Assign p.0 q.0) from s _ _ m (act.rolls-Assign p.0 q.0) (x, e, refl, g.t, record { target = g.target; value = subst (λ t. IsAt context s t q.0 e) same (value_sound s t.0 e q.0 q.1) }) refl q.2
 
-  return_sound : (from : ℕ) (s : List Variable) (r : Option Ty) (e : Option Expr) → result ≡ r → (m : Made PForm) → returned context result s r e ≡ Some m → ActGood from s (form.Return e) m
+  return_sound : (from : ℕ) (s : List Variable) (r : Option Ty) (e : Option Expr) → result ≡ r → (m : Made PForm) → returned context s r e ≡ Some m → ActGood from s (form.Return e) m
   return_sound from s None None is m h = act_good (S.Return None) (act.Return None) from s _ _ m (act.rolls-Return None) (None, refl, subst (λ r. ReturnMeans context result s r None None) (sym is) tt) refl h
   return_sound from s None (Some e) is m h = cc
   return_sound from s (Some t) None is m h = cc
@@ -261,7 +261,7 @@ module _ (context : Context) (result : Option Ty) where
     where
       go : (y : F.Form-F ((f : Form) × FormSound f) Sounded) (from : ℕ) (s : List Variable) (m : Made PForm) → form_made context result (map-Form Form Stmt Act Do (make_form context result) (make context result) (sounding y)) from s ≡ Some m → (f : Form) → roll-Form (sounding y) ≡ f → ActGood from s f m
       go (F.Block es) from s m h f is =
-          let ps = bind_some (block context result (map (make context result) (map (λ q. q.0) es)) s) _ m h in
+          let ps = bind_some (block (map (make context result) (map (λ q. q.0) es)) s) _ m h in
           let g = block_sound es s ps.0 ps.1 in
           act_good (S.Block ps.0.made) (act.Block ps.0.made) from s _ f m (act.rolls-Block ps.0.made) (map (λ q. q.0) es, sym is ∙ form.rolls-Block (map (λ q. q.0) es), g.mean) g.scope ps.2
       go (F.Declare y ds) from s m h f is = subst (λ f. ActGood from s f m) (sym (form.rolls-Declare y ds) ∙ is) (declare_one_sound from s y ds m h)
@@ -275,19 +275,19 @@ module _ (context : Context) (result : Option Ty) where
           other : (b : Option Sounded) → form_made context result (map-Form Form Stmt Act Do (make_form context result) (make context result) (sounding (F.If c a b))) from s ≡ Some m → roll-Form (sounding (F.If c a b)) ≡ f → ActGood from s f m
           other None h is =
               let p = bind_some (value_at context s bit c) _ m h in
-              let q = bind_some (inside context result (make context result a.0) from s) _ m p.2 in
+              let q = bind_some (inside (make context result a.0) from s) _ m p.2 in
               let g = inside_sound a from s q.0 q.1 in
               act_good (S.If p.0 q.0.made None) (act.If p.0 q.0.made None) from s _ f m (act.rolls-If p.0 q.0.made None) (c, a.0, None, sym is ∙ form.rolls-If c a.0 None, value_sound s bit c p.0 p.1, g.means, tt) g.scope q.2
           other (Some b) h is =
               let p = bind_some (value_at context s bit c) _ m h in
-              let q = bind_some (inside context result (make context result a.0) from s) _ m p.2 in
+              let q = bind_some (inside (make context result a.0) from s) _ m p.2 in
               let ga = inside_sound a from s q.0 q.1 in
-              let o = bind_some (any_inside context result (Some (make context result b.0)) from q.0.scope) _ m q.2 in
-              let gb = any_inside_sound (Some b) from s o.0 (ap (λ s. any_inside context result (Some (make context result b.0)) from s) (sym ga.scope) ∙ o.1) in
+              let o = bind_some (any_inside (Some (make context result b.0)) from q.0.scope) _ m q.2 in
+              let gb = any_inside_sound (Some b) from s o.0 (ap (λ s. any_inside (Some (make context result b.0)) from s) (sym ga.scope) ∙ o.1) in
               act_good (S.If p.0 q.0.made o.0.made) (act.If p.0 q.0.made o.0.made) from s _ f m (act.rolls-If p.0 q.0.made o.0.made) (c, a.0, Some b.0, sym is ∙ form.rolls-If c a.0 (Some b.0), value_sound s bit c p.0 p.1, ga.means, gb.means) gb.scope o.2
       go (F.While c a) from s m h f is =
           let p = bind_some (value_at context s bit c) _ m h in
-          let q = bind_some (inside context result (make context result a.0) from s) _ m p.2 in
+          let q = bind_some (inside (make context result a.0) from s) _ m p.2 in
           let g = inside_sound a from s q.0 q.1 in
           act_good (S.While p.0 q.0.made) (act.While p.0 q.0.made) from s _ f m (act.rolls-While p.0 q.0.made) (c, a.0, sym is ∙ form.rolls-While c a.0, value_sound s bit c p.0 p.1, g.means) g.scope q.2
       go (F.Return e) from s m h f is = subst (λ f. ActGood from s f m) (sym (form.rolls-Return e) ∙ is) (return_sound from s result e refl m h)
@@ -302,15 +302,15 @@ module _ (context : Context) (result : Option Ty) where
           act_good (S.Minimize p.0) (act.Minimize p.0) from s _ f m (act.rolls-Minimize p.0) (e, sym is ∙ form.rolls-Minimize e, value_sound s int e p.0 p.1) refl p.2
       go (F.Repeat c a) from s m h f is =
           let p = bind_some (count_at context s c) _ m h in
-          let q = bind_some (inside context result (make context result a.0) from s) _ m p.2 in
+          let q = bind_some (inside (make context result a.0) from s) _ m p.2 in
           let g = inside_sound a from s q.0 q.1 in
           act_good (S.Repeat p.0 (q.0.made ∷ [])) (act.Repeat p.0 (q.0.made ∷ [])) from s _ f m (act.rolls-Repeat p.0 (q.0.made ∷ [])) (c, a.0, sym is ∙ form.rolls-Repeat c a.0, count_sound s c p.0 p.1, g.means) g.scope q.2
       go (F.MinRepeat a) from s m h f is =
-          let q = bind_some (inside context result (make context result a.0) from s) _ m h in
+          let q = bind_some (inside (make context result a.0) from s) _ m h in
           let g = inside_sound a from s q.0 q.1 in
           act_good (S.MinRepeat (q.0.made ∷ [])) (act.MinRepeat (q.0.made ∷ [])) from s _ f m (act.rolls-MinRepeat (q.0.made ∷ [])) (a.0, sym is ∙ form.rolls-MinRepeat a.0, g.means) g.scope q.2
       go (F.Reorder es) from s m h f is =
-          let ps = bind_some (block context result (map (make context result) (map (λ q. q.0) es)) s) _ m h in
+          let ps = bind_some (block (map (make context result) (map (λ q. q.0) es)) s) _ m h in
           let k = if_some (may_reorder ps.0.made) _ m ps.2 in
           let g = block_sound es s ps.0 ps.1 in
           act_good (S.Reorder ps.0.made) (act.Reorder ps.0.made) from s _ f m (act.rolls-Reorder ps.0.made) (map (λ q. q.0) es, sym is ∙ form.rolls-Reorder (map (λ q. q.0) es), subst (λ ps. IsTrue (may_reorder ps)) (map_id ps.0.made) k.0, g.mean) g.scope k.1

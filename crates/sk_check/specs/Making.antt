@@ -82,7 +82,27 @@ count_at context scope e = form_count context scope e e.form
 
 -- Statements
 
-module _ (context : Context) (result : Option Ty) where
+-- what is made does not leave its variables in scope
+abbrev pub inside : {A : Type 0} → (ℕ → Maker A) → ℕ → Maker A
+inside m from scope = m from scope >>= λ (a : Made A). makes a.made (take (length scope) a.scope)
+
+abbrev pub any_inside : Option (ℕ → Maker PStmt) → ℕ → Maker (Option PStmt)
+any_inside None from scope = makes None scope
+any_inside (Some m) from scope = inside m from scope >>= λ (a : Made PStmt). makes (Some a.made) a.scope
+
+-- statements that follow each other in one block
+abbrev pub in_order : List (ℕ → Maker PStmt) → ℕ → Maker (List PStmt)
+in_order [] from scope = makes [] scope
+in_order (m ∷ ms) from scope = m from scope >>= λ (p : Made PStmt). in_order ms from p.scope >>= λ (ps : Made (List PStmt)). makes (p.made ∷ ps.made) ps.scope
+
+-- a block of its own begins with the next variable
+abbrev pub block : List (ℕ → Maker PStmt) → Maker (List PStmt)
+block ms scope = inside (in_order ms) (length scope) scope
+
+abbrev pub reordered : Made (List PStmt) → Option (Made PForm)
+reordered ps = if may_reorder ps.made then makes (act.Reorder ps.made) ps.scope else None
+
+module _ (context : Context) where
   abbrev pub declare : ℕ → List Variable → TyTree → Declared → Option (Made PForm)
   declare from scope y d =
       if is_taken from (lookup scope d.name) then None else
@@ -101,34 +121,15 @@ module _ (context : Context) (result : Option Ty) where
   returned scope None (Some e) = None
   returned scope (Some t) None = None
 
-  -- what is made does not leave its variables in scope
-  abbrev pub inside : {A : Type 0} → (ℕ → Maker A) → ℕ → Maker A
-  inside m from scope = m from scope >>= λ (a : Made A). makes a.made (take (length scope) a.scope)
-
-  abbrev pub any_inside : Option (ℕ → Maker PStmt) → ℕ → Maker (Option PStmt)
-  any_inside None from scope = makes None scope
-  any_inside (Some m) from scope = inside m from scope >>= λ (a : Made PStmt). makes (Some a.made) a.scope
-
-  -- statements that follow each other in one block
-  abbrev pub in_order : List (ℕ → Maker PStmt) → ℕ → Maker (List PStmt)
-  in_order [] from scope = makes [] scope
-  in_order (m ∷ ms) from scope = m from scope >>= λ (p : Made PStmt). in_order ms from p.scope >>= λ (ps : Made (List PStmt)). makes (p.made ∷ ps.made) ps.scope
-
-  -- a block of its own begins with the next variable
-  abbrev pub block : List (ℕ → Maker PStmt) → Maker (List PStmt)
-  block ms scope = inside (in_order ms) (length scope) scope
-
-  abbrev pub reordered : Made (List PStmt) → Option (Made PForm)
-  reordered ps = if may_reorder ps.made then makes (act.Reorder ps.made) ps.scope else None
-
+module _ (context : Context) (result : Option Ty) where
   abbrev pub form_made : F.Form-F (ℕ → Maker PForm) (ℕ → Maker PStmt) → ℕ → Maker PForm
   form_made (F.Block ms) from scope = block ms scope >>= λ (ps : Made (List PStmt)). makes (act.Block ps.made) ps.scope
-  form_made (F.Declare y ds) from scope = declare_one from scope y ds
-  form_made (F.Assign x e) from scope = target_at context scope x >>= λ p. assign_to scope e p
+  form_made (F.Declare y ds) from scope = declare_one context from scope y ds
+  form_made (F.Assign x e) from scope = target_at context scope x >>= λ p. assign_to context scope e p
   form_made (F.Call e) from scope = call_of context scope e >>= λ p. makes (act.Call p) scope
   form_made (F.If c a b) from scope = value_at context scope bit c >>= λ p. inside a from scope >>= λ (q : Made PStmt). any_inside b from q.scope >>= λ (r : Made (Option PStmt)). makes (act.If p q.made r.made) r.scope
   form_made (F.While c a) from scope = value_at context scope bit c >>= λ p. inside a from scope >>= λ (q : Made PStmt). makes (act.While p q.made) q.scope
-  form_made (F.Return e) from scope = returned scope result e
+  form_made (F.Return e) from scope = returned context scope result e
   form_made (F.Assert e) from scope = value_at context scope bit e >>= λ p. makes (act.Assert p) scope
   form_made (F.Assume e) from scope = value_at context scope bit e >>= λ p. makes (act.Assume p) scope
   form_made (F.Minimize e) from scope = value_at context scope int e >>= λ p. makes (act.Minimize p) scope

@@ -41,29 +41,6 @@ fn is_grid(n: u32, m: u32) -> bool
     is_length(n) && is_length(m) && n * m <= 256
 }
 
-fn with_lengths(elem: Elem, lengths: &[Option<u32>]) -> Option<Ty>
-    ensures { result ≡ with_lengths elem lengths.now }
-{
-    match lengths {
-        [] => Some(Ty::One(elem)),
-        [Some(n)] => {
-            if is_length(*n) {
-                Some(Ty::Array(elem, *n))
-            } else {
-                None
-            }
-        }
-        [Some(n), Some(m)] => {
-            if is_grid(*n, *m) {
-                Some(Ty::Grid(elem, *n, *m))
-            } else {
-                None
-            }
-        }
-        _ => None,
-    }
-}
-
 fn is_declaration(stmt: &PStmt) -> bool
     ensures { result ≡ is_declaration stmt.now }
 {
@@ -108,6 +85,29 @@ impl Env<'_> {
                 let s = struct_meant(self.meaning(scope, name))?;
                 Some(Elem::Reference(s))
             }
+        }
+    }
+
+    fn with_lengths(&self, scope: &[Variable], elem: Elem, lengths: &[Option<u32>]) -> Option<Ty>
+        ensures { result ≡ with_lengths (context_of self.now) scope.now elem lengths.now }
+    {
+        match lengths {
+            [] => Some(Ty::One(elem)),
+            [Some(n)] => {
+                if is_length(*n) {
+                    Some(Ty::Array(elem, *n))
+                } else {
+                    None
+                }
+            }
+            [Some(n), Some(m)] => {
+                if is_grid(*n, *m) {
+                    Some(Ty::Grid(elem, *n, *m))
+                } else {
+                    None
+                }
+            }
+            _ => None,
         }
     }
 
@@ -192,7 +192,7 @@ impl Env<'_> {
             return Err(fault(Rule::UnknownName, span));
         };
         let lengths = self.lengths(scope, ty.lengths.as_slice())?;
-        match with_lengths(elem, lengths.as_slice()) {
+        match self.with_lengths(scope, elem, lengths.as_slice()) {
             None => Err(fault(Rule::LengthRange, span)),
             Some(ty) => Ok(ty),
         }
