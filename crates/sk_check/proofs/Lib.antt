@@ -16,3 +16,5 @@ pub mod CallsComplete
 pub mod StepSound
 pub mod StepComplete
 pub mod WholeNames
+pub mod WholeSound
+pub mod WholeComplete

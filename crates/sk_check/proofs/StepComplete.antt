@@ -35,7 +35,7 @@ use Rattle.sk_types.proofs.Layers.{ActMeans, act_rule, act_means_are, stmt_means
 use Rattle.sk_check.specs.Envs.{AreDistinct}
 use Rattle.sk_check.specs.Elaborate.{typed, all_at}
 use Rattle.sk_check.specs.Parts.{part, ats}
-use Rattle.sk_check.specs.Making.{Made, makes, Maker, value_at, any_value_at, pattern_target, form_target, target_in, target_at, call_of, form_count, count_at, declare, assign_to, returned, inside, any_inside, in_order, block, reordered, form_made, make_form, make}
+use Rattle.sk_check.specs.Making.{Made, makes, Maker, value_at, any_value_at, pattern_target, form_target, target_in, target_at, call_of, form_count, count_at, declare, assign_to, returned, inside, any_inside, in_order, block, reordered, form_made, make_form, make, make_all}
 use Rattle.sk_check.proofs.Ats.{bind_some, some_same}
 use Rattle.sk_check.proofs.Exact.{is_at}
 use Rattle.sk_check.proofs.Scopes.{pstmt_law, after_form, after_form_is, after_is, after_all, left_of, left_of_all}
@@ -45,7 +45,7 @@ use Rattle.sk_check.proofs.StepSound.{Act, Do, make_form_is, make_is, map_id}
 module _ (context : Context) (result : Option Ty) (good : AreDistinct context.top) where
   -- Expressions
 
-  value_complete : (s : List Variable) (t : Ty) (e : Expr) (p : PExpr) → IsAt context s t p e → value_at context s t e ≡ Some p
+  pub value_complete : (s : List Variable) (t : Ty) (e : Expr) (p : PExpr) → IsAt context s t p e → value_at context s t e ≡ Some p
   unfolding value_at
   value_complete s t e p m = is_at context s good t e p m
 
@@ -211,3 +211,9 @@ module _ (context : Context) (result : Option Ty) (good : AreDistinct context.to
       form_layer (S.Reorder qs) = of_act (S.Reorder (map (λ q. q.0) qs)) (act.Reorder (map (λ q. q.0) qs)) (act.rolls-Reorder (map (λ q. q.0) qs)) (λ from s f r.
           let may : may_reorder (map (λ q. q.0) qs) ≡ true = subst (λ ps. IsTrue (may_reorder ps)) (sym (map_id (map (λ q. q.0) qs))) r.2 in
           form_layer_is f _ (F.Reorder r.0) from s _ r.1 (sym (form.rolls-Reorder r.0)) (rw (block_is qs s r.0 r.3, may) refl))
+
+  pub all_complete : (from : ℕ) (s : List Variable) (ps : List PStmt) (es : List Stmt) → BlockMeans (λ p. p) (StmtMeans context result) from s ps es → make_all context result es from s ≡ makes ps (after_all ps s)
+  all_complete from s [] [] m = refl
+  all_complete from s (p ∷ ps) (e ∷ es) m = rw (complete p from s e m.0, all_complete from (after p s) ps es m.1) refl
+  all_complete from s [] (e ∷ es) m = absurd m
+  all_complete from s (p ∷ ps) [] m = absurd m

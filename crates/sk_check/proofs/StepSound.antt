@@ -53,7 +53,7 @@ map_id (x ∷ xs) = ap (λ rest. x ∷ rest) (map_id xs)
 module _ (context : Context) (result : Option Ty) where
   -- Expressions
 
-  value_sound : (s : List Variable) (t : Ty) (e : Expr) (p : PExpr) → value_at context s t e ≡ Some p → IsAt context s t p e
+  pub value_sound : (s : List Variable) (t : Ty) (e : Expr) (p : PExpr) → value_at context s t e ≡ Some p → IsAt context s t p e
   unfolding value_at
   value_sound s t e p h = found context s t e p h
 
@@ -330,3 +330,15 @@ module _ (context : Context) (result : Option Ty) where
             means = subst (λ (R : StmtRule). R from s e) (sym (stmt_means_is context result p)) (refl, g.means);
             grown = g.grown ∙ ap (λ (k : Grows). k s) (sym (after_is p));
           })
+
+  pub all_sound : (from : ℕ) (s : List Variable) (es : List Stmt) (m : Made (List PStmt)) → make_all context result es from s ≡ Some m → AllGood from s es m
+  all_sound from s [] m h = subst (AllGood from s []) (some_same _ m h) (record { mean = tt; grown = refl })
+  all_sound from s (e ∷ es) m h =
+      let p = bind_some (make context result e from s) _ m h in
+      let g = sound e from s p.0 p.1 in
+      let r = bind_some (make_all context result es from p.0.scope) _ m p.2 in
+      let k = all_sound from p.0.scope es r.0 r.1 in
+      subst (AllGood from s (e ∷ es)) (some_same _ m r.2) (record {
+        mean = (g.means, subst (λ s. BlockMeans (λ p. p) (StmtMeans context result) from s r.0.made es) g.grown k.mean);
+        grown = k.grown ∙ ap (after_all r.0.made) g.grown;
+      })

@@ -73,10 +73,11 @@ heading_of context g = any_written context g.result >>= λ t. params_of context 
 abbrev pub context_in : Bounds → Top → List Known → Context
 context_in bounds top known = record { bounds = bounds; top = top; known = known }
 
--- The names at the top give the types; the constants that stand before an item are known in it.
+-- The names at the top give the types; the constants that stand before an item are known in it. A plain tree holds no
+-- pragma.
 abbrev pub typed_top : Bounds → Top → List Known → List Item → Option Top
 typed_top bounds names known [] = Some no_top
-typed_top bounds names known (item.Pragma word text ∷ is) = typed_top bounds names known is
+typed_top bounds names known (item.Pragma word text ∷ is) = None
 typed_top bounds names known (item.Struct x ys ∷ is) = struct_of (context_in bounds names known) x ys >>= λ d. typed_top bounds names known is >>= λ top. Some (with_struct d top)
 typed_top bounds names known (item.Const x e ∷ is) = constant_number (context_in bounds names known) [] e >>= λ n. typed_top bounds names (known ++ record { name = x; number = n } ∷ []) is >>= λ top. Some (with_const x top)
 typed_top bounds names known (item.Fun g ∷ is) = heading_of (context_in bounds names known) g >>= λ s. typed_top bounds names known is >>= λ top. Some (with_fun s top)
@@ -111,7 +112,7 @@ pub record Bodies : Type 0 where
 
 abbrev pub bodies_of : Bounds → Top → List Known → List Item → Option Bodies
 bodies_of bounds top known [] = Some (record { consts = []; funs = [] })
-bodies_of bounds top known (item.Pragma word text ∷ is) = bodies_of bounds top known is
+bodies_of bounds top known (item.Pragma word text ∷ is) = None
 bodies_of bounds top known (item.Struct x ys ∷ is) = bodies_of bounds top known is
 bodies_of bounds top known (item.Const x e ∷ is) = constant_number (context_in bounds top known) [] e >>= λ n. const_of (context_in bounds top known) x e n >>= λ c. bodies_of bounds top (known ++ record { name = x; number = n } ∷ []) is >>= λ (b : Bodies). Some (record { consts = c ∷ b.consts; funs = b.funs })
 bodies_of bounds top known (item.Fun g ∷ is) = heading_of (context_in bounds top known) g >>= λ s. fun_of (context_in bounds top known) g s >>= λ f. bodies_of bounds top known is >>= λ (b : Bodies). Some (record { consts = b.consts; funs = f ∷ b.funs })
