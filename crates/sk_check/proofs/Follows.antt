@@ -8,6 +8,7 @@ use Rattle.sk_types.specs.Rules.{◌>>=◌}
 use Rattle.sk_types.specs.Scope.{Signature}
 use Rattle.sk_check.specs.declared.env.Heading.{Heading}
 use Rattle.sk_check.specs.Envs.{signature}
+use Rattle.sk_check.specs.Making.{Made, makes}
 use Rattle.sk_check.specs.Elaborate.{with_string, Argument, arguments_at}
 use Rattle.sk_check.proofs.Places.{split_at}
 
@@ -15,6 +16,11 @@ use Rattle.sk_check.proofs.Places.{split_at}
 pub one_more : {X : Type 0} (m : Option (List X)) (xs : List X) (x : X) → ((m >>= λ rest. Some (x ∷ rest)) >>= λ rest. Some (xs ++ rest)) ≡ (m >>= λ rest. Some ((xs ++ x ∷ []) ++ rest))
 one_more (Some r) xs x = ap Some (sym (append_assoc xs (x ∷ []) r))
 one_more None xs x = refl
+
+-- one more statement
+pub one_more_made : {X : Type 0} (m : Option (Made (List X))) (xs : List X) (x : X) → ((m >>= λ rest. makes (x ∷ rest.made) rest.scope) >>= λ rest. makes (xs ++ rest.made) rest.scope) ≡ (m >>= λ rest. makes ((xs ++ x ∷ []) ++ rest.made) rest.scope)
+one_more_made (Some r) xs x = ap (λ l. makes l r.scope) (sym (append_assoc xs (x ∷ []) r.made))
+one_more_made None xs x = refl
 
 pub one_kept : (kept rest : List PExpr) (p : PExpr) (o : Option PExpr) → o ≡ Some p → kept ++ with_string o rest ≡ (kept ++ p ∷ []) ++ rest
 one_kept kept rest p o e = rw e (sym (append_assoc kept (p ∷ []) rest))
@@ -64,3 +70,5 @@ pub ruleset steps = (split_at, one_more)
 pub ruleset passes = (split_at, one_more, get_drop, get_none, too_few, just_so)
 
 pub ruleset kept = (split_at, one_kept, none_kept)
+
+pub ruleset makers = (split_at, one_more_made)

@@ -3,6 +3,9 @@ use Rattle.std.specs.Prelude.{◌≡◌, List, Option, Some, None, Result, Ok, E
 use Rattle.sk_types.specs.declared.scope.Variable.{Variable}
 use Rattle.sk_check.specs.declared.fault.Typing.{Typing}
 use Rattle.sk_check.specs.declared.fault.Typing.TheVariants.{Fault, Memory}
+use Rattle.sk_types.specs.Scope.{Signature}
+use Rattle.sk_check.specs.declared.env.Heading.{Heading}
+use Rattle.sk_check.specs.Envs.{signature}
 use Rattle.sk_check.specs.Gives.{Fails}
 use Rattle.sk_check.specs.Making.{Made}
 
@@ -14,3 +17,8 @@ Enters (Err (Fault f)) s t = ⊥
 abbrev pub Leaves : {A : Type 0} → Result A Typing → List Variable → Option (Made A) → Type 0
 Leaves (Ok a) s o = o ≡ Some (record { made = a; scope = s })
 Leaves (Err fault) s o = Fails fault o
+
+-- what a function is to its callers
+abbrev pub GivesHeading : Result Heading Typing → Option Signature → Type 0
+GivesHeading (Ok h) o = o ≡ Some (signature h)
+GivesHeading (Err fault) o = Fails fault o

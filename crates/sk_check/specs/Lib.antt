@@ -8,3 +8,4 @@ pub mod Making
 pub mod Targets
 pub mod Leaves
 pub mod Whole
+pub mod Rooms

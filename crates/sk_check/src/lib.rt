@@ -1,16 +1,24 @@
 //! Typing: the program that a tree means.
 #![tactic(auto)]
 
+mod block;
 mod copy;
 mod elaborate;
 mod env;
 mod fault;
 mod found;
+mod free;
+mod items;
 mod number;
 mod own;
 mod plainer;
+mod room;
 mod rules;
+mod target;
 
 pub use env::{Constant, Env, Heading};
 pub use fault::{Rule, TypeFault, Typing};
 pub use plainer::plain;
+
+#[cfg(test)]
+mod tests;
