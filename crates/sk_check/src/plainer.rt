@@ -146,27 +146,142 @@ fn declared_alone(
     Ok(stmts)
 }
 
+/// One turn of a loop: its body, and its next statement behind it.
+fn turn(alloc: Global, span: Span, body: Stmt, next: List<Stmt>) -> Result<Boxed<Stmt>, AllocError>
+    ensures { IfOk result (λ stmt. stmt ≡ stmt_at span (form.Block (body ∷ next))) }
+{
+    let mut stmts = List::new(alloc);
+    stmts.push(body)?;
+    stmts.append(next)?;
+    let turn = Boxed::new(alloc, block(span, stmts))?;
+    Ok(turn)
+}
+
 /// A loop with its first statement before it, and its next one behind its body.
 fn looped(
     alloc: Global,
     span: Span,
     first: List<Stmt>,
-    cond: Expr,
+    cond: &Expr,
     next: List<Stmt>,
     body: Stmt,
 ) -> Result<Rewritten, AllocError>
-    ensures { IfOk result (λ p. seen p ≡ a_block span (first ++ stmt_at span (form.While cond (stmt_at span (form.Block (body ∷ next)))) ∷ [])) }
+    ensures { IfOk result (λ p. seen p ≡ a_block span (first ++ stmt_at span (form.While cond.now (stmt_at span (form.Block (body ∷ next)))) ∷ [])) }
 {
-    let mut turn = List::new(alloc);
-    turn.push(body)?;
-    turn.append(next)?;
-    let body = Boxed::new(alloc, block(span, turn))?;
+    let body = turn(alloc, span, body, next)?;
+    let cond = copy_expr(alloc, cond)?;
     let mut stmts = first;
     stmts.push(Stmt {
         span,
         form: Form::While { cond, body },
     })?;
     Ok(Rewritten::Block(block(span, stmts)))
+}
+
+fn assigned(alloc: Global, span: Span, target: &Expr, value: &Expr) -> Result<Rewritten, AllocError>
+    ensures { IfOk result (λ p. seen p ≡ one span (form.Assign target.now value.now)) }
+{
+    let target = copy_expr(alloc, target)?;
+    let value = copy_expr(alloc, value)?;
+    let plain = one(alloc, span, Form::Assign { target, value })?;
+    Ok(plain)
+}
+
+/// A step, as the assignment that it stands for.
+fn step(
+    alloc: Global,
+    span: Span,
+    kind: StepKind,
+    target: &Expr,
+    by: &Option<Expr>,
+) -> Result<Rewritten, AllocError>
+    ensures { IfOk result (λ p. seen p ≡ one span (form.Assign target.now (stepped kind span target.now by.now))) }
+{
+    let value = stepped(alloc, kind, span, target, by)?;
+    let target = copy_expr(alloc, target)?;
+    let plain = one(alloc, span, Form::Assign { target, value })?;
+    Ok(plain)
+}
+
+fn called(alloc: Global, span: Span, e: &Expr) -> Result<Rewritten, AllocError>
+    ensures { IfOk result (λ p. seen p ≡ one span (form.Call e.now)) }
+{
+    let e = copy_expr(alloc, e)?;
+    let plain = one(alloc, span, Form::Call(e))?;
+    Ok(plain)
+}
+
+fn returned(alloc: Global, span: Span, e: &Option<Expr>) -> Result<Rewritten, AllocError>
+    ensures { IfOk result (λ p. seen p ≡ one span (form.Return e.now)) }
+{
+    let e = copy_any(alloc, e)?;
+    let plain = one(alloc, span, Form::Return(e))?;
+    Ok(plain)
+}
+
+fn asserted(alloc: Global, span: Span, e: &Expr) -> Result<Rewritten, AllocError>
+    ensures { IfOk result (λ p. seen p ≡ one span (form.Assert e.now)) }
+{
+    let e = copy_expr(alloc, e)?;
+    let plain = one(alloc, span, Form::Assert(e))?;
+    Ok(plain)
+}
+
+fn assumed(alloc: Global, span: Span, e: &Expr) -> Result<Rewritten, AllocError>
+    ensures { IfOk result (λ p. seen p ≡ one span (form.Assume e.now)) }
+{
+    let e = copy_expr(alloc, e)?;
+    let plain = one(alloc, span, Form::Assume(e))?;
+    Ok(plain)
+}
+
+fn minimized(alloc: Global, span: Span, e: &Expr) -> Result<Rewritten, AllocError>
+    ensures { IfOk result (λ p. seen p ≡ one span (form.Minimize e.now)) }
+{
+    let e = copy_expr(alloc, e)?;
+    let plain = one(alloc, span, Form::Minimize(e))?;
+    Ok(plain)
+}
+
+/// A condition with its bodies.
+fn conditional(
+    alloc: Global,
+    span: Span,
+    cond: &Expr,
+    then: Boxed<Stmt>,
+    other: Option<Boxed<Stmt>>,
+) -> Result<Rewritten, AllocError>
+    ensures { IfOk result (λ p. seen p ≡ one span (form.If cond.now then other)) }
+{
+    let cond = copy_expr(alloc, cond)?;
+    let plain = one(alloc, span, Form::If { cond, then, other })?;
+    Ok(plain)
+}
+
+fn while_loop(
+    alloc: Global,
+    span: Span,
+    cond: &Expr,
+    body: Boxed<Stmt>,
+) -> Result<Rewritten, AllocError>
+    ensures { IfOk result (λ p. seen p ≡ one span (form.While cond.now body)) }
+{
+    let cond = copy_expr(alloc, cond)?;
+    let plain = one(alloc, span, Form::While { cond, body })?;
+    Ok(plain)
+}
+
+fn repeated(
+    alloc: Global,
+    span: Span,
+    count: &Expr,
+    body: Boxed<Stmt>,
+) -> Result<Rewritten, AllocError>
+    ensures { IfOk result (λ p. seen p ≡ one span (form.Repeat count.now body)) }
+{
+    let count = copy_expr(alloc, count)?;
+    let plain = one(alloc, span, Form::Repeat { count, body })?;
+    Ok(plain)
 }
 
 #[cycle(plain)]
@@ -176,6 +291,16 @@ fn plain_body(alloc: Global, stmt: &Stmt) -> Result<Boxed<Stmt>, AllocError>
     let plain = plainly(alloc, stmt)?;
     let body = Boxed::new(alloc, into_body(plain))?;
     Ok(body)
+}
+
+/// The statements that a statement becomes among others.
+#[cycle(plain)]
+fn made(alloc: Global, stmt: &Stmt) -> Result<List<Stmt>, AllocError>
+    ensures { IfOk result (λ stmts. stmts ≡ (plainly stmt.now).made) }
+{
+    let plain = plainly(alloc, stmt)?;
+    let stmts = into_stmts(alloc, plain)?;
+    Ok(stmts)
 }
 
 #[cycle(plain)]
@@ -195,13 +320,12 @@ fn any_body(alloc: Global, stmt: &Option<Boxed<Stmt>>) -> Result<Option<Boxed<St
 fn all_made(alloc: Global, stmts: &[Stmt]) -> Result<List<Stmt>, AllocError>
     ensures { IfOk result (λ made. made ≡ all_made (map plainly stmts.now)) }
 {
-    let mut made = List::new(alloc);
+    let mut rows = List::new(alloc);
     for stmt in stmts {
-        let plain = plainly(alloc, stmt)?;
-        let more = into_stmts(alloc, plain)?;
-        made.append(more)?;
+        let more = made(alloc, stmt)?;
+        rows.append(more)?;
     }
-    Ok(made)
+    Ok(rows)
 }
 
 #[cycle(plain)]
@@ -215,11 +339,8 @@ fn plain_for(
 ) -> Result<Rewritten, AllocError>
     ensures { IfOk result (λ p. seen p ≡ a_block span ((plainly first.now).made ++ stmt_at span (form.While cond.now (stmt_at span (form.Block ((plainly body.now).body ∷ (plainly next.now).made)))) ∷ [])) }
 {
-    let first = plainly(alloc, first)?;
-    let first = into_stmts(alloc, first)?;
-    let cond = copy_expr(alloc, cond)?;
-    let next = plainly(alloc, next)?;
-    let next = into_stmts(alloc, next)?;
+    let first = made(alloc, first)?;
+    let next = made(alloc, next)?;
     let body = plainly(alloc, body)?;
     let plain = looped(alloc, span, first, cond, next, into_body(body))?;
     Ok(plain)
@@ -247,16 +368,14 @@ fn form_plain(alloc: Global, span: Span, form: &Form) -> Result<Rewritten, Alloc
             stmts: List::new(alloc),
         }),
         Form::If { cond, then, other } => {
-            let cond = copy_expr(alloc, cond)?;
             let then = plain_body(alloc, then.get())?;
             let other = any_body(alloc, other)?;
-            let plain = one(alloc, span, Form::If { cond, then, other })?;
+            let plain = conditional(alloc, span, cond, then, other)?;
             Ok(plain)
         }
         Form::While { cond, body } => {
-            let cond = copy_expr(alloc, cond)?;
             let body = plain_body(alloc, body.get())?;
-            let plain = one(alloc, span, Form::While { cond, body })?;
+            let plain = while_loop(alloc, span, cond, body)?;
             Ok(plain)
         }
         Form::For {
@@ -269,9 +388,8 @@ fn form_plain(alloc: Global, span: Span, form: &Form) -> Result<Rewritten, Alloc
             Ok(plain)
         }
         Form::Repeat { count, body } => {
-            let count = copy_expr(alloc, count)?;
             let body = plain_body(alloc, body.get())?;
-            let plain = one(alloc, span, Form::Repeat { count, body })?;
+            let plain = repeated(alloc, span, count, body)?;
             Ok(plain)
         }
         Form::MinRepeat(body) => {
@@ -289,40 +407,31 @@ fn form_plain(alloc: Global, span: Span, form: &Form) -> Result<Rewritten, Alloc
             Ok(Rewritten::Row { span, stmts })
         }
         Form::Assign { target, value } => {
-            let target = copy_expr(alloc, target)?;
-            let value = copy_expr(alloc, value)?;
-            let plain = one(alloc, span, Form::Assign { target, value })?;
+            let plain = assigned(alloc, span, target, value)?;
             Ok(plain)
         }
         Form::Call(e) => {
-            let e = copy_expr(alloc, e)?;
-            let plain = one(alloc, span, Form::Call(e))?;
+            let plain = called(alloc, span, e)?;
             Ok(plain)
         }
         Form::Step { kind, target, by } => {
-            let value = stepped(alloc, *kind, span, target, by)?;
-            let target = copy_expr(alloc, target)?;
-            let plain = one(alloc, span, Form::Assign { target, value })?;
+            let plain = step(alloc, span, *kind, target, by)?;
             Ok(plain)
         }
         Form::Return(e) => {
-            let e = copy_any(alloc, e)?;
-            let plain = one(alloc, span, Form::Return(e))?;
+            let plain = returned(alloc, span, e)?;
             Ok(plain)
         }
         Form::Assert(e) => {
-            let e = copy_expr(alloc, e)?;
-            let plain = one(alloc, span, Form::Assert(e))?;
+            let plain = asserted(alloc, span, e)?;
             Ok(plain)
         }
         Form::Assume(e) => {
-            let e = copy_expr(alloc, e)?;
-            let plain = one(alloc, span, Form::Assume(e))?;
+            let plain = assumed(alloc, span, e)?;
             Ok(plain)
         }
         Form::Minimize(e) => {
-            let e = copy_expr(alloc, e)?;
-            let plain = one(alloc, span, Form::Minimize(e))?;
+            let plain = minimized(alloc, span, e)?;
             Ok(plain)
         }
     }

@@ -5,4 +5,4 @@ use Rattle.sk_check.proofs.plainer.+plain.Given as goal
 
 -- what is made and what is to come
 abbrev pub invariant-all_made-loop-stmt : goal.invariant-all_made-loop-stmt
-invariant-all_made-loop-stmt l = l.made ++ all_made (map plainly (drop l.stmt-index l.stmts)) ≡ all_made (map plainly l.stmts)
+invariant-all_made-loop-stmt l = l.rows ++ all_made (map plainly (drop l.stmt-index l.stmts)) ≡ all_made (map plainly l.stmts)
