@@ -50,7 +50,7 @@ use Rattle.sk_check.specs.declared.found.Found.{Found}
 use Rattle.sk_check.specs.declared.found.View.{View}
 use Rattle.sk_check.specs.declared.found.Wants.{Wants}
 use Rattle.sk_check.specs.declared.found.Called.{Called}
-use Rattle.sk_check.specs.Elaborate.{At, FormAt, typed, coerced, firm_at, number_at, named_at, all_at, element_wanted, string_at, with_string, strings_at, pattern_at, may_pass, argument_at, arguments_at, Setting, field_found, setting_at, settings_at, Callee, callable, callee_meant, called, call_at, record_form, record_in, record_at, member_found, member_in, member_at, viewed, indexed, index_at, cut, slice_at, flip_wants, unary_wants, unary_at, operands_want, shift_wants, binary_wants, binary_at, item_of, argument_of, setting_of, at_of, eform_at, form_at, at, field_at, ats, items, arguments, settings, paired}
+use Rattle.sk_check.specs.Elaborate.{At, FormAt, typed, coerced, firm_at, number_at, named_at, all_at, element_wanted, string_at, with_string, strings_at, pattern_at, may_pass, argument_at, arguments_at, Setting, field_found, setting_at, settings_at, Callee, callable, callee_meant, called, call_at, record_form, record_in, record_at, member_found, member_in, member_at, viewed, indexed, index_at, cut, slice_at, flip_wants, unary_wants, unary_at, operands_want, shift_wants, binary_wants, binary_at, item_of, argument_of, setting_of, at_of, eform_at, form_at, at, field_at}
 use Rattle.sk_check.proofs.Ats.{both_true, both, ty_self, fit_same, bind_some, some_same, pexpr_law, form_at_is, at_is, field_at_is}
 use Rattle.sk_check.proofs.Stands.{dropped_none}
 use Rattle.sk_check.proofs.Bare.{placed, bare_at}
@@ -77,47 +77,43 @@ only_is b x h = rw h refl
 -- Names of fields
 
 differs : (x y : List ℕ) → bytes_eq x y ≡ false → x ≢ y
-differs x y is e = let same = (bytes_eq-Decides x y).1 is in cc
+differs x y is e = let same = (bytes_eq-Decides x y).1 e in cc
 
 equal_self : (x : List ℕ) → bytes_eq x x ≡ true
-equal_self x = go (bytes_eq x x) refl
-  where
-    go : (b : Bool) → bytes_eq x x ≡ b → b ≡ true
-    go true is = refl
-    go false is = absurd (differs x x is refl)
+equal_self x = (bytes_eq-Decides x x).1 refl
 
-none_named : (xs : List FieldDef) (x : List ℕ) → list_any (bytes_eq x) (map (λ (y : FieldDef). y.name) xs) ≡ false → (i : ℕ) (t : Ty) → slice_get xs i ≡ Some (record { name = x; ty = t }) → ⊥
-none_named [] x h i t e = cc
-none_named (y ∷ ys) x h i t e = go (bytes_eq x y.name) refl i e h
-  where
-    go : (b : Bool) → bytes_eq x y.name ≡ b → (i : ℕ) → slice_get (y ∷ ys) i ≡ Some (record { name = x; ty = t }) → (b || list_any (bytes_eq x) (map (λ (y : FieldDef). y.name) ys)) ≡ false → ⊥
-    go true is i e h = cc
-    go false is zero e h = let same : y ≡ record { name = x; ty = t } = cc in differs x y.name is (sym (ap (λ (y : FieldDef). y.name) same))
-    go false is (suc i) e h = none_named ys x h i t e
+none_more : (ys : List FieldDef) (x : List ℕ) (t : Ty) → (list_any (bytes_eq x) (map (λ (y : FieldDef). y.name) ys) ≡ false → (i : ℕ) → slice_get ys i ≡ Some (record { name = x; ty = t }) → ⊥) → (y : FieldDef) (b : Bool) → bytes_eq x y.name ≡ b → (i : ℕ) → slice_get (y ∷ ys) i ≡ Some (record { name = x; ty = t }) → (b || list_any (bytes_eq x) (map (λ (y : FieldDef). y.name) ys)) ≡ false → ⊥
+none_more ys x t rest y true is i e h = cc
+none_more ys x t rest y false is zero e h = let same : y ≡ record { name = x; ty = t } = cc in differs x y.name is (sym (ap (λ (y : FieldDef). y.name) same))
+none_more ys x t rest y false is (suc i) e h = rest h i e
+
+none_named : (xs : List FieldDef) (x : List ℕ) (t : Ty) → list_any (bytes_eq x) (map (λ (y : FieldDef). y.name) xs) ≡ false → (i : ℕ) → slice_get xs i ≡ Some (record { name = x; ty = t }) → ⊥
+none_named [] x t h i e = cc
+none_named (y ∷ ys) x t h i e = none_more ys x t (none_named ys x t) y (bytes_eq x y.name) refl i e h
 
 distinct_parts : (b c : Bool) → (not b && c) ≡ true → (b ≡ false) × (c ≡ true)
 distinct_parts true c h = cc
 distinct_parts false c h = (refl, h)
 
-place_is : (xs : List FieldDef) (x : List ℕ) (i : ℕ) (t : Ty) → all_distinct (map (λ (y : FieldDef). y.name) xs) ≡ true → slice_get xs i ≡ Some (record { name = x; ty = t }) → place_of (map (λ (y : FieldDef). y.name) xs) x ≡ Some i
-place_is [] x i t d e = cc
-place_is (y ∷ ys) x i t d e = let h = distinct_parts _ _ d in go i e h.0 h.1
+place_more : (ys : List FieldDef) (x : List ℕ) (t : Ty) → ((i : ℕ) → slice_get ys i ≡ Some (record { name = x; ty = t }) → place_of (map (λ (y : FieldDef). y.name) ys) x ≡ Some i) → (y : FieldDef) → list_any (bytes_eq y.name) (map (λ (y : FieldDef). y.name) ys) ≡ false → (i : ℕ) → slice_get (y ∷ ys) i ≡ Some (record { name = x; ty = t }) → place_of (map (λ (y : FieldDef). y.name) (y ∷ ys)) x ≡ Some i
+place_more ys x t rest y h zero e =
+    let same : y ≡ record { name = x; ty = t } = cc in
+    let is : bytes_eq y.name x ≡ true = ap (λ z. bytes_eq z x) (ap (λ (y : FieldDef). y.name) same) ∙ equal_self x in
+    rw is refl
+place_more ys x t rest y h (suc i) e = later (bytes_eq y.name x) refl
   where
-    go : (i : ℕ) → slice_get (y ∷ ys) i ≡ Some (record { name = x; ty = t }) → list_any (bytes_eq y.name) (map (λ (y : FieldDef). y.name) ys) ≡ false → all_distinct (map (λ (y : FieldDef). y.name) ys) ≡ true → place_of (map (λ (y : FieldDef). y.name) (y ∷ ys)) x ≡ Some i
-    go zero e h d =
-        let same : y ≡ record { name = x; ty = t } = cc in
-        let is : bytes_eq y.name x ≡ true = ap (λ z. bytes_eq z x) (ap (λ (y : FieldDef). y.name) same) ∙ equal_self x in
-        rw is refl
-    go (suc i) e h d = later (bytes_eq y.name x) refl
-      where
-        later : (b : Bool) → bytes_eq y.name x ≡ b → (if b then Some 0 else next_place (place_of (map (λ (y : FieldDef). y.name) ys) x)) ≡ Some (suc i)
-        later true is =
-            let same = (bytes_eq-Decides y.name x).0 is in
-            absurd (none_named ys y.name h i t (e ∙ ap (λ z. Some (record { name = z; ty = t })) (sym same)))
-        later false is = ap next_place (place_is ys x i t d e)
+    later : (b : Bool) → bytes_eq y.name x ≡ b → (if b then Some 0 else next_place (place_of (map (λ (y : FieldDef). y.name) ys) x)) ≡ Some (suc i)
+    later true is =
+        let same = (bytes_eq-Decides y.name x).0 is in
+        absurd (none_named ys y.name t h i (e ∙ ap (λ z. Some (record { name = z; ty = t })) (sym same)))
+    later false is = ap next_place (rest i e)
+
+place_is : (xs : List FieldDef) (x : List ℕ) (t : Ty) → all_distinct (map (λ (y : FieldDef). y.name) xs) ≡ true → (i : ℕ) → slice_get xs i ≡ Some (record { name = x; ty = t }) → place_of (map (λ (y : FieldDef). y.name) xs) x ≡ Some i
+place_is [] x t d i e = cc
+place_is (y ∷ ys) x t d i e = let h = distinct_parts (list_any (bytes_eq y.name) (map (λ (y : FieldDef). y.name) ys)) (all_distinct (map (λ (y : FieldDef). y.name) ys)) d in place_more ys x t (place_is ys x t h.1) y h.0 i e
 
 field_is : (top : Top) → AreDistinct top → (r : ℕ) (d : StructDef) → slice_get top.structs r ≡ Some d → (i : ℕ) (x : List ℕ) (t : Ty) → IsField d i x t → field_found d x ≡ Some (record { field = i; ty = t })
-field_is top good r d there i x t f = rw (place_is d.fields x i t (good r d there) f.there, f.there) refl
+field_is top good r d there i x t f = rw (place_is d.fields x t (good r d there) i f.there, f.there) refl
 
 -- Operators
 
@@ -184,6 +180,9 @@ module _ (context : Context) (scope : List Variable) (good : AreDistinct context
   abbrev FieldIs : PField → Type 0
   FieldIs q = (r : ℕ) (d : StructDef) → slice_get context.top.structs r ≡ Some d → (x : NewField) → FieldMeans context scope q d x → setting_at d (setting_of context scope (x, field_at context scope x)) ≡ Some q
 
+  abbrev with_ats : List Expr → List (Expr × At)
+  with_ats es = map (λ e. (e, at_tree e)) es
+
   abbrev Made : Type 0
   Made = (p : PExpr) × ExprIs p
 
@@ -217,18 +216,18 @@ module _ (context : Context) (scope : List Variable) (good : AreDistinct context
   as_many t [] (e ∷ es) m = absurd m
   as_many t (q ∷ qs) [] m = absurd m
 
+  string_first : (t : Ty) (e : Expr) → keeps (sort context scope e) t ≡ true → (q : Made) → Means context scope q.0 e → q.0.ty ≡ Some t → string_at t (item_of context scope (e, at_tree e)) ≡ Some q.0
+  string_first t e is q m type = rw ((both_true (may_keep (own_tree e) t) ((sort context scope e).at t) is).0) (q.1 e t m type)
+
+  strings_more : (t : Ty) (es : List Expr) → ((qs : List Made) → EachMeans (λ p. p) (Means context scope) t (map (λ q. q.0) qs) (kept context scope t es) → strings_at t (map (item_of context scope) (map (λ e. (e, at_tree e)) es)) ≡ map (λ q. q.0) qs) → (e : Expr) (b : Bool) → keeps (sort context scope e) t ≡ b → (qs : List Made) → EachMeans (λ p. p) (Means context scope) t (map (λ q. q.0) qs) (if b then e ∷ kept context scope t es else kept context scope t es) → with_string (string_at t (item_of context scope (e, at_tree e))) (strings_at t (map (item_of context scope) (map (λ e. (e, at_tree e)) es))) ≡ map (λ q. q.0) qs
+  strings_more t es rest e false is qs m = rw (dropped_none context scope t e is) (rest qs m)
+  strings_more t es rest e true is [] m = absurd m
+  strings_more t es rest e true is (q ∷ qs) m = rw (string_first t e is q m.0 m.1, rest qs m.2) refl
+
   strings_are : (t : Ty) (es : List Expr) (qs : List Made) → EachMeans (λ p. p) (Means context scope) t (map (λ q. q.0) qs) (kept context scope t es) → strings_at t (map (item_of context scope) (map (λ e. (e, at_tree e)) es)) ≡ map (λ q. q.0) qs
   strings_are t [] [] m = refl
   strings_are t [] (q ∷ qs) m = absurd m
-  strings_are t (e ∷ es) qs m = go (keeps (sort context scope e) t) refl qs m
-    where
-      first : keeps (sort context scope e) t ≡ true → (q : Made) → Means context scope q.0 e → q.0.ty ≡ Some t → string_at t (item_of context scope (e, at_tree e)) ≡ Some q.0
-      first is q m type = rw ((both_true _ _ is).0) (q.1 e t m type)
-
-      go : (b : Bool) → keeps (sort context scope e) t ≡ b → (qs : List Made) → EachMeans (λ p. p) (Means context scope) t (map (λ q. q.0) qs) (if b then e ∷ kept context scope t es else kept context scope t es) → with_string (string_at t (item_of context scope (e, at_tree e))) (strings_at t (map (item_of context scope) (map (λ e. (e, at_tree e)) es))) ≡ map (λ q. q.0) qs
-      go false is qs m = rw (dropped_none context scope t e is) (strings_are t es qs m)
-      go true is [] m = absurd m
-      go true is (q ∷ qs) m = rw (first is q m.0 m.1, strings_are t es qs m.2) refl
+  strings_are t (e ∷ es) qs m = strings_more t es (strings_are t es) e (keeps (sort context scope e) t) refl qs m
 
   pub may_pass_is : (d : ParamDef) (f : EForm) → MayBeRef d.by_ref scope d.ty f → may_pass d (variable_type scope f) ≡ true
   may_pass_is d f m = go d.by_ref m
@@ -323,8 +322,8 @@ module _ (context : Context) (scope : List Variable) (good : AreDistinct context
           at_layer e u _ (E.New r.0 r.1) _ r.2 (sym (eform.rolls-New r.0 r.1)) (subst (λ t. record_at context.top (struct_meant (meaning_of context.top scope r.0)) (map (setting_of context scope) (map (λ x. (x, field_at context scope x)) r.1)) e.span t ≡ Some (typed e.span t (pform.New k (map (λ q. q.0) qs)))) (sym (some_same _ _ r.7)) (rw (r.4.meaning, r.4.there, names, settings_are k.index r.3 r.4.there qs r.1 r.5) (own_firm (reference_to k) (pform.New k (map (λ q. q.0) qs)) e.span))))
       form_layer (P.Braces qs) = of_rule (P.Braces (map (λ q. q.0) qs)) (pform.Braces (map (λ q. q.0) qs)) (pform.rolls-Braces (map (λ q. q.0) qs)) (λ u e r.
           let is : u ≡ r.5 = some_same _ _ r.8 in
-          let many : length (map (λ e. (e, at_tree e)) r.0) ≡ length (map (λ (q : Made). q.0) qs) = length-map r.0 (λ e. (e, at_tree e)) ∙ as_many r.3 qs r.0 r.4 in
-          let wanted : element_wanted u (length (map (λ e. (e, at_tree e)) r.0)) ≡ Some r.3 = ap (element_wanted u) many ∙ element_is u r.3 (length (map (λ (q : Made). q.0) qs)) (ap element_of is ∙ r.6) (more_than_none (map (λ q. q.0) qs) r.2) (subst (λ t. length (map (λ (q : Made). q.0) qs) ≤ count_of t) (sym is) r.7) in
+          let many : length (with_ats r.0) ≡ length (map (λ (q : Made). q.0) qs) = length-map r.0 (λ e. (e, at_tree e)) ∙ as_many r.3 qs r.0 r.4 in
+          let wanted : element_wanted u (length (with_ats r.0)) ≡ Some r.3 = ap (element_wanted u) many ∙ element_is u r.3 (length (map (λ (q : Made). q.0) qs)) (ap element_of is ∙ r.6) (more_than_none (map (λ q. q.0) qs) r.2) (subst (λ t. length (map (λ (q : Made). q.0) qs) ≤ count_of t) (sym is) r.7) in
           at_layer e u _ (E.Braces r.0) _ r.1 (sym (eform.rolls-Braces r.0)) (rw (wanted, all_is r.3 qs r.0 r.4) refl))
       form_layer (P.Member (a, ia) k i) = of_rule (P.Member a k i) (pform.Member a k i) (pform.rolls-Member a k i) (λ u e r.
           at_layer e u _ (E.Member r.0 r.1) _ r.2 (sym (eform.rolls-Member r.0 r.1)) (subst (λ t. member_at context.top (reference_meant (own_tree r.0)) (at_tree r.0) r.1 e.span t ≡ Some (typed e.span t (pform.Member a k i))) (sym (some_same _ _ r.10)) (rw (r.4, r.7, field_is context.top good k.index r.6 r.7 i r.1 r.8 r.9, ia r.0 (reference_to k) r.3 r.5) (own_firm r.8 (pform.Member a k i) e.span))))

@@ -111,7 +111,10 @@ module _ (context : Context) (scope : List Variable) where
   settings_same [] = refl
   settings_same (x ∷ xs) = ap (λ rest. joined_field x ∷ rest) (settings_same xs)
 
-  as_many : (es : List Expr) → length (map joined es) ≡ length (map (λ e. (e, at context scope e)) es)
+  abbrev with_ats : List Expr → List (Expr × At)
+  with_ats es = map (λ e. (e, at context scope e)) es
+
+  as_many : (es : List Expr) → length (map joined es) ≡ length (with_ats es)
   as_many [] = refl
   as_many (e ∷ es) = ap suc (as_many es)
 
@@ -133,7 +136,23 @@ module _ (context : Context) (scope : List Variable) where
   at_step _ = refl
 
   whole_step : (l : E.EForm-F EForm Expr NewField) → (eform_part context scope (whole_layer l)).whole ≡ eform_number context scope (map-EForm EForm Expr NewField (Option ℤ) (Option ℤ) (Unit {0}) form_whole (whole_number context scope) field_whole l)
-  whole_step _ = refl
+  whole_step (E.Number n) = refl
+  whole_step E.True = refl
+  whole_step E.False = refl
+  whole_step E.Null = refl
+  whole_step (E.Word x) = refl
+  whole_step (E.Hole n) = refl
+  whole_step (E.Pattern g es) = refl
+  whole_step (E.Paren e) = refl
+  whole_step (E.Call x es) = refl
+  whole_step (E.New x xs) = refl
+  whole_step (E.Braces es) = refl
+  whole_step (E.Member e x) = refl
+  whole_step (E.Index e i) = refl
+  whole_step (E.Slice e i n) = refl
+  whole_step (E.Unary m e) = refl
+  whole_step (E.Binary m a b) = refl
+  whole_step (E.Cond c a b) = refl
 
   variable_step : (l : E.EForm-F EForm Expr NewField) → (eform_part context scope (whole_layer l)).variable ≡ variable_type scope (roll-EForm l)
   variable_step (E.Number n) = ap (variable_type scope) (sym (eform.rolls-Number n))

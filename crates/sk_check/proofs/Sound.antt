@@ -45,7 +45,7 @@ use Rattle.sk_types.specs.declared.scope.Place.{Place}
 use Rattle.sk_types.specs.Rules.{◌>>=◌, only_if, int, bit, ty_eq, is_bit, is_integer, widens, pads, fit_of, is_bits, is_reference, is_bit_array, firm_if, element_of, count_of, operator_of, unary_of, class_of, operand, loose_takes, result_of, result_own, operation_own, unary_own, shifted, flipped, number_takes, element_takes, number_stands, in_range, hole_takes, width_fits}
 use Rattle.sk_types.specs.Scope.{lookup, Nearest, Signature, Top, Context, Meaning, AVariable, AConstant, AStruct, AFunction, Nothing, variable_or, struct_or, constant_or, function_or, top_meaning, next_place, place_of, meaning_of, field_of, all_distinct}
 use Rattle.sk_types.specs.Constants.{constant_number}
-use Rattle.sk_types.specs.Sorts.{Sort, named, struct_meant, variable_type, is_some_type, reference_to, reference_meant, field_type, member_of, array_meant, slice_of, sliced, new_sort, any_unary, any_binary, may_keep, keeps, kept, is_harness, sort, own}
+use Rattle.sk_types.specs.Sorts.{Sort, named, struct_meant, variable_type, is_some_type, reference_to, reference_meant, field_type, member_of, array_meant, slice_of, sliced, new_sort, any_unary, any_binary, own_at, may_keep, keeps, kept, is_harness, sort, own}
 use Rattle.sk_types.specs.Types.{EFormRule, ExprRule, FieldRule, Wanted, MeansOperation, MeansLogic, MeansShift, MeansBinary, MeansUnary, IsWidened, IsPadded, EachMeans, MayBeRef, ArgumentsMean, FieldsMean, IsMore, IsCallee, IsStruct, IsField, eform_means, expr_means, field_means, Means, IsAt, is_bare}
 use Rattle.sk_types.proofs.Nearest.{lookup_nearest}
 use Rattle.sk_types.proofs.SortLaws.{form_sort, field_sort, form_sort_is, sort_is}
@@ -94,14 +94,13 @@ fit_says u t = fit_cases u t (ty_eq u t) (widens u t) (pads u t) refl refl
 
 -- Places in lists
 
-place_found : (xs : List FieldDef) (x : List ℕ) (i : ℕ) (y : FieldDef) → place_of (map (λ (y : FieldDef). y.name) xs) x ≡ Some i → slice_get xs i ≡ Some y → y.name ≡ x
-place_found [] x i y p e = cc
-place_found (z ∷ zs) x i y p e = go (bytes_eq z.name x) refl p
+place_more : (zs : List FieldDef) (x : List ℕ) → ((i : ℕ) (y : FieldDef) → place_of (map (λ (y : FieldDef). y.name) zs) x ≡ Some i → slice_get zs i ≡ Some y → y.name ≡ x) → (z : FieldDef) (i : ℕ) (y : FieldDef) → place_of (map (λ (y : FieldDef). y.name) (z ∷ zs)) x ≡ Some i → slice_get (z ∷ zs) i ≡ Some y → y.name ≡ x
+place_more zs x rest z i y p e = go (bytes_eq z.name x) refl p
   where
     later : (o : Option ℕ) → place_of (map (λ (y : FieldDef). y.name) zs) x ≡ o → (i : ℕ) → next_place o ≡ Some i → slice_get (z ∷ zs) i ≡ Some y → y.name ≡ x
     later None is i p e = cc
     later (Some j) is zero p e = cc
-    later (Some j) is (suc i) p e = let same : j ≡ i = cc in place_found zs x i y (is ∙ ap Some same) e
+    later (Some j) is (suc i) p e = let same : j ≡ i = cc in rest i y (is ∙ ap Some same) e
 
     go : (b : Bool) → bytes_eq z.name x ≡ b → (if b then Some 0 else next_place (place_of (map (λ (y : FieldDef). y.name) zs) x)) ≡ Some i → y.name ≡ x
     go true is p =
@@ -109,6 +108,10 @@ place_found (z ∷ zs) x i y p e = go (bytes_eq z.name x) refl p
         let same : z ≡ y = some_same _ _ (ap (slice_get (z ∷ zs)) zero_is ∙ e) in
         sym (ap (λ (y : FieldDef). y.name) same) ∙ (bytes_eq-Decides z.name x).0 is
     go false is p = later (place_of (map (λ (y : FieldDef). y.name) zs) x) refl i p e
+
+place_found : (xs : List FieldDef) (x : List ℕ) (i : ℕ) (y : FieldDef) → place_of (map (λ (y : FieldDef). y.name) xs) x ≡ Some i → slice_get xs i ≡ Some y → y.name ≡ x
+place_found [] x i y p e = cc
+place_found (z ∷ zs) x i y p e = place_more zs x (place_found zs x) z i y p e
 
 field_means_found : (d : StructDef) (x : List ℕ) (y : Found) → field_found d x ≡ Some y → IsField d y.field x y.ty
 field_means_found d x y h =
@@ -148,10 +151,10 @@ operands_asked : (k : Class) (x y : Own) (o : Own) → operand k x y ≡ o → (
 operands_asked k x y Wrong is t w e = cc
 operands_asked k x y Loose is t w e =
     let h = only_parts (loose_takes k t) (record { left = t; right = t; result = t }) w e in
-    (t, sym (ap (λ (w : Wants). w.left) h.1), sym (ap (λ (w : Wants). w.right) h.1), sym (ap (λ (w : Wants). w.result) h.1) ∙ sym (loose_result k t h.0), subst (λ o. Wanted o (loose_takes k t) t) (sym is) h.0, sym (ap (λ (w : Wants). w.result) h.1))
+    (t, (sym (ap (λ (w : Wants). w.left) h.1), sym (ap (λ (w : Wants). w.right) h.1), sym (ap (λ (w : Wants). w.result) h.1) ∙ sym (loose_result k t h.0), subst (λ o. Wanted o (loose_takes k t) t) (sym is) h.0, sym (ap (λ (w : Wants). w.result) h.1)))
 operands_asked k x y (Firm u) is t w e =
     let h = some_same _ _ e in
-    (u, sym (ap (λ (w : Wants). w.left) h), sym (ap (λ (w : Wants). w.right) h), sym (ap (λ (w : Wants). w.result) h), subst (λ o. Wanted o (loose_takes k u) u) (sym is) refl, ap (λ (w : Wants). w.result) h)
+    (u, (sym (ap (λ (w : Wants). w.left) h), sym (ap (λ (w : Wants). w.right) h), sym (ap (λ (w : Wants). w.result) h), subst (λ o. Wanted o (loose_takes k u) u) (sym is) refl, ap (λ (w : Wants). w.result) h))
 
 operation_means : (k : Class) (x y : Own) (t : Ty) (w : Wants) (u : Ty) → w.left ≡ u → w.right ≡ u → w.result ≡ result_of k u → Wanted (operand k x y) (loose_takes k u) u → (a b : Option Ty) → a ≡ Some w.left → b ≡ Some w.right → MeansOperation k x y u a b (Some w.result)
 operation_means k x y t w u l r result wanted a b ha hb = record { wanted = wanted; left = ha ∙ ap Some l; right = hb ∙ ap Some r; result = ap Some result }
@@ -183,11 +186,11 @@ class_own Logic x y = Firm bit
 class_own k x y = result_own k (operand k x y)
 
 asked : (k : Class) (x y : Own) (t : Ty) (w : Wants) → binary_wants k x y t ≡ Some w → Asked k x y (class_own k x y) t w
-asked Plus x y t w e = let h = operands_asked Plus x y (operand Plus x y) refl t w e in record { u = h.0; means = operation_means Plus x y t w h.0 h.1 h.2 h.3 h.4; result = h.5 }
-asked Arithmetic x y t w e = let h = operands_asked Arithmetic x y (operand Arithmetic x y) refl t w e in record { u = h.0; means = operation_means Arithmetic x y t w h.0 h.1 h.2 h.3 h.4; result = h.5 }
-asked Order x y t w e = let h = operands_asked Order x y (operand Order x y) refl t w e in record { u = h.0; means = operation_means Order x y t w h.0 h.1 h.2 h.3 h.4; result = h.5 }
-asked Equality x y t w e = let h = operands_asked Equality x y (operand Equality x y) refl t w e in record { u = h.0; means = operation_means Equality x y t w h.0 h.1 h.2 h.3 h.4; result = h.5 }
-asked Bitwise x y t w e = let h = operands_asked Bitwise x y (operand Bitwise x y) refl t w e in record { u = h.0; means = operation_means Bitwise x y t w h.0 h.1 h.2 h.3 h.4; result = h.5 }
+asked Plus x y t w e = let h = operands_asked Plus x y (operand Plus x y) refl t w e in record { u = h.0; means = operation_means Plus x y t w h.0 h.1.0 h.1.1 h.1.2 h.1.3; result = h.1.4 }
+asked Arithmetic x y t w e = let h = operands_asked Arithmetic x y (operand Arithmetic x y) refl t w e in record { u = h.0; means = operation_means Arithmetic x y t w h.0 h.1.0 h.1.1 h.1.2 h.1.3; result = h.1.4 }
+asked Order x y t w e = let h = operands_asked Order x y (operand Order x y) refl t w e in record { u = h.0; means = operation_means Order x y t w h.0 h.1.0 h.1.1 h.1.2 h.1.3; result = h.1.4 }
+asked Equality x y t w e = let h = operands_asked Equality x y (operand Equality x y) refl t w e in record { u = h.0; means = operation_means Equality x y t w h.0 h.1.0 h.1.1 h.1.2 h.1.3; result = h.1.4 }
+asked Bitwise x y t w e = let h = operands_asked Bitwise x y (operand Bitwise x y) refl t w e in record { u = h.0; means = operation_means Bitwise x y t w h.0 h.1.0 h.1.1 h.1.2 h.1.3; result = h.1.4 }
 asked Shift x y t w e = shift_asked x y (shifted x) refl t w e
 asked Logic x y t w e = logic_asked x y t w e
 
@@ -247,7 +250,7 @@ callee_found top (AFunction f) g e = go (slice_get top.funs f.index) refl e
     kind z is true k e = cc
     kind z is false k e =
         let same : record { id = f; signature = z } ≡ g = some_same _ _ e in
-        subst (λ (g : Callee). (AFunction f ≡ AFunction g.id) × ((slice_get top.funs g.id.index ≡ Some g.signature) × (is_harness g.signature.kind ≡ false))) same (refl, is, k)
+        subst (λ (g : Callee). (AFunction f ≡ AFunction g.id) × ((slice_get top.funs g.id.index ≡ Some g.signature) × (is_harness g.signature.kind ≡ false))) same (refl, (is, k))
 
     go : (o : Option Signature) → slice_get top.funs f.index ≡ o → callable f o ≡ Some g → (AFunction f ≡ AFunction g.id) × ((slice_get top.funs g.id.index ≡ Some g.signature) × (is_harness g.signature.kind ≡ false))
     go None is e = cc
@@ -462,7 +465,7 @@ module _ (context : Context) (scope : List Variable) where
   call_sound x es e is g c ps a (Some u) result t p h =
       let f = callee_found context.top (meaning_of context.top scope x) g c in
       let own : own_tree e ≡ Firm u = own_layer e (E.Call x (map (λ q. q.0) es)) is ∙ call_own context.top scope (meaning_of context.top scope x) _ ∙ ap (λ o. own_type (callee_result o)) c ∙ ap own_type result in
-      firm_sound (P.Call g.id ps) (pform.Call g.id ps) (pform.rolls-Call g.id ps) e (bare_layer e (E.Call x (map (λ q. q.0) es)) is ∙ form_bare_is (E.Call x (map (λ q. q.0) es))) u own (x, map (λ q. q.0) es, is ∙ eform.rolls-Call x (map (λ q. q.0) es), g.signature, record { meaning = f.0; there = f.1; callable = f.2 }, arguments_sound g.signature.params es ps a, sym result) t p h
+      firm_sound (P.Call g.id ps) (pform.Call g.id ps) (pform.rolls-Call g.id ps) e (bare_layer e (E.Call x (map (λ q. q.0) es)) is ∙ form_bare_is (E.Call x (map (λ q. q.0) es))) u own (x, map (λ q. q.0) es, is ∙ eform.rolls-Call x (map (λ q. q.0) es), g.signature, record { meaning = f.0; there = f.1.0; callable = f.1.1 }, arguments_sound g.signature.params es ps a, sym result) t p h
 
   pub sound : (e : Expr) → ExprSound e
   sound = expr_law FormSound ExprSound FieldSound form_layer
@@ -514,8 +517,8 @@ module _ (context : Context) (scope : List Variable) where
               let k = if_some (all_distinct (map (λ (e : Setting). e.name) (map (setting_of context scope) (map (λ x. (x, field_at context scope x)) (map (λ q. q.0) xs))))) _ f.0 f.1 in
               let a = bind_some (settings_at d.0 (map (setting_of context scope) (map (λ x. (x, field_at context scope x)) (map (λ q. q.0) xs)))) _ f.0 k.1 in
               firm_sound (P.New r a.0) (pform.New r a.0) (pform.rolls-New r a.0) e (bare e (E.New x (map (λ q. q.0) xs)) is (form_bare_is (E.New x (map (λ q. q.0) xs)))) (reference_to r)
-              (own_layer e (E.New x (map (λ q. q.0) xs)) is ∙ ap (λ o. (new_sort context.top o _).own) m)
-              (x, map (λ q. q.0) xs, is ∙ eform.rolls-New x (map (λ q. q.0) xs), d.0, record { meaning = struct_found _ r m; there = d.1 }, settings_sound d.0 xs a.0 a.1, sym (ap all_distinct (names (map (λ q. q.0) xs))) ∙ k.0, refl) t p (ap (λ f. firm_at (reference_to r) (Some f) e.span t) (some_same _ _ a.2) ∙ f.2)
+              (own_layer e (E.New x (map (λ q. q.0) xs)) is ∙ ap (λ o. (new_sort context.top o (map (λ x. (x, field_sort context scope x)) (map (λ q. q.0) xs))).own) m)
+              (x, map (λ q. q.0) xs, is ∙ eform.rolls-New x (map (λ q. q.0) xs), d.0, record { meaning = struct_found (meaning_of context.top scope x) r m; there = d.1 }, settings_sound d.0 xs a.0 a.1, sym (ap all_distinct (names (map (λ q. q.0) xs))) ∙ k.0, refl) t p (ap (λ f. firm_at (reference_to r) (Some f) e.span t) (some_same _ _ a.2) ∙ f.2)
       go (E.Braces es) e is t p h =
           let w = bind_some (element_wanted t (length (with_ats (map (λ q. q.0) es)))) _ p h in
           let a = bind_some (all_at w.0 (map (at_of context scope) (with_ats (map (λ q. q.0) es)))) _ p w.2 in
@@ -535,8 +538,8 @@ module _ (context : Context) (scope : List Variable) where
               let d = bind_some (slice_get context.top.structs r.index) _ z.0 z.1 in
               let good = sx (reference_to r) a.0 a.1 in
               firm_sound (P.Member a.0 r z.0.field) (pform.Member a.0 r z.0.field) (pform.rolls-Member a.0 r z.0.field) e (bare e (E.Member x y) is (form_bare_is (E.Member x y))) z.0.ty
-              (own_layer e (E.Member x y) is ∙ firm_own (member_of context.top (reference_meant (own_tree x)) y) _ ∙ ap (λ o. own_type (member_of context.top o y)) m ∙ ap own_type (member_type context.top r y z.0 z.1))
-              (x, y, is ∙ eform.rolls-Member x y, good.means, reference_found _ r m, good.type, d.0, d.1, z.0.ty, field_means_found d.0 y z.0 d.2, refl) t p a.2
+              (own_layer e (E.Member x y) is ∙ firm_own (member_of context.top (reference_meant (own_tree x)) y) (own_at (sort context scope x)) ∙ ap (λ o. own_type (member_of context.top o y)) m ∙ ap own_type (member_type context.top r y z.0 z.1))
+              (x, y, is ∙ eform.rolls-Member x y, good.means, reference_found (own_tree x) r m, good.type, d.0, d.1, z.0.ty, field_means_found d.0 y z.0 d.2, refl) t p a.2
       go (E.Index (x, sx) (i, si)) e is t p h =
           let v = bind_some (indexed (own_tree x)) _ p h in
           let a = bind_some (at_tree x v.0.whole) _ p v.2 in

@@ -117,18 +117,21 @@ named_some Nothing x s t = refl
 
 -- Structs that are there
 
-there : (ds : List StructDef) (x : List ℕ) (i : ℕ) → place_of (map (λ (d : StructDef). d.name) ds) x ≡ Some i → (d : StructDef) × (slice_get ds i ≡ Some d)
-there [] x i h = cc
-there (d ∷ ds) x i h = first (bytes_eq d.name x) h
+there_more : (ds : List StructDef) (x : List ℕ) → ((i : ℕ) → place_of (map (λ (d : StructDef). d.name) ds) x ≡ Some i → (d : StructDef) × (slice_get ds i ≡ Some d)) → (d : StructDef) (i : ℕ) → place_of (map (λ (d : StructDef). d.name) (d ∷ ds)) x ≡ Some i → (e : StructDef) × (slice_get (d ∷ ds) i ≡ Some e)
+there_more ds x rest d i h = first (bytes_eq d.name x) h
   where
     later : (o : Option ℕ) → place_of (map (λ (d : StructDef). d.name) ds) x ≡ o → (i : ℕ) → next_place o ≡ Some i → (e : StructDef) × (slice_get (d ∷ ds) i ≡ Some e)
     later None is i h = cc
     later (Some j) is zero h = cc
-    later (Some j) is (suc i) h = let e : j ≡ i = cc in there ds x i (is ∙ ap Some e)
+    later (Some j) is (suc i) h = let e : j ≡ i = cc in rest i (is ∙ ap Some e)
 
     first : (b : Bool) → (if b then Some 0 else next_place (place_of (map (λ (d : StructDef). d.name) ds) x)) ≡ Some i → (e : StructDef) × (slice_get (d ∷ ds) i ≡ Some e)
     first true h = let e : 0 ≡ i = cc in (d, ap (slice_get (d ∷ ds)) (sym e))
     first false h = later (place_of (map (λ (d : StructDef). d.name) ds) x) refl i h
+
+there : (ds : List StructDef) (x : List ℕ) (i : ℕ) → place_of (map (λ (d : StructDef). d.name) ds) x ≡ Some i → (d : StructDef) × (slice_get ds i ≡ Some d)
+there [] x i h = cc
+there (d ∷ ds) x i h = there_more ds x (there ds x) d i h
 
 pub struct_there : (top : Top) (scope : List Variable) (x : List ℕ) (r : StructId) → struct_meant (meaning_of top scope x) ≡ Some r → (d : StructDef) × (slice_get top.structs r.index ≡ Some d)
 struct_there top scope x r h = of_variable (lookup scope x) h
@@ -172,14 +175,17 @@ record_some r s t false (Some ps) = refl
 record_some r s t true None = refl
 record_some r s t true (Some ps) = firm_some (reference_to r) (pform.New r ps) s t
 
+abbrev set_field : ℕ → PExpr → PField
+set_field i p = record { field = i; value = p }
+
 setting_some : (d : StructDef) (x : List ℕ) (test : Ty → Bool) (f : At) → ((t : Ty) → test t ≡ is_some (f t)) → any_at test (field_of d x >>= λ i. slice_get d.fields i >>= λ (y : FieldDef). Some y.ty) ≡ is_some (setting_at d (record { name = x; at = f }))
 setting_some d x test f h = go (field_of d x)
   where
-    field : (i : ℕ) (o : Option FieldDef) → any_at test (o >>= λ (y : FieldDef). Some y.ty) ≡ is_some ((o >>= λ (y : FieldDef). Some (record { field = i; ty = y.ty })) >>= λ (y : Found). f y.ty >>= λ p. Some (record { field = y.field; value = p }))
+    field : (i : ℕ) (o : Option FieldDef) → any_at test (o >>= λ (y : FieldDef). Some y.ty) ≡ is_some ((o >>= λ (y : FieldDef). Some (record { field = i; ty = y.ty })) >>= λ (y : Found). f y.ty >>= λ p. Some (set_field y.field p))
     field i None = refl
-    field i (Some y) = h y.ty ∙ last (f y.ty) (λ p. record { field = i; value = p })
+    field i (Some y) = h y.ty ∙ last (f y.ty) (λ p. set_field i p)
 
-    go : (o : Option ℕ) → any_at test (o >>= λ i. slice_get d.fields i >>= λ (y : FieldDef). Some y.ty) ≡ is_some ((o >>= λ i. slice_get d.fields i >>= λ (y : FieldDef). Some (record { field = i; ty = y.ty })) >>= λ (y : Found). f y.ty >>= λ p. Some (record { field = y.field; value = p }))
+    go : (o : Option ℕ) → any_at test (o >>= λ i. slice_get d.fields i >>= λ (y : FieldDef). Some y.ty) ≡ is_some ((o >>= λ i. slice_get d.fields i >>= λ (y : FieldDef). Some (record { field = i; ty = y.ty })) >>= λ (y : Found). f y.ty >>= λ p. Some (set_field y.field p))
     go None = refl
     go (Some i) = field i (slice_get d.fields i)
 
@@ -362,22 +368,7 @@ module _ (context : Context) (scope : List Variable) where
 
   variable_form : (f : EForm) (s : Span) (t : Ty) → is_some_type (variable_type scope f) t ≡ true → is_some (form_at context scope f s t) ≡ true
   variable_form (eform.Word x) s t h = ap (λ (k : FormAt). is_some (k s t)) (ap (form_at context scope) (sym (eform.rolls-Word x)) ∙ form_at_is context scope (E.Word x)) ∙ word_is x (lookup scope x) refl s t h
-  variable_form (eform.Number n) s t h = cc
-  variable_form eform.True s t h = cc
-  variable_form eform.False s t h = cc
-  variable_form eform.Null s t h = cc
-  variable_form (eform.Hole n) s t h = cc
-  variable_form (eform.Pattern g es) s t h = cc
-  variable_form (eform.Paren e) s t h = cc
-  variable_form (eform.Call x es) s t h = cc
-  variable_form (eform.New x es) s t h = cc
-  variable_form (eform.Braces es) s t h = cc
-  variable_form (eform.Member e x) s t h = cc
-  variable_form (eform.Index e i) s t h = cc
-  variable_form (eform.Slice e i n) s t h = cc
-  variable_form (eform.Unary m e) s t h = cc
-  variable_form (eform.Binary m a b) s t h = cc
-  variable_form (eform.Cond c a b) s t h = cc
+  variable_form _ s t h = cc
 
   pub variable_some : (e : Expr) (t : Ty) → is_some_type (variable_type scope e.form) t ≡ true → is_some (at context scope e t) ≡ true
   variable_some e t h = ap (λ (k : At). is_some (k t)) (at_is context scope e) ∙ variable_form e.form e.span t h
@@ -444,15 +435,15 @@ module _ (context : Context) (scope : List Variable) where
 
   braces_some : (o : Option Ty) (es : List Stood) (s : Span) (t : Ty) → braces_at (sorts (with_sorts (map (λ q. q.0) es))) t o ≡ is_some ((o >>= λ u. if nat_le 1 (length (with_ats (map (λ q. q.0) es))) && nat_le (length (with_ats (map (λ q. q.0) es))) (count_of t) then Some u else None) >>= λ u. all_at u (map (at_of context scope) (with_ats (map (λ q. q.0) es))) >>= λ ps. Some (typed s t (pform.Braces ps)))
   braces_some None es s t = refl
-  braces_some (Some u) es s t = (λ i. nat_le 1 (same i) && (nat_le (same i) (count_of t) && all_some u es i)) ∙ go (nat_le 1 (length (with_ats (map (λ q. q.0) es)))) (nat_le (length (with_ats (map (λ q. q.0) es))) (count_of t)) (all_at u (map (at_of context scope) (with_ats (map (λ q. q.0) es))))
+  braces_some (Some u) es s t = (λ i. nat_le 1 (same i) && (nat_le (same i) (count_of t) && all_some u es i)) ∙ go (nat_le 1 (length (with_ats (map (λ q. q.0) es)))) (nat_le (length (with_ats (map (λ q. q.0) es))) (count_of t)) (λ v. all_at v (map (at_of context scope) (with_ats (map (λ q. q.0) es))))
     where
       same : length (sorts (with_sorts (map (λ q. q.0) es))) ≡ length (with_ats (map (λ q. q.0) es))
       same = length-map (with_sorts (map (λ q. q.0) es)) (λ e. e.1) ∙ length-map (map (λ q. q.0) es) (λ e. (e, sort context scope e)) ∙ sym (length-map (map (λ q. q.0) es) (λ e. (e, at context scope e)))
 
-      go : (b c : Bool) (m : Option (List PExpr)) → (b && (c && is_some m)) ≡ is_some ((if b && c then Some u else None) >>= λ u. m >>= λ ps. Some (typed s t (pform.Braces ps)))
-      go false c m = refl
-      go true false m = refl
-      go true true m = last m (λ ps. typed s t (pform.Braces ps))
+      go : (b c : Bool) (k : Ty → Option (List PExpr)) → (b && (c && is_some (k u))) ≡ is_some ((if b && c then Some u else None) >>= λ v. k v >>= λ ps. Some (typed s t (pform.Braces ps)))
+      go false c k = refl
+      go true false k = refl
+      go true true k = last (k u) (λ ps. typed s t (pform.Braces ps))
 
   abbrev standing : E.EForm-F ((f : EForm) × FormStands f) Stood StoodField → E.EForm-F EForm Expr NewField
   standing y = map-EForm ((f : EForm) × FormStands f) Stood StoodField EForm Expr NewField (λ q. q.0) (λ q. q.0) (λ q. q.0) y

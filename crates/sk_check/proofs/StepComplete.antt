@@ -96,22 +96,7 @@ module _ (context : Context) (result : Option Ty) (good : AreDistinct context.to
 
   form_number_count : (s : List Variable) (e : Expr) (f : EForm) → e.form ≡ f → (n : ℕ) → constant_number context s e ≡ Some n → n ≤ 64 → form_count context s e f ≡ Some (typed e.span int (pform.Number n))
   form_number_count s e (eform.Hole i) is n c h = absurd (no_number s e i n is c)
-  form_number_count s e (eform.Number k) is n c h = number_count s e n c h
-  form_number_count s e eform.True is n c h = number_count s e n c h
-  form_number_count s e eform.False is n c h = number_count s e n c h
-  form_number_count s e eform.Null is n c h = number_count s e n c h
-  form_number_count s e (eform.Word x) is n c h = number_count s e n c h
-  form_number_count s e (eform.Pattern g es) is n c h = number_count s e n c h
-  form_number_count s e (eform.Paren a) is n c h = number_count s e n c h
-  form_number_count s e (eform.Call x es) is n c h = number_count s e n c h
-  form_number_count s e (eform.New x es) is n c h = number_count s e n c h
-  form_number_count s e (eform.Braces es) is n c h = number_count s e n c h
-  form_number_count s e (eform.Member a x) is n c h = number_count s e n c h
-  form_number_count s e (eform.Index a i) is n c h = number_count s e n c h
-  form_number_count s e (eform.Slice a i m) is n c h = number_count s e n c h
-  form_number_count s e (eform.Unary o a) is n c h = number_count s e n c h
-  form_number_count s e (eform.Binary o a b) is n c h = number_count s e n c h
-  form_number_count s e (eform.Cond d a b) is n c h = number_count s e n c h
+  form_number_count s e _ is n c h = number_count s e n c h
 
   count_complete : (s : List Variable) (e : Expr) (p : PExpr) → CountMeans context result s p e → count_at context s e ≡ Some p
   unfolding count_at

@@ -46,9 +46,15 @@ stmt_law : (K : Form → Type 0) (L : Stmt → Type 0)
     → (e : Stmt) → L e
 stmt_law K L f g = ind-Stmt K L (λ x y is. subst (λ z. K (roll-Form z)) is (f y)) (λ x y is. subst (λ z. L (roll-Stmt z)) is (g (record { span = y.span; form = y.form.0 }) y.form.1))
 
-map_id : {X : Type 0} (xs : List X) → xs ≡ map (λ x. x) xs
+pub map_id : {X : Type 0} (xs : List X) → xs ≡ map (λ x. x) xs
 map_id [] = refl
 map_id (x ∷ xs) = ap (λ rest. x ∷ rest) (map_id xs)
+
+abbrev pub Act : Type 0
+Act = ℕ → Maker PForm
+
+abbrev pub Do : Type 0
+Do = ℕ → Maker PStmt
 
 module _ (context : Context) (result : Option Ty) where
   -- Expressions
@@ -96,12 +102,6 @@ module _ (context : Context) (result : Option Ty) where
   target_sound s e p h = target_in_sound s e (target_type context s e) refl p h
 
   -- The layers of the function
-
-  abbrev pub Act : Type 0
-  Act = ℕ → Maker PForm
-
-  abbrev pub Do : Type 0
-  Do = ℕ → Maker PStmt
 
   pub make_form_is : (l : F.Form-F Form Stmt) → make_form context result (roll-Form l) ≡ form_made context result (map-Form Form Stmt Act Do (make_form context result) (make context result) l)
   make_form_is l = fold-roll-Form Act Do (form_made context result) (stmt_made context result) l
@@ -235,22 +235,7 @@ module _ (context : Context) (result : Option Ty) where
 
   form_count_sound : (s : List Variable) (e : Expr) (f : EForm) → e.form ≡ f → (p : PExpr) → form_count context s e f ≡ Some p → CountMeans context result s p e
   form_count_sound s e (eform.Hole i) is p h = inl (i, is, found context s int e p h)
-  form_count_sound s e (eform.Number n) is p h = number_count s e p h
-  form_count_sound s e eform.True is p h = number_count s e p h
-  form_count_sound s e eform.False is p h = number_count s e p h
-  form_count_sound s e eform.Null is p h = number_count s e p h
-  form_count_sound s e (eform.Word x) is p h = number_count s e p h
-  form_count_sound s e (eform.Pattern g es) is p h = number_count s e p h
-  form_count_sound s e (eform.Paren a) is p h = number_count s e p h
-  form_count_sound s e (eform.Call x es) is p h = number_count s e p h
-  form_count_sound s e (eform.New x es) is p h = number_count s e p h
-  form_count_sound s e (eform.Braces es) is p h = number_count s e p h
-  form_count_sound s e (eform.Member a x) is p h = number_count s e p h
-  form_count_sound s e (eform.Index a i) is p h = number_count s e p h
-  form_count_sound s e (eform.Slice a i n) is p h = number_count s e p h
-  form_count_sound s e (eform.Unary o a) is p h = number_count s e p h
-  form_count_sound s e (eform.Binary o a b) is p h = number_count s e p h
-  form_count_sound s e (eform.Cond c a b) is p h = number_count s e p h
+  form_count_sound s e _ is p h = number_count s e p h
 
   count_sound : (s : List Variable) (e : Expr) (p : PExpr) → count_at context s e ≡ Some p → CountMeans context result s p e
   unfolding count_at

@@ -84,7 +84,7 @@ count_at context scope e = form_count context scope e e.form
 
 -- what is made does not leave its variables in scope
 abbrev pub inside : {A : Type 0} → (ℕ → Maker A) → ℕ → Maker A
-inside m from scope = m from scope >>= λ (a : Made A). makes a.made (take (length scope) a.scope)
+inside {A = A} m from scope = m from scope >>= λ (a : Made A). makes a.made (take (length scope) a.scope)
 
 abbrev pub any_inside : Option (ℕ → Maker PStmt) → ℕ → Maker (Option PStmt)
 any_inside None from scope = makes None scope
