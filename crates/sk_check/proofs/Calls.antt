@@ -22,7 +22,8 @@ use Rattle.sk_types.proofs.Layers.{FormMeans, rule, form_means_are, means_from}
 use Rattle.sk_check.specs.declared.found.Called.{Called}
 use Rattle.sk_check.specs.Elaborate.{Callee, callee_meant, called, argument_at, arguments_at, may_pass}
 use Rattle.sk_check.specs.Parts.{part, argument_part, arguments}
-use Rattle.sk_check.specs.Making.{form_call, call_of}
+use Rattle.sk_check.specs.Making.{call_in, form_call, call_of}
+use Rattle.sk_check.proofs.Views.{call_found}
 use Rattle.sk_check.proofs.Ats.{bind_some, some_same, if_some}
 use Rattle.sk_check.proofs.Joined.{part_is}
 use Rattle.sk_check.proofs.Sound.{callee_found, ref_sound}
@@ -51,14 +52,15 @@ module _ (context : Context) (scope : List Variable) where
       let q : PExpr = record { span = e.span; ty = g.0.signature.result; form = pform.Call g.0.id a.0 } in
       let to : q ≡ p = ap (λ (c : Called). record { span = e.span; ty = c.result; form = c.form }) made ∙ some_same _ _ c.2 in
       let is_one : is_call q ≡ true = fold-roll-PExpr Bool Bool (Unit {0}) form_calls (λ p. p.form) (λ p. tt) (record { span = q.span; ty = q.ty; form = q.form }) ∙ ap (fold-PEForm Bool Bool (Unit {0}) form_calls (λ p. p.form) (λ p. tt)) (sym (pform.rolls-Call g.0.id a.0)) ∙ fold-roll-PEForm Bool Bool (Unit {0}) form_calls (λ p. p.form) (λ p. tt) (P.Call g.0.id a.0) in
-      let r = (x, es, is, g.0.signature, record { meaning = f.0; there = f.1; callable = f.2 }, arguments_mean g.0.signature.params es a.0 a.1, refl) in
+      let r : rule context scope (P.Call g.0.id a.0) q.ty e = (x, es, is, g.0.signature, record { meaning = f.0; there = f.1.0; callable = f.1.1 }, arguments_mean g.0.signature.params es a.0 a.1, refl) in
       let means = means_from context scope q e refl (subst (λ k. FormMeans context scope k q.ty e) (pform.rolls-Call g.0.id a.0) (subst (λ (M : EFormRule). M q.ty e) (sym (form_means_are context scope (P.Call g.0.id a.0))) r)) in
       (subst (λ p. IsTrue (is_call p)) to is_one, subst (λ p. Means context scope p e) to means)
 
-  form_call_mean : (e : Expr) (f : EForm) → e.form ≡ f → (p : PExpr) → form_call context scope e.span f ≡ Some p → IsTrue (is_call p) × Means context scope p e
-  form_call_mean e (eform.Call x es) is p h = called_mean e x es is p h
-  form_call_mean e _ is p h = cc
+  form_call_mean : (e : Expr) (p : PExpr) → form_call context scope e.span e.form ≡ Some p → IsTrue (is_call p) × Means context scope p e
+  form_call_mean e p h =
+      let c = bind_some (call_in e.form) _ p h in
+      called_mean e c.0.name c.0.args (call_found e c.0 c.1) p c.2
 
   pub call_sound : (e : Expr) (p : PExpr) → call_of context scope e ≡ Some p → IsTrue (is_call p) × Means context scope p e
   unfolding call_of
-  call_sound e p h = form_call_mean e e.form refl p h
+  call_sound e p h = form_call_mean e p h

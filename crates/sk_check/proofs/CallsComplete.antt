@@ -22,7 +22,8 @@ use Rattle.sk_check.specs.declared.found.Called.{Called}
 use Rattle.sk_check.specs.Envs.{AreDistinct}
 use Rattle.sk_check.specs.Elaborate.{callee_meant, called, arguments_at, may_pass}
 use Rattle.sk_check.specs.Parts.{part, argument_part, arguments}
-use Rattle.sk_check.specs.Making.{form_call, call_of}
+use Rattle.sk_check.specs.Making.{called_in, form_call, call_of}
+use Rattle.sk_check.proofs.Views.{call_of_call}
 use Rattle.sk_check.proofs.Ats.{pexpr_law}
 use Rattle.sk_check.proofs.Joined.{part_is}
 use Rattle.sk_check.proofs.Complete.{callee_is, may_pass_is}
@@ -54,6 +55,7 @@ module _ (context : Context) (scope : List Variable) (good : AreDistinct context
   call_layer : (l : P.PEForm-F PEForm PExpr PField) → form_calls (map-PEForm PEForm PExpr PField Bool Bool (Unit {0}) calls is_call no_field l) ≡ true → (t : Option Ty) (e : Expr) → rule context scope l t e → form_call context scope e.span e.form ≡ Some (record { span = e.span; ty = t; form = roll-PEForm l })
   call_layer (P.Call f ps) h t e r =
       ap (form_call context scope e.span) r.2
+      ∙ ap (λ o. o >>= λ c. called_in context scope e.span c) (call_of_call r.0 r.1)
       ∙ rw (callee_is context scope good r.0 f r.3 r.4, arguments_are r.3.params ps r.1 r.5) (λ i. Some (record { span = e.span; ty = sym r.6 i; form = sym (pform.rolls-Call f ps) i }))
   call_layer (P.Number n) h t e r = cc
   call_layer P.True h t e r = cc

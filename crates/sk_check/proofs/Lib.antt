@@ -11,6 +11,7 @@ pub mod Sound
 pub mod Joined
 pub mod Exact
 pub mod Scopes
+pub mod Views
 pub mod Calls
 pub mod CallsComplete
 pub mod StepSound

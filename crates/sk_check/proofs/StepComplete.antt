@@ -37,6 +37,7 @@ use Rattle.sk_check.specs.Elaborate.{typed, all_at}
 use Rattle.sk_check.specs.Parts.{part, ats}
 use Rattle.sk_check.specs.Making.{Made, makes, Maker, value_at, any_value_at, pattern_target, form_target, target_in, target_at, call_of, form_count, count_at, declare, assign_to, returned, inside, any_inside, in_order, block, reordered, form_made, make_form, make, make_all}
 use Rattle.sk_check.proofs.Ats.{bind_some, some_same}
+use Rattle.sk_check.proofs.Views.{strings_of}
 use Rattle.sk_check.proofs.Exact.{is_at}
 use Rattle.sk_check.proofs.Scopes.{pstmt_law, after_form, after_form_is, after_is, after_all, left_of, left_of_all}
 use Rattle.sk_check.proofs.CallsComplete.{call_complete}
@@ -74,6 +75,7 @@ module _ (context : Context) (result : Option Ty) (good : AreDistinct context.to
   target_complete s t e p (inr m) =
       ap (target_in context s e) (no_target s e m.pattern m.strings m.tree)
       ∙ ap (form_target context s e.span) m.tree
+      ∙ ap (λ o. o >>= λ es. pattern_target context s e.span es (first_target context s es)) (strings_of m.pattern m.strings)
       ∙ ap (pattern_target context s e.span m.strings) m.first
       ∙ ap (λ o. o >>= λ ps. Some (typed e.span t (pform.Pattern ps))) (each_complete s t m.parts (kept_targets context s t m.strings) m.kept)
       ∙ ap Some (sym m.made)

@@ -34,8 +34,9 @@ use Rattle.sk_types.specs.Types.{Grows, form_after, after, EachMeans, Means, IsA
 use Rattle.sk_types.proofs.Layers.{ActMeans, act_rule, act_means_are, stmt_means_is}
 use Rattle.sk_check.specs.Elaborate.{typed, all_at}
 use Rattle.sk_check.specs.Parts.{part, ats}
-use Rattle.sk_check.specs.Making.{Made, makes, Maker, value_at, any_value_at, pattern_target, form_target, target_in, target_at, call_of, form_count, count_at, declare, declare_one, assign_to, returned, inside, any_inside, in_order, block, reordered, form_made, stmt_made, make_form, make, make_all}
+use Rattle.sk_check.specs.Making.{Made, makes, Maker, value_at, any_value_at, pattern_target, strings_in, form_target, target_in, target_at, call_of, form_count, count_at, declare, declare_one, assign_to, returned, inside, any_inside, in_order, block, reordered, form_made, stmt_made, make_form, make, make_all}
 use Rattle.sk_check.proofs.Ats.{bind_some, some_same, if_some}
+use Rattle.sk_check.proofs.Views.{strings_found}
 use Rattle.sk_check.proofs.Exact.{found}
 use Rattle.sk_check.proofs.Calls.{call_sound}
 use Rattle.sk_check.proofs.Scopes.{after_form, after_form_is, after_is, after_all, left_of, left_of_all}
@@ -89,12 +90,14 @@ module _ (context : Context) (result : Option Ty) where
       let made : typed e.span t (pform.Pattern a.0) ≡ p = some_same _ _ a.2 in
       record { t = t; type = ap (λ (p : PExpr). p.ty) (sym made); target = inr (record { pattern = g; strings = es; parts = a.0; tree = is; made = sym made; first = first; kept = each_sound s t (kept_targets context s t es) a.0 a.1 }) }
 
-  form_target_sound : (s : List Variable) (e : Expr) (f : EForm) → e.form ≡ f → (p : PExpr) → form_target context s e.span f ≡ Some p → TargetGood s e p
-  form_target_sound s e (eform.Pattern g es) is p h = pattern_sound s e g es is (first_target context s es) refl p h
-  form_target_sound s e _ is p h = cc
+  form_target_sound : (s : List Variable) (e : Expr) (p : PExpr) → form_target context s e.span e.form ≡ Some p → TargetGood s e p
+  form_target_sound s e p h =
+      let es = bind_some (strings_in e.form) _ p h in
+      let g = strings_found e es.0 es.1 in
+      pattern_sound s e g.0 es.0 g.1 (first_target context s es.0) refl p es.2
 
   target_in_sound : (s : List Variable) (e : Expr) (o : Option Ty) → target_type context s e ≡ o → (p : PExpr) → target_in context s e o ≡ Some p → TargetGood s e p
-  target_in_sound s e None is p h = form_target_sound s e e.form refl p h
+  target_in_sound s e None is p h = form_target_sound s e p h
   target_in_sound s e (Some t) is p h = let good = value_sound s t e p h in record { t = t; type = good.type; target = inl (record { is_at = good; target = is }) }
 
   target_sound : (s : List Variable) (e : Expr) (p : PExpr) → target_at context s e ≡ Some p → TargetGood s e p

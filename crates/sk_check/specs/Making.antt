@@ -4,6 +4,9 @@ use Rattle.sk_base.specs.declared.span.Span.{Span}
 use Rattle.sk_tree.specs.declared.expr.Expr.{Expr}
 use Rattle.sk_tree.specs.declared.expr.EForm.{EForm}
 use Rattle.sk_tree.specs.declared.expr.EForm.TheVariants as eform
+use Rattle.sk_tree.specs.declared.expr.EForm.TheOpen as E
+use Rattle.sk_tree.specs.declared.expr.EForm.TheFolds.{para-EForm}
+use Rattle.sk_tree.specs.declared.expr.NewField.{NewField}
 use Rattle.sk_tree.specs.declared.stmt.Stmt.{Stmt}
 use Rattle.sk_tree.specs.declared.stmt.Form.{Form}
 use Rattle.sk_tree.specs.declared.stmt.Form.TheOpen as F
@@ -52,9 +55,16 @@ abbrev pub pattern_target : Context → List Variable → Span → List Expr →
 pattern_target context scope s es None = None
 pattern_target context scope s es (Some t) = all_at t (ats context scope (kept_targets context scope t es)) >>= λ ps. Some (typed s t (pform.Pattern ps))
 
+abbrev pub eform_strings : E.EForm-F (EForm × Option (List Expr)) (Expr × Unit {0}) (NewField × Unit {0}) → Option (List Expr)
+eform_strings (E.Pattern pattern es) = Some (map (λ e. e.0) es)
+eform_strings _ = None
+
+-- the strings of a form that is a pattern
+abbrev pub strings_in : EForm → Option (List Expr)
+strings_in = para-EForm (Option (List Expr)) (Unit {0}) (Unit {0}) eform_strings (λ x. tt) (λ x. tt)
+
 abbrev pub form_target : Context → List Variable → Span → EForm → Option PExpr
-form_target context scope s (eform.Pattern pattern es) = pattern_target context scope s es (first_target context scope es)
-form_target context scope s _ = None
+form_target context scope s f = strings_in f >>= λ es. pattern_target context scope s es (first_target context scope es)
 
 abbrev pub target_in : Context → List Variable → Expr → Option Ty → Option PExpr
 target_in context scope e (Some t) = value_at context scope t e
@@ -64,9 +74,24 @@ target_in context scope e None = form_target context scope e.span e.form
 unfoldable pub target_at : Context → List Variable → Expr → Option PExpr
 target_at context scope e = target_in context scope e (target_type context scope e)
 
+-- the name and the arguments of a call
+pub record CallIn : Type 0 where
+  pub name : List ℕ
+  pub args : List Expr
+
+abbrev pub eform_call_in : E.EForm-F (EForm × Option CallIn) (Expr × Unit {0}) (NewField × Unit {0}) → Option CallIn
+eform_call_in (E.Call x es) = Some (record { name = x; args = map (λ e. e.0) es })
+eform_call_in _ = None
+
+-- what a form that is a call calls
+abbrev pub call_in : EForm → Option CallIn
+call_in = para-EForm (Option CallIn) (Unit {0}) (Unit {0}) eform_call_in (λ x. tt) (λ x. tt)
+
+abbrev pub called_in : Context → List Variable → Span → CallIn → Option PExpr
+called_in context scope s c = called (callee_meant context.top (meaning_of context.top scope c.name)) (arguments context scope c.args) >>= λ (c : Called). Some (record { span = s; ty = c.result; form = c.form })
+
 abbrev pub form_call : Context → List Variable → Span → EForm → Option PExpr
-form_call context scope s (eform.Call x es) = called (callee_meant context.top (meaning_of context.top scope x)) (arguments context scope es) >>= λ (c : Called). Some (record { span = s; ty = c.result; form = c.form })
-form_call context scope s _ = None
+form_call context scope s f = call_in f >>= λ c. called_in context scope s c
 
 -- a call as it stands, which needs no result
 unfoldable pub call_of : Context → List Variable → Expr → Option PExpr
