@@ -1,8 +1,7 @@
 -- The layers of what expressions become, and of trees and programs.
-use Rattle.std.proofs.Common.{◌≡◌, ℕ, Bool, true, false, List, [], ◌∷◌, Option, Some, None, refl, sym, ap, subst, ◌∙◌}
-use Rattle.std.specs.Prelude.{◌&&◌, if◌then◌else◌, map}
+use Rattle.std.proofs.Common.{◌≡◌, Bool, true, false, List, Option, Some, None, refl, ap, subst}
+use Rattle.std.specs.Prelude.{◌&&◌, if◌then◌else◌}
 use Rattle.std.proofs.lemmas.Bool.{eqb-true, eq-eqb}
-use Rattle.sk_base.specs.declared.span.Span.{Span}
 use Rattle.sk_tree.specs.declared.expr.Expr.{Expr}
 use Rattle.sk_tree.specs.declared.expr.EForm.{EForm}
 use Rattle.sk_tree.specs.declared.expr.EForm.TheOpen as E
@@ -19,8 +18,7 @@ use Rattle.sk_prog.specs.declared.expr.PField.{PField}
 use Rattle.sk_prog.specs.declared.expr.PEForm.TheOpen as P
 use Rattle.sk_prog.specs.declared.expr.PEForm.TheViews.{roll-PEForm, roll-PExpr, roll-PField}
 use Rattle.sk_prog.specs.declared.expr.PEForm.TheFolds.{map-PEForm, ind-PExpr}
-use Rattle.sk_types.specs.declared.rules.Fit.{Fit}
-use Rattle.sk_types.specs.declared.rules.Fit.TheVariants.{Misfit, Same, Widens, Pads}
+use Rattle.sk_types.specs.declared.rules.Fit.TheVariants.{Same}
 use Rattle.sk_types.specs.declared.scope.Variable.{Variable}
 use Rattle.sk_types.specs.Rules.{◌>>=◌, elem_eq, ty_eq, fit_of}
 use Rattle.sk_types.specs.Scope.{Context}

@@ -1,6 +1,6 @@
 -- An expression that is bare is made at its own type, and coerced where another is wanted.
-use Rattle.std.proofs.Common.{◌≡◌, ℕ, Bool, true, false, List, [], ◌∷◌, Option, Some, None, refl, sym, ap, ◌∙◌}
-use Rattle.std.specs.Prelude.{map, nat_lt, if◌then◌else◌, slice_get}
+use Rattle.std.proofs.Common.{◌≡◌, ℕ, Bool, true, false, List, Option, Some, None, refl, sym, ap, ◌∙◌}
+use Rattle.std.specs.Prelude.{nat_lt, if◌then◌else◌, slice_get}
 use Rattle.sk_base.specs.declared.span.Span.{Span}
 use Rattle.sk_tree.specs.declared.expr.Expr.{Expr}
 use Rattle.sk_tree.specs.declared.expr.EForm.{EForm}
@@ -25,20 +25,19 @@ use Rattle.sk_prog.specs.declared.prog.StructDef.{StructDef}
 use Rattle.sk_types.specs.declared.rules.Own.{Own}
 use Rattle.sk_types.specs.declared.rules.Own.TheVariants.{Wrong, Loose, Firm}
 use Rattle.sk_types.specs.declared.rules.Class.{Class}
-use Rattle.sk_types.specs.declared.rules.Class.TheVariants.{Plus, Arithmetic, Order, Equality, Bitwise, Shift, Logic}
+use Rattle.sk_types.specs.declared.rules.Class.TheVariants.{Plus, Arithmetic, Order, Equality, Bitwise}
 use Rattle.sk_types.specs.declared.scope.Variable.{Variable}
-use Rattle.sk_types.specs.Rules.{◌>>=◌, only_if, int, bit, fit_of, element_of, operand, result_of, result_own, shifted, flipped, operation_own, number_own, number_stands, in_range, operator_of, unary_of}
+use Rattle.sk_types.specs.Rules.{◌>>=◌, only_if, int, bit, fit_of, element_of, operand, result_of, result_own, shifted, flipped, operation_own, number_stands, in_range, operator_of, unary_of}
 use Rattle.sk_types.specs.Scope.{Top, Context, Meaning, AVariable, AStruct, AConstant, AFunction, Nothing, meaning_of, field_of}
 use Rattle.sk_types.specs.Constants.{constant_number}
-use Rattle.sk_types.specs.Sorts.{Sort, named, struct_meant, reference_to, reference_meant, field_type, firm_of, member_of, array_meant, slice_of, sliced, new_sort, any_unary, any_binary, binary_sort, eform_sort, sort, own}
+use Rattle.sk_types.specs.Sorts.{Sort, named, struct_meant, reference_to, reference_meant, field_type, member_of, array_meant, slice_of, sliced, new_sort, any_unary, any_binary, eform_sort, sort, own}
 use Rattle.sk_types.specs.Types.{eform_bare, is_bare}
 use Rattle.sk_types.proofs.SortLaws.{form_sort, field_sort, form_sort_is, sort_is}
 use Rattle.sk_check.specs.declared.found.Found.{Found}
 use Rattle.sk_check.specs.declared.found.View.{View}
 use Rattle.sk_check.specs.declared.found.Wants.{Wants}
-use Rattle.sk_check.specs.declared.found.Called.{Called}
 use Rattle.sk_check.specs.Owns.{own_type, callee_result}
-use Rattle.sk_check.specs.Elaborate.{At, FormAt, typed, coerced, firm_at, named_at, Setting, settings_at, field_found, Callee, callee_meant, called, call_at, Argument, arguments_at, record_form, record_in, record_at, member_found, member_in, member_at, viewed, indexed, index_at, cut, slice_at, flip_wants, unary_wants, unary_at, operands_want, shift_wants, binary_wants, binary_at, eform_at, form_at, at, field_at}
+use Rattle.sk_check.specs.Elaborate.{At, FormAt, typed, coerced, firm_at, named_at, Setting, field_found, Callee, callee_meant, called, call_at, Argument, arguments_at, record_form, record_at, member_found, member_at, viewed, index_at, slice_at, flip_wants, unary_at, operands_want, shift_wants, binary_at, eform_at, form_at, at, field_at}
 use Rattle.sk_check.proofs.OwnLaws.{firm_own, binary_own, call_own}
 use Rattle.sk_check.proofs.Ats.{fit_same, expr_law, form_at_is, at_is}
 

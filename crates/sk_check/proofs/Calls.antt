@@ -1,26 +1,21 @@
 -- Calls as they stand, with a type or without one.
-use Rattle.std.proofs.Common.{◌≡◌, ℕ, Bool, true, false, List, [], ◌∷◌, Option, Some, None, refl, sym, ap, subst, ◌∙◌}
-use Rattle.std.specs.Prelude.{map, IsTrue}
+use Rattle.std.proofs.Common.{◌≡◌, ℕ, Bool, true, List, [], ◌∷◌, Some, refl, sym, ap, subst, ◌∙◌}
+use Rattle.std.specs.Prelude.{IsTrue}
 use Rattle.sk_tree.specs.declared.expr.Expr.{Expr}
-use Rattle.sk_tree.specs.declared.expr.EForm.{EForm}
 use Rattle.sk_tree.specs.declared.expr.EForm.TheVariants as eform
-use Rattle.sk_prog.specs.declared.ty.Ty.{Ty}
 use Rattle.sk_prog.specs.declared.expr.PExpr.{PExpr}
-use Rattle.sk_prog.specs.declared.expr.PEForm.{PEForm}
 use Rattle.sk_prog.specs.declared.expr.PEForm.TheVariants as pform
 use Rattle.sk_prog.specs.declared.expr.PEForm.TheOpen as P
-use Rattle.sk_prog.specs.declared.expr.PEForm.TheViews.{roll-PEForm}
-use Rattle.sk_prog.specs.declared.expr.PEForm.TheFolds.{map-PEForm, fold-PEForm, fold-PField, fold-roll-PEForm, fold-roll-PExpr}
-use Rattle.sk_prog.specs.declared.expr.PField.{PField}
+use Rattle.sk_prog.specs.declared.expr.PEForm.TheFolds.{fold-PEForm, fold-roll-PEForm, fold-roll-PExpr}
 use Rattle.sk_prog.specs.declared.prog.ParamDef.{ParamDef}
 use Rattle.sk_types.specs.declared.scope.Variable.{Variable}
 use Rattle.sk_types.specs.Rules.{◌>>=◌}
-use Rattle.sk_types.specs.Scope.{Signature, Context, meaning_of}
+use Rattle.sk_types.specs.Scope.{Context, meaning_of}
 use Rattle.sk_types.specs.Sorts.{variable_type}
-use Rattle.sk_types.specs.Types.{EFormRule, ArgumentsMean, IsCallee, Means, form_calls, is_call}
+use Rattle.sk_types.specs.Types.{EFormRule, ArgumentsMean, Means, form_calls, is_call}
 use Rattle.sk_types.proofs.Layers.{FormMeans, rule, form_means_are, means_from}
 use Rattle.sk_check.specs.declared.found.Called.{Called}
-use Rattle.sk_check.specs.Elaborate.{Callee, callee_meant, called, argument_at, arguments_at, may_pass}
+use Rattle.sk_check.specs.Elaborate.{callee_meant, called, argument_at, arguments_at, may_pass}
 use Rattle.sk_check.specs.Parts.{part, argument_part, arguments}
 use Rattle.sk_check.specs.Making.{call_in, form_call, call_of}
 use Rattle.sk_check.proofs.Views.{call_found}

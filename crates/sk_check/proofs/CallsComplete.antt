@@ -1,9 +1,7 @@
 -- A call that is meant is what the call becomes, also one without a type.
-use Rattle.std.proofs.Common.{◌≡◌, ℕ, Bool, true, false, List, [], ◌∷◌, Option, Some, None, refl, sym, ap, subst, ◌∙◌}
-use Rattle.std.specs.Prelude.{map, IsTrue}
+use Rattle.std.proofs.Common.{◌≡◌, Bool, true, List, [], ◌∷◌, Option, Some, refl, sym, ap, subst, ◌∙◌}
+use Rattle.std.specs.Prelude.{IsTrue}
 use Rattle.sk_tree.specs.declared.expr.Expr.{Expr}
-use Rattle.sk_tree.specs.declared.expr.EForm.{EForm}
-use Rattle.sk_tree.specs.declared.expr.EForm.TheVariants as eform
 use Rattle.sk_prog.specs.declared.ty.Ty.{Ty}
 use Rattle.sk_prog.specs.declared.expr.PExpr.{PExpr}
 use Rattle.sk_prog.specs.declared.expr.PEForm.{PEForm}
@@ -15,13 +13,12 @@ use Rattle.sk_prog.specs.declared.expr.PField.{PField}
 use Rattle.sk_prog.specs.declared.prog.ParamDef.{ParamDef}
 use Rattle.sk_types.specs.declared.scope.Variable.{Variable}
 use Rattle.sk_types.specs.Rules.{◌>>=◌}
-use Rattle.sk_types.specs.Scope.{Signature, Context, meaning_of}
-use Rattle.sk_types.specs.Types.{EFormRule, ArgumentsMean, IsCallee, Means, form_calls, is_call}
+use Rattle.sk_types.specs.Scope.{Context}
+use Rattle.sk_types.specs.Types.{EFormRule, ArgumentsMean, Means, form_calls, is_call}
 use Rattle.sk_types.proofs.Layers.{FormMeans, rule, form_means_are, means_parts}
-use Rattle.sk_check.specs.declared.found.Called.{Called}
 use Rattle.sk_check.specs.Envs.{AreDistinct}
-use Rattle.sk_check.specs.Elaborate.{callee_meant, called, arguments_at, may_pass}
-use Rattle.sk_check.specs.Parts.{part, argument_part, arguments}
+use Rattle.sk_check.specs.Elaborate.{arguments_at, may_pass}
+use Rattle.sk_check.specs.Parts.{part, arguments}
 use Rattle.sk_check.specs.Making.{called_in, form_call, call_of}
 use Rattle.sk_check.proofs.Views.{call_of_call}
 use Rattle.sk_check.proofs.Ats.{pexpr_law}

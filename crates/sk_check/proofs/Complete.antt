@@ -1,14 +1,12 @@
 -- What an expression means is what it becomes.
-use Rattle.std.proofs.Common.{◌≡◌, ◌≢◌, ℕ, zero, suc, ◌+◌, ◌<◌, ◌≤◌, Bool, true, false, List, [], ◌∷◌, length, Option, Some, None, refl, sym, ap, subst, ◌∙◌, arith}
-use Rattle.std.specs.Prelude.{◌&&◌, ◌||◌, not, map, nat_lt, nat_le, if◌then◌else◌, slice_get, IsTrue}
+use Rattle.std.proofs.Common.{◌≡◌, ◌≢◌, ℕ, zero, suc, ◌≤◌, Bool, true, false, List, [], ◌∷◌, length, Option, Some, refl, sym, ap, subst, ◌∙◌, arith}
+use Rattle.std.specs.Prelude.{◌&&◌, ◌||◌, not, map, nat_lt, if◌then◌else◌, slice_get, IsTrue}
 use Rattle.std.specs.List.{list_any}
 use Rattle.std.specs.Str.{bytes_eq}
 use Rattle.std.proofs.lemmas.List.{length-map}
 use Rattle.std.proofs.lemmas.Bool.{le-leb}
 use Rattle.std.proofs.lemmas.Slice.Eq.{bytes_eq-Decides}
 use Rattle.sk_base.specs.declared.span.Span.{Span}
-use Rattle.sk_tree.specs.declared.token.Mark.{Mark}
-use Rattle.sk_tree.specs.declared.pattern.Pattern.{Pattern}
 use Rattle.sk_tree.specs.declared.expr.Expr.{Expr}
 use Rattle.sk_tree.specs.declared.expr.EForm.{EForm}
 use Rattle.sk_tree.specs.declared.expr.EForm.TheVariants as eform
@@ -18,9 +16,7 @@ use Rattle.sk_tree.specs.declared.expr.NewField.{NewField}
 use Rattle.sk_prog.specs.declared.ty.Ty.{Ty}
 use Rattle.sk_prog.specs.declared.ty.Ty.TheVariants as ty
 use Rattle.sk_prog.specs.declared.ty.Elem.TheVariants as elem
-use Rattle.sk_prog.specs.declared.ids.StructId.{StructId}
 use Rattle.sk_prog.specs.declared.ids.FunId.{FunId}
-use Rattle.sk_prog.specs.declared.expr.BinOp.{BinOp}
 use Rattle.sk_prog.specs.declared.expr.UnOp.{UnOp}
 use Rattle.sk_prog.specs.declared.expr.UnOp.TheVariants as unary
 use Rattle.sk_prog.specs.declared.expr.PExpr.{PExpr}
@@ -38,20 +34,17 @@ use Rattle.sk_types.specs.declared.rules.Own.TheVariants.{Wrong, Loose, Firm}
 use Rattle.sk_types.specs.declared.rules.Class.{Class}
 use Rattle.sk_types.specs.declared.rules.Class.TheVariants.{Plus, Arithmetic, Order, Equality, Bitwise, Shift, Logic}
 use Rattle.sk_types.specs.declared.scope.Variable.{Variable}
-use Rattle.sk_types.specs.Rules.{◌>>=◌, only_if, int, bit, ty_eq, fit_of, is_bits, is_reference, element_of, count_of, operator_of, unary_of, class_of, operand, loose_takes, result_of, shifted, flipped, number_takes, element_takes, number_stands, in_range, hole_takes, width_fits}
-use Rattle.sk_types.specs.Scope.{lookup, Nearest, Signature, Top, Context, Meaning, AVariable, AConstant, AStruct, AFunction, variable_or, top_meaning, next_place, place_of, meaning_of, field_of, all_distinct}
+use Rattle.sk_types.specs.Rules.{◌>>=◌, only_if, int, bit, fit_of, is_bits, element_of, count_of, unary_of, class_of, operand, loose_takes, result_of, flipped, number_takes, number_stands}
+use Rattle.sk_types.specs.Scope.{Nearest, Signature, Top, Context, AVariable, variable_or, top_meaning, next_place, place_of, meaning_of, all_distinct}
 use Rattle.sk_types.specs.Constants.{constant_number}
-use Rattle.sk_types.specs.Sorts.{struct_meant, variable_type, is_some_type, reference_to, reference_meant, sliced, may_keep, keeps, kept, is_harness, sort, own}
-use Rattle.sk_types.specs.Types.{ExprRule, EFormRule, FieldRule, HasType, Wanted, MeansOperation, MeansLogic, MeansShift, MeansBinary, MeansUnary, IsWidened, IsPadded, EachMeans, MayBeRef, ArgumentsMean, FieldsMean, IsMore, IsCallee, IsStruct, IsField, eform_means, expr_means, field_means, Means, IsAt, is_bare}
+use Rattle.sk_types.specs.Sorts.{struct_meant, variable_type, is_some_type, reference_to, reference_meant, may_keep, keeps, kept, sort, own}
+use Rattle.sk_types.specs.Types.{ExprRule, EFormRule, FieldRule, Wanted, MeansOperation, MeansBinary, MeansUnary, EachMeans, MayBeRef, ArgumentsMean, FieldsMean, IsMore, IsCallee, IsField, eform_means, expr_means, field_means, Means, is_bare}
 use Rattle.sk_types.proofs.Nearest.{nearest_lookup}
 use Rattle.sk_types.proofs.Layers.{FormMeans, FieldMeans, rule, form_means_are, means_parts}
 use Rattle.sk_check.specs.Envs.{AreDistinct}
-use Rattle.sk_check.specs.declared.found.Found.{Found}
-use Rattle.sk_check.specs.declared.found.View.{View}
 use Rattle.sk_check.specs.declared.found.Wants.{Wants}
-use Rattle.sk_check.specs.declared.found.Called.{Called}
-use Rattle.sk_check.specs.Elaborate.{At, FormAt, typed, coerced, firm_at, number_at, named_at, all_at, element_wanted, string_at, with_string, strings_at, pattern_at, may_pass, argument_at, arguments_at, Setting, field_found, setting_at, settings_at, Callee, callable, callee_meant, called, call_at, record_form, record_in, record_at, member_found, member_in, member_at, viewed, indexed, index_at, cut, slice_at, flip_wants, unary_wants, unary_at, operands_want, shift_wants, binary_wants, binary_at, item_of, argument_of, setting_of, at_of, eform_at, form_at, at, field_at}
-use Rattle.sk_check.proofs.Ats.{both_true, both, ty_self, fit_same, bind_some, some_same, pexpr_law, form_at_is, at_is, field_at_is}
+use Rattle.sk_check.specs.Elaborate.{At, FormAt, typed, coerced, firm_at, named_at, all_at, element_wanted, string_at, with_string, strings_at, pattern_at, may_pass, arguments_at, Setting, field_found, setting_at, settings_at, callee_meant, called, call_at, record_at, member_at, index_at, slice_at, flip_wants, unary_wants, unary_at, operands_want, shift_wants, binary_wants, item_of, argument_of, setting_of, at_of, form_at, at, field_at}
+use Rattle.sk_check.proofs.Ats.{both_true, both, ty_self, fit_same, some_same, pexpr_law, form_at_is, at_is, field_at_is}
 use Rattle.sk_check.proofs.Stands.{dropped_none}
 use Rattle.sk_check.proofs.Bare.{placed, bare_at}
 

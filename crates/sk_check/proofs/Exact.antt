@@ -1,5 +1,5 @@
 -- The code of expressions answers what they mean: exactly that, and nothing exactly where they mean nothing.
-use Rattle.std.proofs.Common.{◌≡◌, List, Option, Some, None, sym, ap, ◌∙◌}
+use Rattle.std.proofs.Common.{◌≡◌, List, Some, None, sym, ap, ◌∙◌}
 use Rattle.sk_tree.specs.declared.expr.Expr.{Expr}
 use Rattle.sk_prog.specs.declared.ty.Ty.{Ty}
 use Rattle.sk_prog.specs.declared.expr.PExpr.{PExpr}
@@ -9,6 +9,7 @@ use Rattle.sk_types.specs.Types.{IsAt}
 use Rattle.sk_check.specs.Envs.{AreDistinct}
 use Rattle.sk_check.specs.Elaborate.{At}
 use Rattle.sk_check.specs.Parts.{part}
+use Rattle.sk_check.specs.LawNames.{Exact}
 use Rattle.sk_check.proofs.Ats.{some_same}
 use Rattle.sk_check.proofs.Joined.{part_at}
 use Rattle.sk_check.proofs.Complete.{complete}
@@ -17,7 +18,7 @@ use Rattle.sk_check.proofs.Sound.{sound}
 pub found : (context : Context) (scope : List Variable) (t : Ty) (e : Expr) (p : PExpr) → (part context scope e).at t ≡ Some p → IsAt context scope t p e
 found context scope t e p h = sound context scope e t p (sym (ap (λ (f : At). f t) (part_at context scope e)) ∙ h)
 
-is_at : (context : Context) (scope : List Variable) → AreDistinct context.top → (t : Ty) (e : Expr) (p : PExpr) → IsAt context scope t p e → (part context scope e).at t ≡ Some p
+pub is_at : (context : Context) (scope : List Variable) → AreDistinct context.top → (t : Ty) (e : Expr) (p : PExpr) → IsAt context scope t p e → (part context scope e).at t ≡ Some p
 is_at context scope good t e p m = ap (λ (f : At). f t) (part_at context scope e) ∙ complete context scope good p e t m.means m.type
 
 pub once : (context : Context) (scope : List Variable) → AreDistinct context.top → (t : Ty) (e : Expr) (p q : PExpr) → (part context scope e).at t ≡ Some p → IsAt context scope t q e → p ≡ q
@@ -25,3 +26,6 @@ once context scope good t e p q h m = some_same p q (sym h ∙ is_at context sco
 
 pub none : (context : Context) (scope : List Variable) → AreDistinct context.top → (t : Ty) (e : Expr) (q : PExpr) → (part context scope e).at t ≡ None → IsAt context scope t q e → ⊥
 none context scope good t e q h m = let n = sym h ∙ is_at context scope good t e q m in cc
+
+pub exact : Exact
+exact context scope good t e p = (found context scope t e p, is_at context scope good t e p)

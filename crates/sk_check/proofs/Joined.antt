@@ -1,7 +1,6 @@
 -- What a tree is, as one fold, is what the rules say of it and what it becomes.
-use Rattle.std.proofs.Common.{◌≡◌, ℕ, suc, List, [], ◌∷◌, length, Option, Some, None, refl, sym, ap, ◌∙◌}
+use Rattle.std.proofs.Common.{◌≡◌, suc, List, [], ◌∷◌, length, Option, Some, None, refl, sym, ap, ◌∙◌}
 use Rattle.std.specs.Prelude.{ℤ, map}
-use Rattle.sk_base.specs.declared.span.Span.{Span}
 use Rattle.sk_tree.specs.declared.expr.Expr.{Expr}
 use Rattle.sk_tree.specs.declared.expr.EForm.{EForm}
 use Rattle.sk_tree.specs.declared.expr.EForm.TheVariants as eform
@@ -9,19 +8,17 @@ use Rattle.sk_tree.specs.declared.expr.EForm.TheOpen as E
 use Rattle.sk_tree.specs.declared.expr.EForm.TheViews.{roll-EForm}
 use Rattle.sk_tree.specs.declared.expr.EForm.TheFolds.{map-EForm, fold-EForm, fold-NewField, fold-roll-EForm, fold-roll-Expr, fold-roll-NewField}
 use Rattle.sk_tree.specs.declared.expr.NewField.{NewField}
-use Rattle.sk_prog.specs.declared.ty.Ty.{Ty}
 use Rattle.sk_prog.specs.declared.ids.StructId.{StructId}
 use Rattle.sk_prog.specs.declared.expr.BinOp.{BinOp}
 use Rattle.sk_prog.specs.declared.expr.UnOp.{UnOp}
-use Rattle.sk_types.specs.declared.rules.Own.{Own}
 use Rattle.sk_types.specs.declared.scope.Variable.{Variable}
 use Rattle.sk_types.specs.Rules.{operator_of, unary_of}
-use Rattle.sk_types.specs.Scope.{lookup, Top, Context, meaning_of}
+use Rattle.sk_types.specs.Scope.{Top, Context, meaning_of}
 use Rattle.sk_types.specs.Constants.{eform_number, whole_number, constant_number}
 use Rattle.sk_types.specs.Sorts.{Sort, struct_meant, reference_meant, member_of, array_meant, slice_of, new_sort, any_unary, any_binary, variable_type, eform_sort, sort, own}
 use Rattle.sk_types.proofs.SortLaws.{form_sort, field_sort, form_sort_is, sort_is}
-use Rattle.sk_check.specs.Elaborate.{At, FormAt, Item, Argument, Setting, strings_at, pattern_at, element_wanted, braces_at, callee_meant, called, call_at, record_at, item_of, argument_of, setting_of, at_of, eform_at, form_at, at, field_at}
-use Rattle.sk_check.specs.Parts.{Part, FormPart, new_own, any_unary_own, any_binary_own, place_type, item_part, argument_part, at_part, eform_part, expr_part, set_part, form_part, part, setting}
+use Rattle.sk_check.specs.Elaborate.{At, FormAt, Setting, strings_at, pattern_at, element_wanted, braces_at, callee_meant, called, call_at, record_at, item_of, argument_of, setting_of, at_of, eform_at, form_at, at, field_at}
+use Rattle.sk_check.specs.Parts.{Part, FormPart, new_own, any_unary_own, any_binary_own, item_part, argument_part, at_part, eform_part, expr_part, set_part, form_part, part, setting}
 use Rattle.sk_check.proofs.OwnLaws.{firm_own, binary_own, unary_own_is, call_own}
 use Rattle.sk_check.proofs.Ats.{expr_law, form_at_is, at_is, field_at_is}
 

@@ -1,5 +1,5 @@
 -- The own types that sorts have.
-use Rattle.std.proofs.Common.{◌≡◌, ℕ, Bool, true, false, List, Option, Some, None, refl, sym, ap, ◌∙◌}
+use Rattle.std.proofs.Common.{◌≡◌, Bool, true, false, List, Option, Some, None, refl}
 use Rattle.std.specs.Prelude.{slice_get, if◌then◌else◌}
 use Rattle.sk_tree.specs.declared.expr.Expr.{Expr}
 use Rattle.sk_prog.specs.declared.ty.Ty.{Ty}
@@ -14,7 +14,7 @@ use Rattle.sk_types.specs.declared.scope.Variable.{Variable}
 use Rattle.sk_types.specs.Rules.{operation_own, unary_own, shifted, firm_if, is_bit_array}
 use Rattle.sk_types.specs.Scope.{Signature, Top, Meaning, AVariable, AStruct, AConstant, AFunction, Nothing}
 use Rattle.sk_types.specs.Sorts.{Sort, firm_of, binary_sort, unary_sort, shift_by, is_harness, call_sort, signature_meant, wrong, arguments_fit}
-use Rattle.sk_check.specs.Elaborate.{Callee, callable, callee_meant}
+use Rattle.sk_check.specs.Elaborate.{callable, callee_meant}
 use Rattle.sk_check.specs.Owns.{own_type, callee_result}
 
 pub firm_own : (o : Option Ty) (good : Bool) → (firm_of o good).own ≡ own_type o

@@ -1,13 +1,10 @@
 -- What an expression becomes is what it means.
-use Rattle.std.proofs.Common.{◌≡◌, ℕ, zero, suc, ◌+◌, ◌<◌, ◌≤◌, Bool, true, false, List, [], ◌∷◌, length, Option, Some, None, refl, sym, ap, subst, ◌∙◌, arith}
+use Rattle.std.proofs.Common.{◌≡◌, ℕ, zero, suc, ◌≤◌, Bool, true, false, List, [], ◌∷◌, length, Option, Some, None, refl, sym, ap, subst, ◌∙◌, arith}
 use Rattle.std.specs.Prelude.{◌&&◌, ◌||◌, not, map, nat_lt, nat_le, if◌then◌else◌, slice_get, IsTrue}
 use Rattle.std.specs.Str.{bytes_eq}
 use Rattle.std.proofs.lemmas.List.{length-map}
 use Rattle.std.proofs.lemmas.Bool.{leb-true}
 use Rattle.std.proofs.lemmas.Slice.Eq.{bytes_eq-Decides}
-use Rattle.sk_base.specs.declared.span.Span.{Span}
-use Rattle.sk_tree.specs.declared.token.Mark.{Mark}
-use Rattle.sk_tree.specs.declared.pattern.Pattern.{Pattern}
 use Rattle.sk_tree.specs.declared.expr.Expr.{Expr}
 use Rattle.sk_tree.specs.declared.expr.EForm.{EForm}
 use Rattle.sk_tree.specs.declared.expr.EForm.TheVariants as eform
@@ -19,7 +16,6 @@ use Rattle.sk_prog.specs.declared.ty.Ty.{Ty}
 use Rattle.sk_prog.specs.declared.ty.Ty.TheVariants as ty
 use Rattle.sk_prog.specs.declared.ty.Elem.TheVariants as elem
 use Rattle.sk_prog.specs.declared.ids.StructId.{StructId}
-use Rattle.sk_prog.specs.declared.ids.FunId.{FunId}
 use Rattle.sk_prog.specs.declared.expr.BinOp.{BinOp}
 use Rattle.sk_prog.specs.declared.expr.BinOp.TheVariants as op
 use Rattle.sk_prog.specs.declared.expr.UnOp.{UnOp}
@@ -42,20 +38,19 @@ use Rattle.sk_types.specs.declared.rules.Class.{Class}
 use Rattle.sk_types.specs.declared.rules.Class.TheVariants.{Plus, Arithmetic, Order, Equality, Bitwise, Shift, Logic}
 use Rattle.sk_types.specs.declared.scope.Variable.{Variable}
 use Rattle.sk_types.specs.declared.scope.Place.{Place}
-use Rattle.sk_types.specs.Rules.{◌>>=◌, only_if, int, bit, ty_eq, is_bit, is_integer, widens, pads, fit_of, is_bits, is_reference, is_bit_array, firm_if, element_of, count_of, operator_of, unary_of, class_of, operand, loose_takes, result_of, result_own, operation_own, unary_own, shifted, flipped, number_takes, element_takes, number_stands, in_range, hole_takes, width_fits}
-use Rattle.sk_types.specs.Scope.{lookup, Nearest, Signature, Top, Context, Meaning, AVariable, AConstant, AStruct, AFunction, Nothing, variable_or, struct_or, constant_or, function_or, top_meaning, next_place, place_of, meaning_of, field_of, all_distinct}
+use Rattle.sk_types.specs.Rules.{◌>>=◌, only_if, int, bit, ty_eq, is_bit, is_integer, widens, pads, fit_of, is_bits, element_of, count_of, operator_of, unary_of, class_of, operand, loose_takes, result_of, result_own, operation_own, unary_own, shifted, flipped, number_stands, in_range}
+use Rattle.sk_types.specs.Scope.{lookup, Signature, Top, Context, Meaning, AVariable, AConstant, AStruct, AFunction, Nothing, variable_or, struct_or, constant_or, function_or, top_meaning, next_place, place_of, meaning_of, field_of, all_distinct}
 use Rattle.sk_types.specs.Constants.{constant_number}
 use Rattle.sk_types.specs.Sorts.{Sort, named, struct_meant, variable_type, is_some_type, reference_to, reference_meant, field_type, member_of, array_meant, slice_of, sliced, new_sort, any_unary, any_binary, own_at, may_keep, keeps, kept, is_harness, sort, own}
-use Rattle.sk_types.specs.Types.{EFormRule, ExprRule, FieldRule, Wanted, MeansOperation, MeansLogic, MeansShift, MeansBinary, MeansUnary, IsWidened, IsPadded, EachMeans, MayBeRef, ArgumentsMean, FieldsMean, IsMore, IsCallee, IsStruct, IsField, eform_means, expr_means, field_means, Means, IsAt, is_bare}
+use Rattle.sk_types.specs.Types.{EFormRule, ExprRule, FieldRule, Wanted, MeansOperation, MeansBinary, MeansUnary, EachMeans, MayBeRef, ArgumentsMean, FieldsMean, IsMore, IsField, eform_means, expr_means, field_means, Means, IsAt, is_bare}
 use Rattle.sk_types.proofs.Nearest.{lookup_nearest}
 use Rattle.sk_types.proofs.SortLaws.{form_sort, field_sort, form_sort_is, sort_is}
 use Rattle.sk_types.proofs.Layers.{FormMeans, FieldMeans, rule, form_means_are, means_from}
 use Rattle.sk_check.specs.declared.found.Found.{Found}
 use Rattle.sk_check.specs.declared.found.View.{View}
 use Rattle.sk_check.specs.declared.found.Wants.{Wants}
-use Rattle.sk_check.specs.declared.found.Called.{Called}
 use Rattle.sk_check.specs.Owns.{own_type, callee_result}
-use Rattle.sk_check.specs.Elaborate.{At, FormAt, typed, coerced, firm_at, number_at, named_at, all_at, element_wanted, string_at, with_string, strings_at, pattern_at, may_pass, argument_at, arguments_at, Argument, Setting, field_found, setting_at, settings_at, Callee, callable, callee_meant, called, call_at, record_form, record_in, record_at, member_found, member_in, member_at, viewed, indexed, index_at, cut, slice_at, flip_wants, unary_wants, unary_at, operands_want, shift_wants, binary_wants, binary_at, item_of, argument_of, setting_of, at_of, eform_at, form_at, at, field_at}
+use Rattle.sk_check.specs.Elaborate.{At, FormAt, typed, coerced, firm_at, named_at, all_at, element_wanted, string_at, with_string, strings_at, pattern_at, may_pass, argument_at, arguments_at, Setting, field_found, setting_at, settings_at, Callee, callable, callee_meant, called, call_at, record_form, record_at, member_found, member_at, viewed, indexed, cut, flip_wants, unary_wants, operands_want, shift_wants, binary_wants, item_of, argument_of, setting_of, at_of, form_at, at, field_at}
 use Rattle.sk_check.proofs.OwnLaws.{firm_own, binary_own, unary_own_is, call_own}
 use Rattle.sk_check.proofs.Ats.{both_true, ty_same, fit_same, bind_some, some_same, if_some, expr_law, form_at_is, at_is, field_at_is}
 use Rattle.sk_check.proofs.Stands.{is_some, kept_string}

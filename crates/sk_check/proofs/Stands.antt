@@ -5,8 +5,6 @@ use Rattle.std.specs.List.{list_all}
 use Rattle.std.specs.Str.{bytes_eq}
 use Rattle.std.proofs.lemmas.List.{length-map}
 use Rattle.sk_base.specs.declared.span.Span.{Span}
-use Rattle.sk_base.specs.declared.bounds.Bounds.{Bounds}
-use Rattle.sk_tree.specs.declared.token.Mark.{Mark}
 use Rattle.sk_tree.specs.declared.expr.Expr.{Expr}
 use Rattle.sk_tree.specs.declared.expr.EForm.{EForm}
 use Rattle.sk_tree.specs.declared.expr.EForm.TheVariants as eform
@@ -16,7 +14,6 @@ use Rattle.sk_tree.specs.declared.expr.EForm.TheFolds.{map-EForm, para-roll-NewF
 use Rattle.sk_tree.specs.declared.expr.NewField.{NewField}
 use Rattle.sk_prog.specs.declared.ty.Ty.{Ty}
 use Rattle.sk_prog.specs.declared.ty.Ty.TheVariants as ty
-use Rattle.sk_prog.specs.declared.ty.Elem.{Elem}
 use Rattle.sk_prog.specs.declared.ty.Elem.TheVariants as elem
 use Rattle.sk_prog.specs.declared.ids.StructId.{StructId}
 use Rattle.sk_prog.specs.declared.ids.FunId.{FunId}
@@ -36,20 +33,19 @@ use Rattle.sk_types.specs.declared.rules.Own.TheVariants.{Wrong, Loose, Firm}
 use Rattle.sk_types.specs.declared.rules.Fit.{Fit}
 use Rattle.sk_types.specs.declared.rules.Fit.TheVariants.{Misfit, Same, Widens, Pads}
 use Rattle.sk_types.specs.declared.rules.Class.{Class}
-use Rattle.sk_types.specs.declared.rules.Class.TheVariants.{Plus, Arithmetic, Order, Equality, Bitwise, Shift, Logic}
+use Rattle.sk_types.specs.declared.rules.Class.TheVariants.{Plus, Arithmetic, Order, Equality, Bitwise}
 use Rattle.sk_types.specs.declared.scope.Variable.{Variable}
 use Rattle.sk_types.specs.declared.scope.Place.{Place}
-use Rattle.sk_types.specs.Rules.{◌>>=◌, only_if, int, bit, ty_eq, is_fit, fits, fit_of, is_bits, is_reference, element_of, count_of, is_bit_array, firm_if, operator_of, unary_of, class_of, operand, loose_takes, result_of, shifted, flipped, number_takes, element_takes, number_fits, number_stands, in_range, hole_takes, width_fits}
+use Rattle.sk_types.specs.Rules.{◌>>=◌, only_if, int, bit, is_fit, fits, fit_of, is_bits, is_reference, element_of, count_of, is_bit_array, firm_if, operator_of, unary_of, operand, loose_takes, result_of, shifted, flipped, number_takes, element_takes, number_fits, number_stands, in_range, hole_takes, width_fits}
 use Rattle.sk_types.specs.Scope.{lookup, Signature, Top, Context, Meaning, AVariable, AStruct, AConstant, AFunction, Nothing, variable_or, struct_or, constant_or, function_or, next_place, place_of, top_meaning, meaning_of, field_of, all_distinct}
 use Rattle.sk_types.specs.Constants.{constant_number}
-use Rattle.sk_types.specs.Sorts.{Sort, firm, wrong, loose, named, struct_meant, variable_type, is_some_type, reference_to, reference_meant, field_type, any_at, firm_of, binary_sort, any_binary, logic, shift_by, flip_at, unary_sort, any_unary, braces_at, may_keep, keeps, keeps_any, sorts, array_meant, sliced, at_own, own_at, slice_of, argument_fits, arguments_fit, is_harness, call_sort, signature_meant, new_fits, new_sort, member_of, eform_sort, sort, own, kept}
+use Rattle.sk_types.specs.Sorts.{Sort, wrong, named, struct_meant, variable_type, is_some_type, reference_to, reference_meant, field_type, any_at, firm_of, any_binary, shift_by, flip_at, any_unary, braces_at, may_keep, keeps, keeps_any, sorts, array_meant, sliced, at_own, slice_of, argument_fits, arguments_fit, is_harness, call_sort, signature_meant, new_sort, member_of, eform_sort, sort, own}
 use Rattle.sk_types.specs.Sorts.{binary_at as sorts_at}
 use Rattle.sk_types.proofs.SortLaws.{form_sort, field_sort, form_sort_is, sort_is}
 use Rattle.sk_check.specs.declared.found.Found.{Found}
 use Rattle.sk_check.specs.declared.found.View.{View}
 use Rattle.sk_check.specs.declared.found.Wants.{Wants}
-use Rattle.sk_check.specs.declared.found.Called.{Called}
-use Rattle.sk_check.specs.Elaborate.{At, FormAt, typed, coerced, firm_at, firm_any, number_at, named_at, all_at, element_wanted, Item, string_at, with_string, strings_at, pattern_at, Argument, may_pass, argument_at, arguments_at, Setting, field_found, setting_at, settings_at, Callee, callable, callee_meant, called, call_at, record_form, record_in, record_at, member_found, member_in, member_at, viewed, indexed, index_at, cut, slice_at, flip_wants, unary_wants, unary_at, operands_want, shift_wants, binary_wants, binary_at, cond_at, paren_at, item_of, argument_of, setting_of, at_of, eform_at, form_at, at, field_at}
+use Rattle.sk_check.specs.Elaborate.{At, FormAt, typed, coerced, firm_at, named_at, all_at, string_at, with_string, strings_at, pattern_at, argument_at, arguments_at, Setting, field_found, setting_at, settings_at, callable, callee_meant, called, call_at, record_form, record_at, member_found, member_at, viewed, index_at, slice_at, flip_wants, unary_at, operands_want, shift_wants, binary_at, item_of, argument_of, setting_of, at_of, eform_at, form_at, at, field_at}
 use Rattle.sk_check.proofs.Ats.{ty_same, fit_same, expr_law, form_at_is, at_is, field_at_is}
 
 abbrev pub is_some : {A : Type 0} → Option A → Bool

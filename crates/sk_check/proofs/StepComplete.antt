@@ -1,6 +1,6 @@
 -- What statements mean is what they become.
-use Rattle.std.proofs.Common.{◌≡◌, ◌≤◌, ℕ, Bool, true, false, List, [], ◌∷◌, ◌++◌, length, take, Option, Some, None, refl, sym, ap, subst, ◌∙◌, inl, inr}
-use Rattle.std.specs.Prelude.{ℤ, ◌&&◌, map, nat_le, if◌then◌else◌, IsTrue}
+use Rattle.std.proofs.Common.{◌≡◌, ◌≤◌, ℕ, true, List, [], ◌∷◌, ◌++◌, length, Option, Some, None, refl, sym, ap, subst, ◌∙◌, inl, inr}
+use Rattle.std.specs.Prelude.{ℤ, map, nat_le, IsTrue}
 use Rattle.std.proofs.lemmas.Bool.{le-leb}
 use Rattle.sk_tree.specs.declared.expr.Expr.{Expr}
 use Rattle.sk_tree.specs.declared.expr.EForm.{EForm}
@@ -27,16 +27,15 @@ use Rattle.sk_prog.specs.declared.stmt.PForm.TheViews.{roll-PForm}
 use Rattle.sk_prog.specs.declared.stmt.PForm.TheFolds.{map-PForm}
 use Rattle.sk_types.specs.declared.scope.Variable.{Variable}
 use Rattle.sk_types.specs.Rules.{◌>>=◌, only_if, int, bit}
-use Rattle.sk_types.specs.Scope.{lookup, is_taken, Context, meaning_of}
+use Rattle.sk_types.specs.Scope.{Context}
 use Rattle.sk_types.specs.Constants.{eform_number, whole_number, natural, constant_number}
-use Rattle.sk_types.specs.Sorts.{eform_target, target_type, first_target, kept_targets, written_type}
-use Rattle.sk_types.specs.Types.{Grows, form_after, after, EachMeans, Means, IsAt, AnyAt, IsTarget, IsPlace, IsTargetPattern, FormRule, StmtRule, BlockMeans, AnyMeans, OneMeans, may_reorder, CountMeans, ReturnMeans, MeansDeclare, MeansAssign, form_means, stmt_means, StmtMeans}
+use Rattle.sk_types.specs.Sorts.{eform_target, target_type, first_target, kept_targets}
+use Rattle.sk_types.specs.Types.{Grows, form_after, after, EachMeans, Means, IsAt, AnyAt, IsTarget, FormRule, StmtRule, BlockMeans, AnyMeans, may_reorder, CountMeans, ReturnMeans, MeansDeclare, MeansAssign, StmtMeans}
 use Rattle.sk_types.proofs.Layers.{ActMeans, act_rule, act_means_are, stmt_means_is}
 use Rattle.sk_check.specs.Envs.{AreDistinct}
 use Rattle.sk_check.specs.Elaborate.{typed, all_at}
-use Rattle.sk_check.specs.Parts.{part, ats}
-use Rattle.sk_check.specs.Making.{Made, makes, Maker, value_at, any_value_at, pattern_target, form_target, target_in, target_at, call_of, form_count, count_at, declare, assign_to, returned, inside, any_inside, in_order, block, reordered, form_made, make_form, make, make_all}
-use Rattle.sk_check.proofs.Ats.{bind_some, some_same}
+use Rattle.sk_check.specs.Parts.{ats}
+use Rattle.sk_check.specs.Making.{Made, makes, value_at, any_value_at, pattern_target, form_target, target_in, target_at, form_count, count_at, declare, assign_to, returned, inside, in_order, block, form_made, make_form, make, make_all}
 use Rattle.sk_check.proofs.Views.{strings_of}
 use Rattle.sk_check.proofs.Exact.{is_at}
 use Rattle.sk_check.proofs.Scopes.{pstmt_law, after_form, after_form_is, after_is, after_all, left_of, left_of_all}

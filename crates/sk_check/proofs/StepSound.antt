@@ -1,8 +1,7 @@
 -- What statements become is what they mean.
-use Rattle.std.proofs.Common.{◌≡◌, ◌≤◌, ℕ, Bool, true, false, List, [], ◌∷◌, ◌++◌, length, take, Option, Some, None, refl, sym, ap, subst, ◌∙◌, inl, inr}
-use Rattle.std.specs.Prelude.{◌&&◌, map, nat_le, if◌then◌else◌, IsTrue}
+use Rattle.std.proofs.Common.{◌≡◌, ℕ, Bool, true, false, List, [], ◌∷◌, ◌++◌, length, take, Option, Some, None, refl, sym, ap, subst, ◌∙◌, inl, inr}
+use Rattle.std.specs.Prelude.{map, nat_le, if◌then◌else◌, IsTrue}
 use Rattle.std.proofs.lemmas.Bool.{leb-true}
-use Rattle.sk_base.specs.declared.span.Span.{Span}
 use Rattle.sk_tree.specs.declared.pattern.Pattern.{Pattern}
 use Rattle.sk_tree.specs.declared.expr.Expr.{Expr}
 use Rattle.sk_tree.specs.declared.expr.EForm.{EForm}
@@ -18,7 +17,6 @@ use Rattle.sk_tree.specs.declared.item.TyTree.{TyTree}
 use Rattle.sk_prog.specs.declared.ty.Ty.{Ty}
 use Rattle.sk_prog.specs.declared.expr.PExpr.{PExpr}
 use Rattle.sk_prog.specs.declared.expr.PEForm.TheVariants as pform
-use Rattle.sk_prog.specs.declared.expr.PEForm.TheOpen as P
 use Rattle.sk_prog.specs.declared.stmt.PStmt.{PStmt}
 use Rattle.sk_prog.specs.declared.stmt.PForm.{PForm}
 use Rattle.sk_prog.specs.declared.stmt.PForm.TheVariants as act
@@ -27,14 +25,14 @@ use Rattle.sk_prog.specs.declared.stmt.PForm.TheViews.{roll-PForm}
 use Rattle.sk_prog.specs.declared.stmt.PForm.TheFolds.{map-PForm}
 use Rattle.sk_types.specs.declared.scope.Variable.{Variable}
 use Rattle.sk_types.specs.Rules.{◌>>=◌, only_if, int, bit}
-use Rattle.sk_types.specs.Scope.{lookup, is_taken, Context, meaning_of}
+use Rattle.sk_types.specs.Scope.{lookup, is_taken, Context}
 use Rattle.sk_types.specs.Constants.{constant_number}
 use Rattle.sk_types.specs.Sorts.{target_type, first_target, kept_targets, written_type}
-use Rattle.sk_types.specs.Types.{Grows, form_after, after, EachMeans, Means, IsAt, AnyAt, IsTarget, FormRule, StmtRule, BlockMeans, AnyMeans, OneMeans, may_reorder, CountMeans, ReturnMeans, form_means, stmt_means, StmtMeans}
+use Rattle.sk_types.specs.Types.{Grows, form_after, after, EachMeans, Means, IsAt, AnyAt, IsTarget, FormRule, StmtRule, BlockMeans, AnyMeans, may_reorder, CountMeans, ReturnMeans, StmtMeans}
 use Rattle.sk_types.proofs.Layers.{ActMeans, act_rule, act_means_are, stmt_means_is}
 use Rattle.sk_check.specs.Elaborate.{typed, all_at}
 use Rattle.sk_check.specs.Parts.{part, ats}
-use Rattle.sk_check.specs.Making.{Made, makes, Maker, value_at, any_value_at, pattern_target, strings_in, form_target, target_in, target_at, call_of, form_count, count_at, declare, declare_one, assign_to, returned, inside, any_inside, in_order, block, reordered, form_made, stmt_made, make_form, make, make_all}
+use Rattle.sk_check.specs.Making.{Made, makes, Maker, value_at, any_value_at, pattern_target, strings_in, form_target, target_in, target_at, call_of, form_count, count_at, declare_one, assign_to, returned, inside, any_inside, in_order, block, form_made, stmt_made, make_form, make, make_all}
 use Rattle.sk_check.proofs.Ats.{bind_some, some_same, if_some}
 use Rattle.sk_check.proofs.Views.{strings_found}
 use Rattle.sk_check.proofs.Exact.{found}

@@ -1,5 +1,5 @@
 -- Patterns and calls, looked into.
-use Rattle.std.proofs.Common.{◌≡◌, ℕ, List, [], ◌∷◌, Option, Some, None, refl, sym, ap, ◌∙◌}
+use Rattle.std.proofs.Common.{◌≡◌, ℕ, List, [], ◌∷◌, Option, Some, refl, sym, ap, ◌∙◌}
 use Rattle.std.specs.Prelude.{map}
 use Rattle.sk_tree.specs.declared.pattern.Pattern.{Pattern}
 use Rattle.sk_tree.specs.declared.expr.Expr.{Expr}
@@ -7,7 +7,7 @@ use Rattle.sk_tree.specs.declared.expr.EForm.{EForm}
 use Rattle.sk_tree.specs.declared.expr.EForm.TheVariants as eform
 use Rattle.sk_tree.specs.declared.expr.EForm.TheOpen as E
 use Rattle.sk_tree.specs.declared.expr.EForm.TheViews.{roll-EForm}
-use Rattle.sk_tree.specs.declared.expr.EForm.TheFolds.{map-EForm, para-EForm, para-Expr, para-NewField, para-roll-EForm}
+use Rattle.sk_tree.specs.declared.expr.EForm.TheFolds.{map-EForm, para-Expr, para-NewField, para-roll-EForm}
 use Rattle.sk_tree.specs.declared.expr.NewField.{NewField}
 use Rattle.sk_check.specs.Making.{eform_strings, strings_in, CallIn, eform_call_in, call_in}
 use Rattle.sk_check.proofs.Ats.{some_same, expr_law}

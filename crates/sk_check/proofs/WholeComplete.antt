@@ -1,6 +1,6 @@
 -- What a whole tree means is what it becomes.
-use Rattle.std.proofs.Common.{◌≡◌, ℕ, zero, suc, Bool, true, false, List, [], ◌∷◌, ◌++◌, length, Option, Some, None, refl, sym, ap, subst, ◌∙◌}
-use Rattle.std.specs.Prelude.{pos, ◌&&◌, map, if◌then◌else◌, IsTrue, slice_get}
+use Rattle.std.proofs.Common.{◌≡◌, ℕ, zero, suc, Bool, true, List, [], ◌∷◌, ◌++◌, Option, Some, None, refl, sym, ap, subst, ◌∙◌}
+use Rattle.std.specs.Prelude.{map, IsTrue, slice_get}
 use Rattle.sk_base.specs.declared.bounds.Bounds.{Bounds}
 use Rattle.sk_tree.specs.declared.expr.Expr.{Expr}
 use Rattle.sk_tree.specs.declared.item.TyTree.{TyTree}
@@ -18,18 +18,16 @@ use Rattle.sk_prog.specs.declared.prog.ConstDef.{ConstDef}
 use Rattle.sk_prog.specs.declared.prog.ParamDef.{ParamDef}
 use Rattle.sk_prog.specs.declared.prog.Fun.{Fun}
 use Rattle.sk_prog.specs.declared.prog.Prog.{Prog}
-use Rattle.sk_types.specs.Rules.{◌>>=◌, only_if, int}
-use Rattle.sk_types.specs.Scope.{Known, Signature, signature_of, Top, top_of, top_names, Context, AFunction, meaning_of, all_distinct}
-use Rattle.sk_types.specs.Constants.{constant_number}
-use Rattle.sk_types.specs.Sorts.{written_type, signature_meant}
-use Rattle.sk_types.specs.Plain.{plain, steps_are_targets}
-use Rattle.sk_types.specs.Types.{ParamsMean, parameters, kind_of, ResultMeans, may_be, may_implement, ImplementsMeans, FunMeans, StructFieldsMean, StructMeans, ConstMeans, ItemsMean, most, has_generator, names_free, Types}
+use Rattle.sk_types.specs.Rules.{only_if, int}
+use Rattle.sk_types.specs.Scope.{Known, Signature, signature_of, Top, top_of, top_names, Context, all_distinct}
+use Rattle.sk_types.specs.Plain.{plain}
+use Rattle.sk_types.specs.Types.{ParamsMean, parameters, kind_of, ResultMeans, may_be, ImplementsMeans, FunMeans, StructFieldsMean, StructMeans, ConstMeans, ItemsMean, Types}
 use Rattle.sk_check.specs.Envs.{AreDistinct}
-use Rattle.sk_check.specs.Making.{Made, value_at, make_all}
-use Rattle.sk_check.specs.Whole.{with_struct, with_const, with_fun, named_top, any_written, fields_of, params_of, struct_of, heading_of, context_in, typed_top, const_of, function_meant, implemented, implements_of, fun_of, Bodies, bodies_of, may_keep_names, prog_in, items_of, prog_of}
-use Rattle.sk_check.proofs.Ats.{both}
-use Rattle.sk_check.proofs.WholeNames.{SameNames, names_same}
-use Rattle.sk_check.proofs.WholeSound.{typed_same, typed_names}
+use Rattle.sk_check.specs.Whole.{named_top, any_written, fields_of, params_of, struct_of, heading_of, context_in, typed_top, const_of, implements_of, fun_of, bodies_of, prog_of}
+use Rattle.sk_check.proofs.Ats.{some_same}
+use Rattle.sk_check.proofs.WholeNames.{names_same}
+use Rattle.sk_check.specs.LawNames.{Whole, Once}
+use Rattle.sk_check.proofs.WholeSound.{typed_same, typed_names, prog_sound}
 use Rattle.sk_check.proofs.StepComplete.{value_complete, all_complete}
 
 only_is : {A : Type 0} (b : Bool) (x : A) → b ≡ true → only_if b x ≡ Some x
@@ -136,3 +134,9 @@ prog_complete bounds tree prog m =
     let named : typed_top bounds (named_top is) [] is ≡ Some top = sym (typed_same bounds top (named_top is) names [] is) ∙ typed in
     let distinct : all_distinct (top_names (named_top is)) ≡ true = ap all_distinct (sym (names_same top (named_top is) names)) ∙ m.distinct in
     rw (m.steps, distinct, named, bodies_are bounds top good [] is prog.structs prog.consts prog.funs m.items, m.kept) refl
+
+pub whole : Whole
+whole bounds tree prog = (prog_sound bounds tree prog, prog_complete bounds tree prog)
+
+pub once : Once
+once bounds tree p q h k = some_same p q (sym (prog_complete bounds tree p h) ∙ prog_complete bounds tree q k)

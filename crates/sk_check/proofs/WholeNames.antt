@@ -1,5 +1,5 @@
 -- Types that are written depend on the names at the top alone.
-use Rattle.std.proofs.Common.{◌≡◌, ℕ, Bool, true, false, List, [], ◌∷◌, ◌++◌, Option, Some, None, refl, sym, ap, subst, ◌∙◌}
+use Rattle.std.proofs.Common.{◌≡◌, ℕ, List, [], ◌∷◌, ◌++◌, Option, Some, None, refl, ap, ◌∙◌}
 use Rattle.std.specs.Prelude.{ℤ, map}
 use Rattle.sk_base.specs.declared.bounds.Bounds.{Bounds}
 use Rattle.sk_tree.specs.declared.expr.Expr.{Expr}
@@ -8,16 +8,12 @@ use Rattle.sk_tree.specs.declared.expr.EForm.TheFolds.{fold-Expr}
 use Rattle.sk_tree.specs.declared.item.Base.{Base}
 use Rattle.sk_tree.specs.declared.item.Base.TheVariants as base
 use Rattle.sk_tree.specs.declared.item.TyTree.{TyTree}
-use Rattle.sk_tree.specs.declared.item.Field.{Field}
-use Rattle.sk_tree.specs.declared.item.Param.{Param}
-use Rattle.sk_tree.specs.declared.item.FunItem.{FunItem}
 use Rattle.sk_prog.specs.declared.ty.Elem.{Elem}
 use Rattle.sk_prog.specs.declared.ty.Elem.TheVariants as elem
 use Rattle.sk_prog.specs.declared.prog.StructDef.{StructDef}
-use Rattle.sk_types.specs.declared.scope.Variable.{Variable}
 use Rattle.sk_types.specs.Rules.{◌>>=◌}
 use Rattle.sk_types.specs.Scope.{Known, Signature, Top, Context, struct_or, constant_or, function_or, place_of, top_meaning, top_names}
-use Rattle.sk_types.specs.Constants.{eform_number, whole_number, natural, constant_number}
+use Rattle.sk_types.specs.Constants.{eform_number, natural, constant_number}
 use Rattle.sk_types.specs.Sorts.{base_elem, with_lengths, written_type, struct_meant}
 use Rattle.sk_check.specs.Whole.{context_in}
 

@@ -1,6 +1,6 @@
 -- What a whole tree becomes is what it means.
-use Rattle.std.proofs.Common.{◌≡◌, ℕ, zero, suc, Bool, true, false, List, [], ◌∷◌, ◌++◌, length, Option, Some, None, refl, sym, ap, subst, ◌∙◌}
-use Rattle.std.specs.Prelude.{pos, not, ◌&&◌, ◌||◌, map, if◌then◌else◌, IsTrue, slice_get}
+use Rattle.std.proofs.Common.{◌≡◌, ℕ, Bool, true, false, List, [], ◌∷◌, ◌++◌, Option, Some, None, refl, sym, ap, subst, ◌∙◌}
+use Rattle.std.specs.Prelude.{◌&&◌, map, IsTrue, slice_get}
 use Rattle.sk_base.specs.declared.bounds.Bounds.{Bounds}
 use Rattle.sk_tree.specs.declared.expr.Expr.{Expr}
 use Rattle.sk_tree.specs.declared.item.TyTree.{TyTree}
@@ -12,23 +12,20 @@ use Rattle.sk_tree.specs.declared.item.Item.TheVariants as item
 use Rattle.sk_tree.specs.declared.item.Tree.{Tree}
 use Rattle.sk_prog.specs.declared.ty.Ty.{Ty}
 use Rattle.sk_prog.specs.declared.ids.FunId.{FunId}
-use Rattle.sk_prog.specs.declared.expr.PExpr.{PExpr}
-use Rattle.sk_prog.specs.declared.stmt.PStmt.{PStmt}
 use Rattle.sk_prog.specs.declared.prog.FieldDef.{FieldDef}
 use Rattle.sk_prog.specs.declared.prog.StructDef.{StructDef}
 use Rattle.sk_prog.specs.declared.prog.ConstDef.{ConstDef}
 use Rattle.sk_prog.specs.declared.prog.ParamDef.{ParamDef}
 use Rattle.sk_prog.specs.declared.prog.Fun.{Fun}
 use Rattle.sk_prog.specs.declared.prog.Prog.{Prog}
-use Rattle.sk_types.specs.declared.scope.Variable.{Variable}
 use Rattle.sk_types.specs.Rules.{◌>>=◌, only_if, int}
 use Rattle.sk_types.specs.Scope.{Known, Signature, signature_of, Top, top_of, top_names, Context, Meaning, AVariable, AStruct, AConstant, AFunction, Nothing, meaning_of, all_distinct}
 use Rattle.sk_types.specs.Constants.{constant_number}
-use Rattle.sk_types.specs.Sorts.{written_type, signature_meant}
+use Rattle.sk_types.specs.Sorts.{written_type}
 use Rattle.sk_types.specs.Plain.{plain, steps_are_targets}
-use Rattle.sk_types.specs.Types.{IsAt, ParamMeans, ParamsMean, parameters, kind_of, ResultMeans, may_be, may_implement, ImplementsMeans, FunMeans, StructFieldsMean, StructMeans, ConstMeans, ItemsMean, most, has_generator, names_free, Types}
-use Rattle.sk_check.specs.Making.{Made, value_at, make_all}
-use Rattle.sk_check.specs.Whole.{no_top, with_struct, with_const, with_fun, named_top, any_written, fields_of, params_of, struct_of, heading_of, context_in, typed_top, const_of, function_meant, implemented, implements_of, fun_of, Bodies, bodies_of, may_keep_names, prog_in, items_of, prog_of}
+use Rattle.sk_types.specs.Types.{ParamsMean, parameters, kind_of, ResultMeans, may_be, may_implement, ImplementsMeans, FunMeans, StructFieldsMean, StructMeans, ConstMeans, ItemsMean, Types}
+use Rattle.sk_check.specs.Making.{value_at, make_all}
+use Rattle.sk_check.specs.Whole.{no_top, with_struct, with_const, with_fun, named_top, any_written, fields_of, params_of, struct_of, heading_of, context_in, typed_top, const_of, function_meant, implemented, implements_of, fun_of, Bodies, bodies_of, prog_of}
 use Rattle.sk_check.proofs.Ats.{bind_some, some_same, if_some, both_true}
 use Rattle.sk_check.proofs.WholeNames.{SameNames, names_same, number_same, written_same}
 use Rattle.sk_check.proofs.StepSound.{value_sound, all_sound}

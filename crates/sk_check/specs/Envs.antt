@@ -1,5 +1,5 @@
 -- How the code sees what an expression is typed by.
-use Rattle.std.specs.Prelude.{◌≡◌, IsTrue, slice_get, ◌≤◌, ◌<◌, ◌^◌, ℕ, length, List, [], ◌∷◌, map, Option, Some, None}
+use Rattle.std.specs.Prelude.{◌≡◌, IsTrue, slice_get, ◌≤◌, ◌<◌, ◌^◌, ℕ, length, map, Some}
 use Rattle.sk_prog.specs.declared.prog.FieldDef.{FieldDef}
 use Rattle.sk_prog.specs.declared.prog.StructDef.{StructDef}
 use Rattle.sk_types.specs.Scope.{all_distinct, Signature, Top, Known, Context, Meaning, AVariable, AStruct, AConstant, AFunction, Nothing}

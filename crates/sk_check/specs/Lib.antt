@@ -9,3 +9,4 @@ pub mod Targets
 pub mod Leaves
 pub mod Whole
 pub mod Rooms
+pub mod LawNames

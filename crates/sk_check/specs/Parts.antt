@@ -1,7 +1,6 @@
 -- What a tree is where variables are in scope, as one fold: its own type, what it becomes at each type, the type of the
 -- variable that it names, and its whole number where it is constant.
 use Rattle.std.specs.Prelude.{ℕ, ℤ, pos, List, map, length, Option, Some, None}
-use Rattle.sk_base.specs.declared.span.Span.{Span}
 use Rattle.sk_tree.specs.declared.expr.Expr.{Expr}
 use Rattle.sk_tree.specs.declared.expr.EForm.{EForm}
 use Rattle.sk_tree.specs.declared.expr.EForm.TheOpen as E
@@ -16,7 +15,7 @@ use Rattle.sk_types.specs.declared.rules.Own.{Own}
 use Rattle.sk_types.specs.declared.rules.Own.TheVariants.{Wrong, Loose, Firm}
 use Rattle.sk_types.specs.declared.scope.Variable.{Variable}
 use Rattle.sk_types.specs.declared.scope.Place.{Place}
-use Rattle.sk_types.specs.Rules.{◌>>=◌, only_if, bit, element_of, operator_of, unary_of, operation_own, unary_own, choice, number_own, in_range}
+use Rattle.sk_types.specs.Rules.{◌>>=◌, only_if, bit, operator_of, unary_of, operation_own, unary_own, choice, number_own, in_range}
 use Rattle.sk_types.specs.Scope.{lookup, Context, meaning_of}
 use Rattle.sk_types.specs.Constants.{number_named, computed, natural}
 use Rattle.sk_types.specs.Sorts.{named, struct_meant, reference_to, reference_meant, member_of, array_meant, slice_of}

@@ -1,6 +1,6 @@
 -- What a whole tree becomes, as a function: what stands at its top, from the names alone; then the types of fields and
 -- signatures; then values and bodies.
-use Rattle.std.specs.Prelude.{ℕ, ℤ, pos, Bool, true, false, not, ◌&&◌, ◌||◌, if◌then◌else◌, List, [], ◌∷◌, ◌++◌, map, length, Option, Some, None}
+use Rattle.std.specs.Prelude.{ℕ, pos, not, ◌&&◌, ◌||◌, if◌then◌else◌, List, [], ◌∷◌, ◌++◌, map, length, Option, Some, None}
 use Rattle.sk_base.specs.declared.bounds.Bounds.{Bounds}
 use Rattle.sk_tree.specs.declared.expr.Expr.{Expr}
 use Rattle.sk_tree.specs.declared.item.TyTree.{TyTree}
@@ -12,7 +12,6 @@ use Rattle.sk_tree.specs.declared.item.Item.TheVariants as item
 use Rattle.sk_tree.specs.declared.item.Tree.{Tree}
 use Rattle.sk_prog.specs.declared.ty.Ty.{Ty}
 use Rattle.sk_prog.specs.declared.ids.FunId.{FunId}
-use Rattle.sk_prog.specs.declared.expr.PExpr.{PExpr}
 use Rattle.sk_prog.specs.declared.stmt.PStmt.{PStmt}
 use Rattle.sk_prog.specs.declared.prog.FieldDef.{FieldDef}
 use Rattle.sk_prog.specs.declared.prog.StructDef.{StructDef}

@@ -467,7 +467,7 @@ impl Env<'_> {
 
     /// What an expression means where a type is wanted: that and nothing else, and a fault exactly where it means
     /// nothing there.
-    #[tactic(auto, using(crate::proofs::Exact::found, crate::proofs::Exact::once, crate::proofs::Exact::none))]
+    #[tactic(auto, using(crate::proofs::Exact::none))]
     pub fn typed(&self, scope: &[Variable], ty: Ty, e: &Expr) -> Result<PExpr, Typing>
         requires env { IsEnv self.now }
         requires distinct { AreDistinct (top_seen self.now) }

@@ -9,6 +9,7 @@ mod fault;
 mod found;
 mod free;
 mod items;
+pub mod laws;
 mod number;
 mod own;
 mod plainer;
