@@ -12,7 +12,7 @@ use Rattle.sk_dag.specs.Eval.{bool_value}
 use Rattle.sk_dag.proofs.EvalLemmas.{bool_value-grows}
 use Rattle.sk_gates.specs.declared.bit.Bit.{Bit}
 use Rattle.sk_gates.specs.Bits.{bit_true}
-use Rattle.sk_gates.specs.Extension.{AgreeBelow, Adds}
+use Rattle.sk_gates.specs.Extension.{AgreeBelow, Adds, Continues}
 use Rattle.sk_gates.proofs.ExtensionLaws.{Meets-append, Meets-left, Meets-right, Meets-same, AreWithin-later}
 use Rattle.sk_cnf.specs.declared.leaf.Leaf.{Leaf}
 use Rattle.sk_cnf.specs.declared.growing.Encoded.{Encoded}
@@ -136,3 +136,24 @@ IsEncoding-grows {f} {leaves} {g} {g'} {roots} grows there h = record {
       (λ k. s.0 (x.0 k), λ t. x.1 (s.1 t));
   tight = h.tight;
 }
+
+-- ---- formulas that hold more than they say
+
+pub Encodes-continues : (f f' : Encoded) (count : ℕ) (Holds : List Bool → Type 0) → Encodes f count Holds → AreWithin f.clauses.vars f.clauses.clauses → f'.names ≡ f.names → Continues f.clauses f'.clauses → Encodes f' count Holds
+Encodes-continues f f' count Holds h within names more = record {
+  named = ap length names ∙ h.named;
+  within = subst (All (λ y. y < f'.clauses.vars)) (sym names) (All-weaker (λ y. y < f.clauses.vars) (λ y. y < f'.clauses.vars) (λ y l. omega (arith, l, more.vars)) f.names h.within);
+  distinct = λ i j x p q. h.distinct i j x (ap (λ l. slice_get l i) (sym names) ∙ p) (ap (λ l. slice_get l j) (sym names) ∙ q);
+  exact = λ bits long. let x = h.exact bits long in (λ e. x.0 (back bits e), λ t. forth bits (x.1 t));
+}
+  where
+    back : (bits : List Bool) → Extends f' bits → Extends f bits
+    back bits e = (e.0, ap (map e.0) (sym names) ∙ e.1, Meets-left e.0 f.clauses.clauses more.added (subst (Meets e.0) more.clauses e.2))
+
+    forth : (bits : List Bool) → Extends f bits → Extends f' bits
+    forth bits e =
+        let u = more.total e.0 in (
+          u.0,
+          ap (map u.0) names ∙ sym (names-same f.clauses.vars e.0 u.0 f.names u.1 h.within) ∙ e.1,
+          subst (Meets u.0) (sym more.clauses) (Meets-append u.0 f.clauses.clauses more.added (Meets-same f.clauses.vars e.0 u.0 f.clauses.clauses u.1 within e.2) u.2),
+        )

@@ -8,7 +8,8 @@ ghost use Rattle.sk_dag.specs.Reach.{IsClosed, IsMarked};
 ghost use Rattle.sk_gates.specs.Bits.{reach};
 ghost use Rattle.sk_gates.specs.Extension.{Continues};
 ghost use Rattle.sk_cnf.specs.Codes.{TableFits, IsLonger};
-ghost use Rattle.sk_cnf.specs.Formula.{AreLeaves, IsAbsent, IsEncoding};
+ghost use Rattle.sk_cnf.specs.Formula.{AreLeaves, AreTrue, Encodes, IsAbsent, IsEncoding};
+ghost use Rattle.sk_cnf.specs.Leaves.{leaf_env};
 ghost use Rattle.sk_cnf.specs.Standing.{Covers, Demands, IsCoded, IsNamed, Stands};
 
 use crate::code::{Code, code_at, truth_of};
@@ -188,13 +189,16 @@ impl Growing {
     /// Adds that a root of the graph is true. The graph has all nodes that it had at the calls before, maybe with others
     /// behind them, and the same width. Names and clauses stay, and new clauses stand behind the old ones.
     ///
-    /// After a refusal the formula may lack what it stands for: it is not to be used again.
+    /// After a refusal the formula may hold further variables and clauses that leave the meaning of its names as it was,
+    /// and it need not be tight.
     pub fn require(&mut self, dag: &Dag, root: BoolId) -> Result<(), AllocError>
         requires root { HasBool dag.now.nodes root }
         requires begun { (g : Graph) × (roots : List BoolIdOf) × Stands self.old g roots × Grows g dag.now }
         ensures stands { (g : Graph) (roots : List BoolIdOf) → Stands self.old g roots → Grows g dag.now → OnOk result (Stands self.new dag.now (roots ++ root ∷ [])) }
         ensures leaves { self.new.leaves ≡ self.old.leaves }
         ensures names { self.new.encoded.names ≡ self.old.encoded.names }
+        ensures refused { (g : Graph) (roots : List BoolIdOf) → Stands self.old g roots → OnErr result
+            (Encodes self.new.encoded (length self.old.leaves.keys) (λ bits. AreTrue g roots (leaf_env self.old.leaves.keys bits))) }
         ensures behind { Continues self.old.encoded.clauses self.new.encoded.clauses }
     {
         let marks = dag.reached(&[root])?;

@@ -2,8 +2,8 @@
 use Rattle.std.proofs.Common.{◌≡◌, inl, inr, ⊎_elim, ℕ, ◌+◌, ◌<◌, ◌≤◌, Bool, true, false, not, ◌&&◌, List, [], ◌∷◌, ◌++◌, refl, sym, ap, subst, ◌∙◌, arith, if◌then◌else◌, eqb, true≢false}
 use Rattle.std.proofs.lemmas.Bool.{cases_lt}
 use Rattle.std.proofs.lemmas.Bool.Decides.{nat_tests}
-use Rattle.std.proofs.lemmas.List.{append_assoc}
-use Rattle.std.proofs.lemmas.List.Elements.{All-nil, All-head, All-tail, All-append, All-weaker, Contains-append_left, Contains-append_right, Contains-append_cases, Contains-push_cases}
+use Rattle.std.proofs.lemmas.List.{append_assoc, append_cancel_left}
+use Rattle.std.proofs.lemmas.List.Elements.{All-nil, All-cons, All-head, All-tail, All-append, All-weaker, Contains-append_left, Contains-append_right, Contains-append_cases, Contains-push_cases}
 use Rattle.std.specs.List.{list_all}
 use Rattle.sk_clause.specs.declared.lit.Lit.{Lit}
 use Rattle.sk_clause.specs.Meaning.{lit_true, clause_true, Meets}
@@ -64,7 +64,13 @@ pub AreWithin-later : (m n : ℕ) (cs : List (List Lit)) → m ≤ n → AreWith
 AreWithin-later m n cs h w = All-weaker (IsWithin m) (IsWithin n) (λ c k. All-weaker (λ l. l.var < m) (λ l. l.var < n) (λ l j. omega arith) c k) cs w
 
 pub Continues-refl : (a : Problem) → Continues a a
-Continues-refl a = record { vars = omega arith; added = []; clauses = sym (Rattle.std.proofs.lemmas.List.append-nil a.clauses) }
+Continues-refl a = record {
+  vars = omega arith;
+  added = [];
+  clauses = sym (Rattle.std.proofs.lemmas.List.append-nil a.clauses);
+  within = All-nil (IsWithin a.vars);
+  total = λ v. (v, record { same = λ i l. refl }, Meets-nil v);
+}
 
 pub Continues-same : {a b : Problem} → b ≡ a → Continues a b
 Continues-same {a} {b} e = subst (λ x. Continues a x) (sym e) (Continues-refl a)
@@ -74,10 +80,35 @@ Continues-trans {a} {b} {c} h k = record {
   vars = omega (arith, h.vars, k.vars);
   added = h.added ++ k.added;
   clauses = k.clauses ∙ ap (λ x. x ++ k.added) h.clauses ∙ append_assoc a.clauses h.added k.added;
+  within = All-append (IsWithin c.vars) h.added k.added (AreWithin-later b.vars c.vars h.added k.vars h.within) k.within;
+  total = λ v.
+      let u = h.total v in
+      let w = k.total u.0 in
+      (w.0, record { same = λ i l. u.1.same i l ∙ w.1.same i (omega (arith, h.vars)) }, Meets-append w.0 h.added k.added (Meets-same b.vars u.0 w.0 h.added w.1 h.within u.2) w.2);
 }
 
 pub Continues-adds : {a b : Problem} {P : (ℕ → Bool) → Type 0} → Adds a b P → Continues a b
-Continues-adds h = record { vars = h.vars; added = h.added; clauses = h.clauses }
+Continues-adds h = record { vars = h.vars; added = h.added; clauses = h.clauses; within = h.within; total = h.total }
+
+-- the first of the clauses that would be added
+pub Continues-part : {old new whole : Problem} {P : (ℕ → Bool) → Type 0} (front back : List (List Lit)) → Adds old whole P → whole.vars ≡ new.vars → whole.clauses ≡ old.clauses ++ (front ++ back) → new.clauses ≡ old.clauses ++ front → Continues old new
+Continues-part {old} {new} {whole} front back h vars all some = record {
+  vars = omega (arith, h.vars, vars);
+  added = front;
+  clauses = some;
+  within = All-left (subst (AreWithin new.vars) same (subst (λ n. AreWithin n h.added) vars h.within));
+  total = λ v. let u = h.total v in (u.0, u.1, Meets-left u.0 front back (subst (Meets u.0) same u.2));
+}
+  where
+    same : h.added ≡ front ++ back
+    same = append_cancel_left old.clauses h.added (front ++ back) (sym h.clauses ∙ all)
+
+    All-left : AreWithin new.vars (front ++ back) → AreWithin new.vars front
+    All-left w = front_all front w
+      where
+        front_all : (cs : List (List Lit)) → AreWithin new.vars (cs ++ back) → AreWithin new.vars cs
+        front_all [] k = All-nil (IsWithin new.vars)
+        front_all (c ∷ cs) k = All-cons (IsWithin new.vars) c cs (All-head (IsWithin new.vars) c (cs ++ back) k) (front_all cs (All-tail (IsWithin new.vars) c (cs ++ back) k))
 
 -- nothing is added
 pub Adds-none : (a : Problem) (P : (ℕ → Bool) → Type 0) → ((v : ℕ → Bool) → P v) → Adds a a P

@@ -5,9 +5,9 @@ use Rattle.std.proofs.lemmas.List.Elements.{All-nil, All-cons}
 use Rattle.sk_clause.specs.declared.lit.Lit.{Lit}
 use Rattle.sk_clause.specs.Meaning.{lit_true, negated}
 use Rattle.sk_clause.specs.Problem.{Problem, IsWithin, AreWithin}
-use Rattle.sk_gates.specs.Extension.{Adds}
+use Rattle.sk_gates.specs.Extension.{Adds, Continues}
 use Rattle.sk_gates.specs.Bits.{differ, choose}
-use Rattle.sk_gates.proofs.ExtensionLaws.{Adds-define, lit_true-same, same_truth, positive, all_true}
+use Rattle.sk_gates.proofs.ExtensionLaws.{Adds-define, Continues-part, Continues-trans, Continues-same, lit_true-same, same_truth, positive, all_true}
 
 -- one variable more, and these clauses more
 pub record Defining (old new : Problem) (added : List (List Lit)) : Type 0 where
@@ -171,3 +171,16 @@ module _ (old new : Problem) (r nr a na b nb : Lit) (at : r ≡ positive old.var
       (rw d.one (clauses4 n _ _ _ _ (three n nr nc a nr_in nc_in a_in) (three n r nc na r_in nc_in na_in) (three n nr c b nr_in c_in b_in) (three n r c nb r_in c_in nb_in)))
       (λ u v h. rw (lit_true-same old.vars u v c h hc, lit_true-same old.vars u v a h ha, lit_true-same old.vars u v b h hb))
       (λ v. mux_by (v old.vars) (lit_true v r) (lit_true v nr) (lit_true v c) (lit_true v nc) (lit_true v a) (lit_true v na) (lit_true v b) (lit_true v nb) (ap (lit_true v) at) (is_negated v nr r er) (is_negated v nc c ec) (is_negated v na a ea) (is_negated v nb b eb))
+
+-- ---- gates of which some clauses are there
+
+-- one variable more, and the first of the clauses that are to make a gate of it
+pub Defining-part : {old new : Problem} {P : (ℕ → Bool) → Type 0} (front back all : List (List Lit)) → front ++ back ≡ all → ((whole : Problem) → Defining old whole all → Adds old whole P) → Defining old new front → Continues old new
+Defining-part {old} {new} front back all e made d =
+    Continues-part {whole = record { vars = old.vars + 1; clauses = old.clauses ++ all }} front back
+    (made (record { vars = old.vars + 1; clauses = old.clauses ++ all }) (record { one = refl; more = refl }))
+    (sym d.one) (ap (λ x. old.clauses ++ x) (sym e)) d.more
+
+-- the same where a call that followed was refused and left all as it was
+pub Defining-refused : {old mid new : Problem} {P : (ℕ → Bool) → Type 0} (front back all : List (List Lit)) → front ++ back ≡ all → ((whole : Problem) → Defining old whole all → Adds old whole P) → Defining old mid front → new ≡ mid → Continues old new
+Defining-refused front back all e made d same = Continues-trans (Defining-part front back all e made d) (Continues-same same)
