@@ -1,9 +1,12 @@
 //! What an active call does: its expressions, its statements, and the calls that it makes.
 
-ghost use Rattle.std.specs.Prelude.{◌≡◌, ◌≤◌, map, nat_le, length};
+ghost use Rattle.std.specs.Prelude.{◌≡◌, ◌≤◌, map, nat_le, length, Some, None};
 ghost use Rattle.std.specs.Option.{option_copied};
-ghost use Rattle.sk_model.specs.Eval.{in_order, fields_in_order, const_value, binary, copy_back, ref_args};
-ghost use Rattle.sk_model.specs.Exec.{turns};
+ghost use Rattle.sk_model.specs.Step.{◌>>=◌, pure};
+ghost use Rattle.sk_model.specs.Eval.{in_order, fields_in_order, const_value, choose, indexed, sliced, padded_at, binary, copy_back, ref_args};
+ghost use Rattle.sk_model.specs.Heap.{read_field, write};
+ghost use Rattle.sk_model.specs.Operators.{unary_operator, to_int};
+ghost use Rattle.sk_model.specs.Exec.{onward, assign, drop_value, branch, Returns, assert, assume, minimize, turns};
 ghost use Rattle.sk_model.specs.Sites.{is_hole};
 ghost use Rattle.sk_interp.specs.Gives.{Gives, GivesAs};
 ghost use Rattle.sk_interp.specs.Places.{location_of};
@@ -16,14 +19,14 @@ use crate::call::{
 use crate::location::{Location, Root};
 use crate::memory::Memory;
 use crate::operator::{operator, to_int, unary_operator};
-use crate::part::{indexed, literal, padded_at, sliced, unfilled};
+use crate::part::{indexed, literal_value, padded_at, sliced, unfilled};
 use crate::record::allocate;
 use crate::stop::Stop;
 use crate::value::copy;
 use sk_base::{Bounds, List, Span};
 use sk_prog::{
     BinOp, ConstDef, Fun, FunId, PEForm, PExpr, PField, PForm, PStmt, ParamDef, Prog, StructId, Ty,
-    Value,
+    UnOp, Value,
 };
 use std::alloc::Global;
 
@@ -88,17 +91,11 @@ impl Activation<'_> {
         }
         let room = room - 1;
         match &e.form {
-            PEForm::Number(n) => {
-                let v = literal(self.alloc, self.bounds.int_bits, e.ty, *n)?;
-                Ok(v)
-            }
+            PEForm::Number(n) => literal_value(self.alloc, self.bounds.int_bits, e.ty, *n),
             PEForm::True => Ok(Value::Bit(true)),
             PEForm::False => Ok(Value::Bit(false)),
             PEForm::Null => Ok(Value::Null),
-            PEForm::Var { slot, .. } => {
-                let v = memory.read(self.alloc, *slot)?;
-                Ok(v)
-            }
+            PEForm::Var { slot, .. } => memory.variable(self.alloc, *slot),
             PEForm::Const(c) => Ok(const_value(self.prog.consts.get(c.index as usize))),
             PEForm::Hole(_) => unfilled(self.alloc, span, e.ty),
             PEForm::Pattern(_) => Err(Stop::Failed { span }),
@@ -107,47 +104,168 @@ impl Activation<'_> {
             PEForm::New { s, fields } => self.new_record(room, memory, span, *s, fields),
             PEForm::Braces(parts) => self.braces(room, memory, span, e.ty, parts),
             PEForm::Member { base, field, .. } => {
-                let v = self.eval(room, memory, span, base.get())?;
-                memory.read_field(self.alloc, span, *field, &v)
+                self.member(room, memory, span, *field, base.get())
             }
             PEForm::Index { base, index } => {
-                let v = self.eval(room, memory, span, base.get())?;
-                let i = self.eval(room, memory, span, index.get())?;
-                indexed(self.alloc, span, &v, &i)
+                self.index(room, memory, span, base.get(), index.get())
             }
             PEForm::Slice { base, from, length } => {
-                let v = self.eval(room, memory, span, base.get())?;
-                let i = self.eval(room, memory, span, from.get())?;
-                sliced(self.alloc, span, *length, &v, &i)
+                self.slice(room, memory, span, *length, base.get(), from.get())
             }
-            PEForm::Unary { op, of } => {
-                let v = self.eval(room, memory, span, of.get())?;
-                unary_operator(self.alloc, self.bounds.int_bits, span, *op, &v)
-            }
+            PEForm::Unary { op, of } => self.unary(room, memory, span, *op, of.get()),
             PEForm::Binary { op, left, right } => {
                 self.binary(room, memory, span, *op, left.get(), right.get())
             }
             PEForm::Cond { cond, then, other } => {
-                match self.eval(room, memory, span, cond.get())? {
-                    Value::Bit(true) => self.eval(room, memory, span, then.get()),
-                    Value::Bit(false) => self.eval(room, memory, span, other.get()),
-                    _ => Err(Stop::Failed { span }),
-                }
+                self.cond(room, memory, span, cond.get(), then.get(), other.get())
             }
-            PEForm::ToInt(a) => {
-                let v = self.eval(room, memory, span, a.get())?;
-                to_int(span, &v)
-            }
-            PEForm::Pad(a) => {
-                let v = self.eval(room, memory, span, a.get())?;
-                let v = padded_at(self.alloc, e.ty, v)?;
-                Ok(v)
-            }
+            PEForm::ToInt(a) => self.number_of(room, memory, span, a.get()),
+            PEForm::Pad(a) => self.pad(room, memory, span, e.ty, a.get()),
         }
+    }
+
+    /// A field of the record that an expression stands for.
+    #[cycle(run)]
+    #[inline(never)]
+    fn member(
+        &self,
+        room: u32,
+        memory: &mut Memory,
+        span: Span,
+        field: u32,
+        base: &PExpr,
+    ) -> Result<Value, Stop>
+        requires bits_low { 2 ≤ self.now.bounds.int_bits }
+        requires bits_high { self.now.bounds.int_bits ≤ 32 }
+        ensures { Gives result memory.new (((does_in self.now base.now).value span >>= read_field span field) memory.old) }
+    {
+        let v = self.eval(room, memory, span, base)?;
+        memory.read_field(self.alloc, span, field, &v)
+    }
+
+    /// An element of an array.
+    #[cycle(run)]
+    #[inline(never)]
+    fn index(
+        &self,
+        room: u32,
+        memory: &mut Memory,
+        span: Span,
+        base: &PExpr,
+        index: &PExpr,
+    ) -> Result<Value, Stop>
+        requires bits_low { 2 ≤ self.now.bounds.int_bits }
+        requires bits_high { self.now.bounds.int_bits ≤ 32 }
+        ensures { Gives result memory.new (((does_in self.now base.now).value span >>= (λ v. (does_in self.now index.now).value span >>= indexed span v)) memory.old) }
+    {
+        let v = self.eval(room, memory, span, base)?;
+        let i = self.eval(room, memory, span, index)?;
+        indexed(self.alloc, span, &v, &i)
+    }
+
+    /// Elements of an array, from an index on.
+    #[cycle(run)]
+    #[inline(never)]
+    fn slice(
+        &self,
+        room: u32,
+        memory: &mut Memory,
+        span: Span,
+        length: u32,
+        base: &PExpr,
+        from: &PExpr,
+    ) -> Result<Value, Stop>
+        requires bits_low { 2 ≤ self.now.bounds.int_bits }
+        requires bits_high { self.now.bounds.int_bits ≤ 32 }
+        ensures { Gives result memory.new (((does_in self.now base.now).value span >>= (λ v. (does_in self.now from.now).value span >>= sliced span length v)) memory.old) }
+    {
+        let v = self.eval(room, memory, span, base)?;
+        let i = self.eval(room, memory, span, from)?;
+        sliced(self.alloc, span, length, &v, &i)
+    }
+
+    #[cycle(run)]
+    #[inline(never)]
+    fn unary(
+        &self,
+        room: u32,
+        memory: &mut Memory,
+        span: Span,
+        op: UnOp,
+        of: &PExpr,
+    ) -> Result<Value, Stop>
+        requires bits_low { 2 ≤ self.now.bounds.int_bits }
+        requires bits_high { self.now.bounds.int_bits ≤ 32 }
+        ensures { Gives result memory.new (((does_in self.now of.now).value span >>= unary_operator self.now.bounds.int_bits span op) memory.old) }
+    {
+        let v = self.eval(room, memory, span, of)?;
+        unary_operator(self.alloc, self.bounds.int_bits, span, op, &v)
+    }
+
+    /// The one or the other by a bit.
+    #[cycle(run)]
+    #[inline(never)]
+    fn cond(
+        &self,
+        room: u32,
+        memory: &mut Memory,
+        span: Span,
+        cond: &PExpr,
+        a: &PExpr,
+        b: &PExpr,
+    ) -> Result<Value, Stop>
+        requires bits_low { 2 ≤ self.now.bounds.int_bits }
+        requires bits_high { self.now.bounds.int_bits ≤ 32 }
+        ensures { Gives result memory.new (((does_in self.now cond.now).value span >>= choose span ((does_in self.now a.now).value span) ((does_in self.now b.now).value span)) memory.old) }
+    {
+        match self.eval(room, memory, span, cond)? {
+            Value::Bit(true) => self.eval(room, memory, span, a),
+            Value::Bit(false) => self.eval(room, memory, span, b),
+            _ => Err(Stop::Failed { span }),
+        }
+    }
+
+    /// A bit as a number.
+    #[cycle(run)]
+    #[inline(never)]
+    fn number_of(
+        &self,
+        room: u32,
+        memory: &mut Memory,
+        span: Span,
+        of: &PExpr,
+    ) -> Result<Value, Stop>
+        requires bits_low { 2 ≤ self.now.bounds.int_bits }
+        requires bits_high { self.now.bounds.int_bits ≤ 32 }
+        ensures { Gives result memory.new (((does_in self.now of.now).value span >>= to_int span) memory.old) }
+    {
+        let v = self.eval(room, memory, span, of)?;
+        to_int(span, &v)
+    }
+
+    /// A value as one of a longer type.
+    #[cycle(run)]
+    #[inline(never)]
+    fn pad(
+        &self,
+        room: u32,
+        memory: &mut Memory,
+        span: Span,
+        ty: Option<Ty>,
+        of: &PExpr,
+    ) -> Result<Value, Stop>
+        requires bits_low { 2 ≤ self.now.bounds.int_bits }
+        requires bits_high { self.now.bounds.int_bits ≤ 32 }
+        ensures { Gives result memory.new (((does_in self.now of.now).value span >>= (λ v. pure (padded_at ty v))) memory.old) }
+    {
+        let v = self.eval(room, memory, span, of)?;
+        let v = padded_at(self.alloc, ty, v)?;
+        Ok(v)
     }
 
     /// The value of a call.
     #[cycle(run)]
+    #[inline(never)]
     fn call_value(
         &self,
         room: u32,
@@ -170,6 +288,7 @@ impl Activation<'_> {
 
     /// A new record, with its fields set.
     #[cycle(run)]
+    #[inline(never)]
     fn new_record(
         &self,
         room: u32,
@@ -188,6 +307,7 @@ impl Activation<'_> {
 
     /// An array of elements that are written out, at its type.
     #[cycle(run)]
+    #[inline(never)]
     fn braces(
         &self,
         room: u32,
@@ -206,6 +326,7 @@ impl Activation<'_> {
     }
 
     #[cycle(run)]
+    #[inline(never)]
     #[tactic(auto, using(crate::proofs::Activations::eager))]
     fn binary(
         &self,
@@ -241,6 +362,7 @@ impl Activation<'_> {
 
     /// The values of expressions, from the first to the last.
     #[cycle(run)]
+    #[inline(never)]
     #[tactic(auto, using(crate::proofs::Activations::split_at))]
     fn eval_all(
         &self,
@@ -263,6 +385,7 @@ impl Activation<'_> {
 
     /// The fields that `new` sets, from the first to the last.
     #[cycle(run)]
+    #[inline(never)]
     #[tactic(auto, using(crate::proofs::Activations::split_at))]
     fn eval_fields(
         &self,
@@ -285,6 +408,7 @@ impl Activation<'_> {
 
     /// What an expression names as a target.
     #[cycle(run)]
+    #[inline(never)]
     fn target(
         &self,
         room: u32,
@@ -337,6 +461,7 @@ impl Activation<'_> {
 
     /// A call of a function with these arguments.
     #[cycle(run)]
+    #[inline(never)]
     pub fn call(
         &self,
         room: u32,
@@ -370,6 +495,7 @@ impl Activation<'_> {
 
     /// Copies the final values of `ref` parameters back to the variables that were passed, in order.
     #[cycle(run)]
+    #[inline(never)]
     #[tactic(auto, using(crate::proofs::Activations::back))]
     fn copy_back(
         &self,
@@ -407,6 +533,7 @@ impl Activation<'_> {
 
     /// Statements one after another, until one returns.
     #[cycle(run)]
+    #[inline(never)]
     #[tactic(auto, using(crate::proofs::Activations::split_at))]
     fn exec_all(&self, room: u32, memory: &mut Memory, stmts: &[PStmt]) -> Result<Flow, Stop>
         requires bits_low { 2 ≤ self.now.bounds.int_bits }
@@ -442,55 +569,22 @@ impl Activation<'_> {
                 ..
             } => match value {
                 None => declare(self.alloc, memory, *slot, *ty),
-                Some(e) => {
-                    let v = self.eval(room, memory, span, e)?;
-                    memory.write(*slot, v)?;
-                    Ok(Flow::Onward)
-                }
+                Some(e) => self.set(room, memory, span, *slot, e),
             },
-            PForm::Assign { target, value } => {
-                let location = self.target(room, memory, span, target)?;
-                let v = self.eval(room, memory, span, value)?;
-                location.assign(self.alloc, memory, span, v)
-            }
-            PForm::Call(e) => {
-                self.eval(room, memory, span, e)?;
-                Ok(Flow::Onward)
-            }
+            PForm::Assign { target, value } => self.assign(room, memory, span, target, value),
+            PForm::Call(e) => self.drop_value(room, memory, span, e),
             PForm::If { cond, then, other } => match other {
-                None => match self.eval(room, memory, span, cond)? {
-                    Value::Bit(true) => self.exec(room, memory, then.get()),
-                    Value::Bit(false) => Ok(Flow::Onward),
-                    _ => Err(Stop::Failed { span }),
-                },
-                Some(other) => match self.eval(room, memory, span, cond)? {
-                    Value::Bit(true) => self.exec(room, memory, then.get()),
-                    Value::Bit(false) => self.exec(room, memory, other.get()),
-                    _ => Err(Stop::Failed { span }),
-                },
+                None => self.branch(room, memory, span, cond, then.get()),
+                Some(other) => self.branches(room, memory, span, cond, then.get(), other.get()),
             },
             PForm::While { cond, body } => self.turns(room, memory, span, cond, body.get()),
             PForm::Return(value) => match value {
                 None => Ok(Flow::Returns(None)),
-                Some(e) => {
-                    let v = self.eval(room, memory, span, e)?;
-                    Ok(Flow::Returns(Some(v)))
-                }
+                Some(e) => self.give(room, memory, span, e),
             },
-            PForm::Assert(e) => match self.eval(room, memory, span, e)? {
-                Value::Bit(true) => Ok(Flow::Onward),
-                Value::Bit(false) => Err(Stop::Failed { span }),
-                _ => Err(Stop::Failed { span }),
-            },
-            PForm::Assume(e) => match self.eval(room, memory, span, e)? {
-                Value::Bit(true) => Ok(Flow::Onward),
-                Value::Bit(false) => Err(Stop::Skipped { span }),
-                _ => Err(Stop::Failed { span }),
-            },
-            PForm::Minimize(e) => {
-                let v = self.eval(room, memory, span, e)?;
-                pay(memory, span, &v)
-            }
+            PForm::Assert(e) => self.assert(room, memory, span, e),
+            PForm::Assume(e) => self.assume(room, memory, span, e),
+            PForm::Minimize(e) => self.minimize(room, memory, span, e),
             PForm::Repeat { count, copies } => {
                 if is_hole(count) {
                     return Err(Stop::Failed { span });
@@ -507,8 +601,166 @@ impl Activation<'_> {
         }
     }
 
+    /// Gives a variable its first value.
+    #[cycle(run)]
+    #[inline(never)]
+    fn set(
+        &self,
+        room: u32,
+        memory: &mut Memory,
+        span: Span,
+        slot: u32,
+        e: &PExpr,
+    ) -> Result<Flow, Stop>
+        requires bits_low { 2 ≤ self.now.bounds.int_bits }
+        requires bits_high { self.now.bounds.int_bits ≤ 32 }
+        ensures { GivesAs flow_of result memory.new (onward ((does_in self.now e.now).value span >>= write slot) memory.old) }
+    {
+        let v = self.eval(room, memory, span, e)?;
+        memory.write(slot, v)?;
+        Ok(Flow::Onward)
+    }
+
+    /// Puts a value into what a target names.
+    #[cycle(run)]
+    #[inline(never)]
+    fn assign(
+        &self,
+        room: u32,
+        memory: &mut Memory,
+        span: Span,
+        target: &PExpr,
+        value: &PExpr,
+    ) -> Result<Flow, Stop>
+        requires bits_low { 2 ≤ self.now.bounds.int_bits }
+        requires bits_high { self.now.bounds.int_bits ≤ 32 }
+        ensures { GivesAs flow_of result memory.new (assign span (does_in self.now target.now) (does_in self.now value.now) memory.old) }
+    {
+        let location = self.target(room, memory, span, target)?;
+        let v = self.eval(room, memory, span, value)?;
+        location.assign(self.alloc, memory, span, v)
+    }
+
+    /// A call whose value is dropped.
+    #[cycle(run)]
+    #[inline(never)]
+    fn drop_value(
+        &self,
+        room: u32,
+        memory: &mut Memory,
+        span: Span,
+        e: &PExpr,
+    ) -> Result<Flow, Stop>
+        requires bits_low { 2 ≤ self.now.bounds.int_bits }
+        requires bits_high { self.now.bounds.int_bits ≤ 32 }
+        ensures { GivesAs flow_of result memory.new (drop_value span (does_in self.now e.now) memory.old) }
+    {
+        self.eval(room, memory, span, e)?;
+        Ok(Flow::Onward)
+    }
+
+    /// A statement, where a condition is true.
+    #[cycle(run)]
+    #[inline(never)]
+    fn branch(
+        &self,
+        room: u32,
+        memory: &mut Memory,
+        span: Span,
+        cond: &PExpr,
+        a: &PStmt,
+    ) -> Result<Flow, Stop>
+        requires bits_low { 2 ≤ self.now.bounds.int_bits }
+        requires bits_high { self.now.bounds.int_bits ≤ 32 }
+        ensures { GivesAs flow_of result memory.new (branch span (does_in self.now cond.now) (exec_in self.now a.now) None memory.old) }
+    {
+        match self.eval(room, memory, span, cond)? {
+            Value::Bit(true) => self.exec(room, memory, a),
+            Value::Bit(false) => Ok(Flow::Onward),
+            _ => Err(Stop::Failed { span }),
+        }
+    }
+
+    /// The one statement or the other by a condition.
+    #[cycle(run)]
+    #[inline(never)]
+    fn branches(
+        &self,
+        room: u32,
+        memory: &mut Memory,
+        span: Span,
+        cond: &PExpr,
+        a: &PStmt,
+        b: &PStmt,
+    ) -> Result<Flow, Stop>
+        requires bits_low { 2 ≤ self.now.bounds.int_bits }
+        requires bits_high { self.now.bounds.int_bits ≤ 32 }
+        ensures { GivesAs flow_of result memory.new (branch span (does_in self.now cond.now) (exec_in self.now a.now) (Some (exec_in self.now b.now)) memory.old) }
+    {
+        match self.eval(room, memory, span, cond)? {
+            Value::Bit(true) => self.exec(room, memory, a),
+            Value::Bit(false) => self.exec(room, memory, b),
+            _ => Err(Stop::Failed { span }),
+        }
+    }
+
+    /// Returns with a value.
+    #[cycle(run)]
+    #[inline(never)]
+    fn give(&self, room: u32, memory: &mut Memory, span: Span, e: &PExpr) -> Result<Flow, Stop>
+        requires bits_low { 2 ≤ self.now.bounds.int_bits }
+        requires bits_high { self.now.bounds.int_bits ≤ 32 }
+        ensures { GivesAs flow_of result memory.new (((does_in self.now e.now).value span >>= (λ v. pure (Returns (Some v)))) memory.old) }
+    {
+        let v = self.eval(room, memory, span, e)?;
+        Ok(Flow::Returns(Some(v)))
+    }
+
+    /// Fails where a condition is false.
+    #[cycle(run)]
+    #[inline(never)]
+    fn assert(&self, room: u32, memory: &mut Memory, span: Span, e: &PExpr) -> Result<Flow, Stop>
+        requires bits_low { 2 ≤ self.now.bounds.int_bits }
+        requires bits_high { self.now.bounds.int_bits ≤ 32 }
+        ensures { GivesAs flow_of result memory.new (assert span (does_in self.now e.now) memory.old) }
+    {
+        match self.eval(room, memory, span, e)? {
+            Value::Bit(true) => Ok(Flow::Onward),
+            Value::Bit(false) => Err(Stop::Failed { span }),
+            _ => Err(Stop::Failed { span }),
+        }
+    }
+
+    /// Skips the run where a condition is false.
+    #[cycle(run)]
+    #[inline(never)]
+    fn assume(&self, room: u32, memory: &mut Memory, span: Span, e: &PExpr) -> Result<Flow, Stop>
+        requires bits_low { 2 ≤ self.now.bounds.int_bits }
+        requires bits_high { self.now.bounds.int_bits ≤ 32 }
+        ensures { GivesAs flow_of result memory.new (assume span (does_in self.now e.now) memory.old) }
+    {
+        match self.eval(room, memory, span, e)? {
+            Value::Bit(true) => Ok(Flow::Onward),
+            Value::Bit(false) => Err(Stop::Skipped { span }),
+            _ => Err(Stop::Failed { span }),
+        }
+    }
+
+    /// Adds a number to the cost.
+    #[cycle(run)]
+    #[inline(never)]
+    fn minimize(&self, room: u32, memory: &mut Memory, span: Span, e: &PExpr) -> Result<Flow, Stop>
+        requires bits_low { 2 ≤ self.now.bounds.int_bits }
+        requires bits_high { self.now.bounds.int_bits ≤ 32 }
+        ensures { GivesAs flow_of result memory.new (minimize span (does_in self.now e.now) memory.old) }
+    {
+        let v = self.eval(room, memory, span, e)?;
+        pay(memory, span, &v)
+    }
+
     /// The turns of a loop.
     #[cycle(run)]
+    #[inline(never)]
     #[tactic(auto, using(crate::proofs::Activations::turn_on))]
     fn turns(
         &self,

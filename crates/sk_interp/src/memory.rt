@@ -3,7 +3,7 @@
 ghost use Rattle.std.specs.Prelude.{◌≡◌, ◌+◌, ◌-◌, ◌^◌, ◌++◌, ◌∷◌, [], pos, min, map, length, replicate, IfOk, OnOk, slice_index_or, slice_set};
 ghost use Rattle.sk_prog.specs.declared.value.Value.TheVariants as value;
 ghost use Rattle.sk_model.specs.Values.{zero_of};
-ghost use Rattle.sk_model.specs.Heap.{blank, written, record_at, read_field, write_field, store, Variable, Field};
+ghost use Rattle.sk_model.specs.Heap.{blank, read, written, record_at, read_field, write_field, store, Variable, Field};
 ghost use Rattle.sk_interp.specs.Gives.{Gives};
 
 use crate::stop::Stop;
@@ -117,6 +117,14 @@ impl Memory {
     {
         let made = copy_at(alloc, self.slots.as_slice(), slot as usize)?;
         Ok(made)
+    }
+
+    /// The value of a variable.
+    pub fn variable(&self, alloc: Global, slot: u32) -> Result<Value, Stop>
+        ensures { Gives result self.now (read slot self.now) }
+    {
+        let v = self.read(alloc, slot)?;
+        Ok(v)
     }
 
     pub fn write(&mut self, slot: u32, v: Value) -> Result<(), AllocError>

@@ -2,6 +2,7 @@
 
 ghost use Rattle.std.specs.Prelude.{◌≡◌, ◌≤◌, IfOk};
 ghost use Rattle.sk_model.specs.Eval.{number_at, literal, padded_at, unfilled, indexed, sliced};
+ghost use Rattle.sk_model.specs.Step.{pure};
 ghost use Rattle.sk_interp.specs.Gives.{Computes};
 
 use crate::stop::Stop;
@@ -41,6 +42,16 @@ pub fn literal(alloc: Global, bits: u32, ty: Option<Ty>, n: u32) -> Result<Value
             Ok(made)
         }
     }
+}
+
+/// The same, as what an expression does.
+pub fn literal_value(alloc: Global, bits: u32, ty: Option<Ty>, n: u32) -> Result<Value, Stop>
+    requires bits_low { 2 ≤ bits }
+    requires bits_high { bits ≤ 32 }
+    ensures { Computes result (pure (literal bits ty n)) }
+{
+    let v = literal(alloc, bits, ty, n)?;
+    Ok(v)
 }
 
 /// A value as one of a longer type.

@@ -44,6 +44,54 @@ decreases-new_record l = 4 * l.room + 3
 abbrev pub decreases-braces : goal.decreases-braces
 decreases-braces l = 4 * l.room + 3
 
+abbrev pub decreases-member : goal.decreases-member
+decreases-member l = 4 * l.room + 1
+
+abbrev pub decreases-index : goal.decreases-index
+decreases-index l = 4 * l.room + 1
+
+abbrev pub decreases-slice : goal.decreases-slice
+decreases-slice l = 4 * l.room + 1
+
+abbrev pub decreases-unary : goal.decreases-unary
+decreases-unary l = 4 * l.room + 1
+
+abbrev pub decreases-cond : goal.decreases-cond
+decreases-cond l = 4 * l.room + 1
+
+abbrev pub decreases-number_of : goal.decreases-number_of
+decreases-number_of l = 4 * l.room + 1
+
+abbrev pub decreases-pad : goal.decreases-pad
+decreases-pad l = 4 * l.room + 1
+
+abbrev pub decreases-set : goal.decreases-set
+decreases-set l = 4 * l.room + 1
+
+abbrev pub decreases-assign : goal.decreases-assign
+decreases-assign l = 4 * l.room + 1
+
+abbrev pub decreases-drop_value : goal.decreases-drop_value
+decreases-drop_value l = 4 * l.room + 1
+
+abbrev pub decreases-branch : goal.decreases-branch
+decreases-branch l = 4 * l.room + 1
+
+abbrev pub decreases-branches : goal.decreases-branches
+decreases-branches l = 4 * l.room + 1
+
+abbrev pub decreases-give : goal.decreases-give
+decreases-give l = 4 * l.room + 1
+
+abbrev pub decreases-assert : goal.decreases-assert
+decreases-assert l = 4 * l.room + 1
+
+abbrev pub decreases-assume : goal.decreases-assume
+decreases-assume l = 4 * l.room + 1
+
+abbrev pub decreases-minimize : goal.decreases-minimize
+decreases-minimize l = 4 * l.room + 1
+
 -- the values so far and those to come are all values
 abbrev pub invariant-eval_all-loop-e : goal.invariant-eval_all-loop-e
 invariant-eval_all-loop-e l =
