@@ -1,7 +1,7 @@
 //! The algorithms of the graph and of its simplifier over a `Vec` and std's `HashMap`, with its own hash: a chain of n
 //! sums over two inputs. Prints, for each step, the nanoseconds a node, the median of nine.
 //!
-//! rustc -O graph.rs && ./graph 10000 100000 1000000
+//! rustc -O --edition 2024 graph.rs && ./graph 10000 100000 1000000
 
 use std::collections::HashMap;
 
@@ -84,7 +84,7 @@ impl Graph {
     }
 
     fn evaluated(&self, root: usize, input: &[i64]) -> i64 {
-        let mut values = Vec::with_capacity(root + 1);
+        let mut values: Vec<i64> = Vec::with_capacity(root + 1);
         for &node in &self.nodes[..=root] {
             let value = match node {
                 Node::Flag(b) => i64::from(b),

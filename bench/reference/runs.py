@@ -127,6 +127,7 @@ A, B4 = [1, 0, 1, 1], [1, 1, 0, 1]
 
 def table():
     # numbers wrap at each width
+    yield "WRAPPING"
     for w in WIDE:
         top, low = 2 ** (w - 1) - 1, -2 ** (w - 1)
         yield row(SUMS % "x + y", "f", [top, 1], W=w)
@@ -137,10 +138,12 @@ def table():
         yield row(SUMS % "x % y", "f", [low, -1], W=w)
         yield row("int f(int x) { while (x > 0) x = x * 2; return x; }", "f", [3], W=w, unroll=40)
     # division and remainder of negatives, and by 0
+    yield "DIVISION"
     for x, y in ((7, 2), (-7, 2), (7, -2), (-7, -2), (7, 0)):
         yield row(SUMS % "x / y * 8 + x % y", "f", [x, y], W=16)
     yield row(SUMS % "x % y", "f", [5, 0])
     # comparisons, logic and single bits
+    yield "LOGIC"
     yield row(SUMS % "(x < y) + 2 * (x <= y) + 4 * (x > y) + 8 * (x >= y) + 16 * (x == y) + 32 * (x != y)", "f", [-3, 2])
     yield row(SUMS % "(x < y) + 2 * (x <= y) + 4 * (x > y) + 8 * (x >= y) + 16 * (x == y) + 32 * (x != y)", "f", [2, 2])
     yield row("int f(bit a, bit b) { return (a & b) + 2 * (a | b) + 4 * (a ^ b) + 8 * !a + 16 * ~b; }", "f", [1, 0])
@@ -152,6 +155,7 @@ def table():
     yield row("int f(int x) { return x == 0 ? 7 : 6 / x; }", "f", [0])
     yield row("int f(int x) { return x == 0 ? 6 / x : 7; }", "f", [0])
     # arrays of bits
+    yield "BITS"
     for op in ("x + y", "x & y", "x | y", "x ^ y", "~x", "x + 1"):
         yield row(PAIR % op, "f", [A, B4])
     for n in (0, 1, 4, 5, -1):
@@ -160,6 +164,7 @@ def table():
     yield row("bit f(bit[4] x, bit[4] y) { return x == y; }", "f", [A, A])
     yield row("bit f(bit[4] x, bit[4] y) { return x != y; }", "f", [A, B4])
     # arrays: indexes, slices, braces, longer arrays, copies
+    yield "ARRAYS"
     for i in (0, 3, 4, -1):
         yield row("int f(int i) { int[4] a = {5, 6, 7, 8}; return a[i]; }", "f", [i])
         yield row("int[4] f(int i) { int[4] a = {5, 6}; a[i] = 9; return a; }", "f", [i])
@@ -172,6 +177,7 @@ def table():
     yield row("bit[3] f(bit x) { bit[3] a = x; return a; }", "f", [1])
     yield row("int[3] f() { int[3] a = 1; return a; }", "f", [])
     # references and records
+    yield "RECORDS"
     yield row(LIST + "int f(int x) { L a = new L(v = x); L b = a; b.v = 5; return a.v + 10 * (a == b); }", "f", [4])
     yield row(LIST + "int f(int x) { L a = new L(v = x); L b = new L(v = x); return (a == b) + 2 * (a.next == null); }", "f", [4])
     yield row(LIST + "int f(int x) { L a; return a.v; }", "f", [4])
@@ -181,6 +187,7 @@ def table():
     yield row("struct R { int[3] a; bit b; } int f(int i) { R r = new R(); r.a[i] = 6; int[3] c = r.a; r.a[0] = 1; return c[0] + c[2] + r.a[0]; }", "f", [2])
     yield row("struct R { int[3] a; bit b; } int f(int i) { R r = new R(); r.a[i] = 6; return 1; }", "f", [3])
     # the order of targets and values
+    yield "ORDERS"
     ORDER = "int t(ref int n, int k) { n = n * 10 + k; return k; } "
     yield row(ORDER + "int f() { int n = 0; int[4] a; a[t(n, 1)] = t(n, 2); return n; }", "f", [])
     yield row(ORDER + "int f() { int n = 0; int[2][4] a; a[t(n, 2)][t(n, 1)] = t(n, 3); return n; }", "f", [])
@@ -192,11 +199,13 @@ def table():
     yield row("struct R { int[2] a; } int f() { R r; int[2] z; r.a[z[5]] = 1; return 0; }", "f", [])
     yield row("struct R { int[2] a; R n; } int t() { assert false; return 0; } int f() { R r; r.n.a[0] = t(); return 0; }", "f", [])
     # ref arguments
+    yield "REFS"
     yield row("void g(ref int a, ref int b) { a = a + 1; b = b + 10; } int f(ref int x) { g(x, x); return x; }", "f", [1])
     yield row("void g(ref int a, ref int b) { a = 5; b = 7; } void f(ref int x, ref int y) { g(x, y); g(y, x); g(x, x); }", "f", [1, 2])
     yield row("void g(ref int[3] a) { a[1] = 4; } int[3] f() { int[3] a = 1; g(a); return a; }", "f", [])
     yield row("void f(int a, ref int[2] x, ref bit b) { x[0] = a; a = 9; b = x[1] == 2; }", "f", [3, [1, 2], 0])
     # statements
+    yield "STATEMENTS"
     yield row("int f(int x) { if (x > 2) return 1; else return 2; }", "f", [3])
     yield row("int f(int x) { if (x > 2) return 1; else return 2; }", "f", [2])
     yield row("int f(int x) { if (x > 2) return 1; return 3; }", "f", [2])
@@ -211,6 +220,7 @@ def table():
     yield row("void f() { return; assert false; }", "f", [])
     yield row("int f(int x) { { int y = x; { int z = y; x = z + 1; } } return x; }", "f", [3])
     # loops at and past the bound; declarations run again
+    yield "LOOPS"
     yield row("int f(int x) { int n = 0; while (n < x) n = n + 1; return n; }", "f", [3], unroll=3)
     yield row("int f(int x) { int n = 0; while (n < x) n = n + 1; return n; }", "f", [4], unroll=3)
     yield row("int f(int x) { int n = 0; while (n < x) n = n + 1; return n; }", "f", [0], unroll=0)
@@ -220,6 +230,7 @@ def table():
     yield row("int f(int x) { while (6 / x > 0) { x = x - 1; } return x; }", "f", [2])
     yield row("void f(int x) { while (x > 0) { assert x != 2; x = x - 1; } }", "f", [3])
     # calls at and past both bounds
+    yield "CALLS"
     SUM = "int g(int x) { if (x == 0) return 0; return x + g(x - 1); } int f(int x) { return g(x); }"
     yield row(SUM, "f", [2], inline=3)
     yield row(SUM, "f", [3], inline=3)
@@ -230,16 +241,27 @@ def table():
     yield row(chain, "c0", [127], inline=16)
     yield row(chain, "c0", [128], inline=16)
     # constants and coercions
+    yield "CONSTANTS"
     yield row("int C = 3 * 4; int f(int x) { return C + x + (x > 0); }", "f", [1])
     yield row("int f(bit b) { int[2] a = {b, b}; return a[0] + b; }", "f", [1])
 
 
+def tables():
+    found = {}
+    for r in table():
+        if isinstance(r, str):
+            name = r
+            found[name] = []
+        else:
+            found[name].append(r)
+    return found
+
+
 if __name__ == "__main__":
-    rows = [r for r in table() if r]
     print("//! Runs: a program in the words that `reader` reads, and how its run ends. The comment is the program's text.")
     print("//! Printed by `bench/reference/runs.py`, which computes the ends apart from this program.")
-    print()
-    print("pub const ROWS: [(&str, &str); %d] = [" % len(rows))
-    for text, code, ends in rows:
-        print("    // %s\n    (\n        \"%s\",\n        \"%s\",\n    )," % (text.strip(), code, ends))
-    print("];")
+    for name, rows in tables().items():
+        print("\npub const %s: [(&str, &str); %d] = [" % (name, len(rows)))
+        for text, code, ends in rows:
+            print("    // %s\n    (\n        \"%s\",\n        \"%s\",\n    )," % (text.strip(), code, ends))
+        print("];")

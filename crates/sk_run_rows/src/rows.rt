@@ -1,7 +1,7 @@
 //! Runs: a program in the words that `reader` reads, and how its run ends. The comment is the program's text.
 //! Printed by `bench/reference/runs.py`, which computes the ends apart from this program.
 
-pub const ROWS: [(&str, &str); 124] = [
+pub const WRAPPING: [(&str, &str); 21] = [
     // int f(int x, int y) { return x + y; }
     (
         "6 8 5 0 2 n 31 n 1 0 0 1 i 2 0 i 0 i 40 1 22 35 r + i o 3 i v 0 i v 1",
@@ -107,6 +107,9 @@ pub const ROWS: [(&str, &str); 124] = [
         "32 40 5 0 1 n 3 0 0 1 i 1 0 i 40 2 15 39 w b o 9 i v 0 i n 0 29 39 b 1 29 39 a i v 0 i o 0 i v 0 i n 2 40 49 r + i v 0",
         "done + n -1073741824 0 0",
     ),
+];
+
+pub const DIVISION: [(&str, &str); 6] = [
     // int f(int x, int y) { return x / y * 8 + x % y; }
     (
         "16 8 5 0 2 n 7 n 2 0 0 1 i 2 0 i 0 i 40 1 22 47 r + i o 3 i o 0 i o 1 i v 0 i v 1 i n 8 i o 2 i v 0 i v 1",
@@ -137,6 +140,9 @@ pub const ROWS: [(&str, &str); 124] = [
         "16 8 5 0 2 n 5 n 0 0 0 1 i 2 0 i 0 i 40 1 22 35 r + i o 2 i v 0 i v 1",
         "failed 22 35",
     ),
+];
+
+pub const LOGIC: [(&str, &str); 10] = [
     // int f(int x, int y) { return (x < y) + 2 * (x <= y) + 4 * (x > y) + 8 * (x >= y) + 16 * (x == y) + 32 * (x != y); }
     (
         "16 8 5 0 2 n -3 n 2 0 0 1 i 2 0 i 0 i 40 1 22 113 r + i o 3 i o 3 i o 3 i o 3 i o 3 i p i j b o 7 i v 0 i v 1 i o 0 i n 2 i p i j b o 8 i v 0 i v 1 i o 0 i n 4 i p i j b o 9 i v 0 i v 1 i o 0 i n 8 i p i j b o 10 i v 0 i v 1 i o 0 i n 16 i p i j b o 11 i v 0 i v 1 i o 0 i n 32 i p i j b o 12 i v 0 i v 1",
@@ -187,6 +193,9 @@ pub const ROWS: [(&str, &str); 124] = [
         "16 8 5 0 1 n 0 0 0 1 i 1 0 i 40 1 15 41 r + i q b o 11 i v 0 i n 0 i o 1 i n 6 i v 0 i n 7",
         "failed 15 41",
     ),
+];
+
+pub const BITS: [(&str, &str); 18] = [
     // bit[4] f(bit[4] x, bit[4] y) { return x + y; }
     (
         "16 8 5 0 2 a 4 t f t t a 4 t t f t 0 0 1 a 4 b 2 0 a 4 b 0 a 4 b 40 1 31 44 r + a 4 b o 3 a 4 b v 0 a 4 b v 1",
@@ -277,6 +286,9 @@ pub const ROWS: [(&str, &str); 124] = [
         "16 8 5 0 2 a 4 t f t t a 4 t t f t 0 0 1 b 2 0 a 4 b 0 a 4 b 40 1 28 42 r + b o 12 a 4 b v 0 a 4 b v 1",
         "done + t 0 0",
     ),
+];
+
+pub const ARRAYS: [(&str, &str); 18] = [
     // int f(int i) { int[4] a = {5, 6, 7, 8}; return a[i]; }
     (
         "16 8 5 0 1 n 0 0 0 1 i 1 0 i 40 2 15 39 d 1 a 4 i + a 4 i b 4 i n 5 i n 6 i n 7 i n 8 40 52 r + i i a 4 i v 1 i v 0",
@@ -367,6 +379,9 @@ pub const ROWS: [(&str, &str); 124] = [
         "16 8 5 0 0 0 0 1 a 3 i 0 40 2 13 26 d 0 a 3 i + a 3 i n 1 27 36 r + a 3 i v 0",
         "done + a 3 n 1 n 0 n 0 0 0",
     ),
+];
+
+pub const RECORDS: [(&str, &str); 8] = [
     // struct L { int v; L next; } int f(int x) { L a = new L(v = x); L b = a; b.v = 5; return a.v + 10 * (a == b); }
     (
         "16 8 5 0 1 n 4 1 2 i r 0 0 1 i 1 0 i 40 4 43 62 d 1 r 0 + r 0 w 0 1 0 i v 0 63 71 d 2 r 0 + r 0 v 1 72 80 a i m 0 0 r 0 v 2 i n 5 81 108 r + i o 3 i m 0 0 r 0 v 1 i o 0 i n 10 i p i j b o 11 r 0 v 1 r 0 v 2",
@@ -407,6 +422,9 @@ pub const ROWS: [(&str, &str); 124] = [
         "16 8 5 0 1 n 3 1 2 a 3 i b 0 1 i 1 0 i 40 3 45 59 d 1 r 0 + r 0 w 0 0 60 71 a i i a 3 i m 0 0 r 0 v 1 i v 0 i n 6 72 81 r + i n 1",
         "failed 60 71",
     ),
+];
+
+pub const ORDERS: [(&str, &str); 9] = [
     // int t(ref int n, int k) { n = n * 10 + k; return k; } int f() { int n = 0; int[4] a; a[t(n, 1)] = t(n, 2); return n; }
     (
         "16 8 5 1 0 0 0 2 i 2 1 i 0 i 40 2 26 41 a i v 0 i o 3 i o 0 i v 0 i n 10 i v 1 42 51 r + i v 1 i 0 40 4 64 74 d 0 i + i n 0 75 84 d 1 a 4 i - 85 106 a i i a 4 i v 1 i c 0 2 i v 0 i n 1 i c 0 2 i v 0 i n 2 107 116 r + i v 0",
@@ -452,6 +470,9 @@ pub const ROWS: [(&str, &str); 124] = [
         "16 8 5 1 0 1 2 a 2 i r 0 0 2 i 0 40 2 38 51 t b f 52 61 r + i n 0 i 0 40 3 74 78 d 0 r 0 - 79 94 a i i a 2 i m 0 0 r 0 m 0 1 r 0 v 0 i n 0 i c 0 0 95 104 r + i n 0",
         "failed 79 94",
     ),
+];
+
+pub const REFS: [(&str, &str); 4] = [
     // void g(ref int a, ref int b) { a = a + 1; b = b + 10; } int f(ref int x) { g(x, x); return x; }
     (
         "16 8 5 1 1 n 1 0 0 2 - 2 1 i 1 i 40 2 31 41 a i v 0 i o 3 i v 0 i n 1 42 53 a i v 1 i o 3 i v 1 i n 10 i 1 1 i 40 2 75 83 c - c 0 2 i v 0 i v 0 84 93 r + i v 0",
@@ -472,6 +493,9 @@ pub const ROWS: [(&str, &str); 124] = [
         "16 8 5 0 3 n 3 a 2 n 1 n 2 f 0 0 1 - 3 0 i 1 a 2 i 1 b 40 3 41 50 a i i a 2 i v 1 i n 0 i v 0 51 57 a i v 0 i n 9 58 72 a b v 2 b o 11 i i a 2 i v 1 i n 1 i n 2",
         "done - 2 a 2 n 3 n 2 t 0",
     ),
+];
+
+pub const STATEMENTS: [(&str, &str); 13] = [
     // int f(int x) { if (x > 2) return 1; else return 2; }
     (
         "16 8 5 0 1 n 3 0 0 1 i 1 0 i 40 1 15 50 i b o 9 i v 0 i n 2 26 35 b 1 26 35 r + i n 1 + 41 50 b 1 41 50 r + i n 2",
@@ -537,6 +561,9 @@ pub const ROWS: [(&str, &str); 124] = [
         "16 8 5 0 1 n 3 0 0 1 i 1 0 i 40 2 15 55 b 2 17 27 d 1 i + i v 0 28 53 b 2 30 40 d 2 i + i v 1 41 51 a i v 0 i o 3 i v 2 i n 1 56 65 r + i v 0",
         "done + n 4 0 0",
     ),
+];
+
+pub const LOOPS: [(&str, &str); 8] = [
     // int f(int x) { int n = 0; while (n < x) n = n + 1; return n; }
     (
         "16 3 5 0 1 n 3 0 0 1 i 1 0 i 40 3 15 25 d 1 i + i n 0 26 50 w b o 7 i v 1 i v 0 40 50 b 1 40 50 a i v 1 i o 3 i v 1 i n 1 51 60 r + i v 1",
@@ -577,6 +604,9 @@ pub const ROWS: [(&str, &str); 124] = [
         "16 8 5 0 1 n 3 0 0 1 - 1 0 i 40 1 16 59 w b o 9 i v 0 i n 0 30 59 b 2 32 46 t b o 12 i v 0 i n 2 47 57 a i v 0 i o 4 i v 0 i n 1",
         "failed 32 46",
     ),
+];
+
+pub const CALLS: [(&str, &str); 7] = [
     // int g(int x) { if (x == 0) return 0; return x + g(x - 1); } int f(int x) { return g(x); }
     (
         "16 8 3 1 1 n 2 0 0 2 i 1 0 i 40 2 15 36 i b o 11 i v 0 i n 0 27 36 b 1 27 36 r + i n 0 - 37 57 r + i o 3 i v 0 i c 0 1 i o 4 i v 0 i n 1 i 1 0 i 40 1 75 87 r + i c 0 1 i v 0",
@@ -612,6 +642,9 @@ pub const ROWS: [(&str, &str); 124] = [
         "16 8 16 0 1 n 128 0 0 9 i 1 0 i 40 2 16 37 i b o 11 i v 0 i n 0 28 37 b 1 28 37 r + i n 0 - 38 59 r + i o 3 i c 1 1 i o 4 i v 0 i n 1 i n 1 i 1 0 i 40 2 78 99 i b o 11 i v 0 i n 0 90 99 b 1 90 99 r + i n 0 - 100 121 r + i o 3 i c 2 1 i o 4 i v 0 i n 1 i n 1 i 1 0 i 40 2 140 161 i b o 11 i v 0 i n 0 152 161 b 1 152 161 r + i n 0 - 162 183 r + i o 3 i c 3 1 i o 4 i v 0 i n 1 i n 1 i 1 0 i 40 2 202 223 i b o 11 i v 0 i n 0 214 223 b 1 214 223 r + i n 0 - 224 245 r + i o 3 i c 4 1 i o 4 i v 0 i n 1 i n 1 i 1 0 i 40 2 264 285 i b o 11 i v 0 i n 0 276 285 b 1 276 285 r + i n 0 - 286 307 r + i o 3 i c 5 1 i o 4 i v 0 i n 1 i n 1 i 1 0 i 40 2 326 347 i b o 11 i v 0 i n 0 338 347 b 1 338 347 r + i n 0 - 348 369 r + i o 3 i c 6 1 i o 4 i v 0 i n 1 i n 1 i 1 0 i 40 2 388 409 i b o 11 i v 0 i n 0 400 409 b 1 400 409 r + i n 0 - 410 431 r + i o 3 i c 7 1 i o 4 i v 0 i n 1 i n 1 i 1 0 i 40 2 450 471 i b o 11 i v 0 i n 0 462 471 b 1 462 471 r + i n 0 - 472 493 r + i o 3 i c 8 1 i o 4 i v 0 i n 1 i n 1 i 1 0 i 40 2 512 533 i b o 11 i v 0 i n 0 524 533 b 1 524 533 r + i n 0 - 534 555 r + i o 3 i c 0 1 i o 4 i v 0 i n 1 i n 1",
         "failed 100 121",
     ),
+];
+
+pub const CONSTANTS: [(&str, &str); 2] = [
     // int C = 3 * 4; int f(int x) { return C + x + (x > 0); }
     (
         "16 8 5 0 1 n 1 0 1 12 1 i 1 0 i 40 1 30 53 r + i o 3 i o 3 i k 0 i v 0 i p i j b o 9 i v 0 i n 0",

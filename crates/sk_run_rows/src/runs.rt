@@ -1,17 +1,79 @@
 //! Runs beside what the reference says of them, and runs that nest deep.
 
 use crate::endings::ending;
-use crate::rows::ROWS;
+use crate::rows;
 use std::alloc::{AllocError, Global};
+use std::process::Abort;
 use std::test::Fail;
 
-#[test]
-fn runs_end_as_the_reference_says(rt: HostRuntime) -> Result<(), Fail> {
-    for (code, want) in ROWS {
-        let end = ending(rt.alloc(), code)?;
-        assert!(rt; end.as_slice() == want.as_bytes(), "{code}");
+/// Whether each run ends as the reference says.
+fn compare(rt: &impl Abort, alloc: Global, rows: &[(&str, &str)]) -> Result<(), Fail> {
+    for row in rows {
+        let end = ending(alloc, row.0)?;
+        let code = row.0;
+        assert!(rt; end.as_slice() == row.1.as_bytes(), "{code}");
     }
     Ok(())
+}
+
+#[test]
+fn numbers_wrap_at_each_width(rt: HostRuntime) -> Result<(), Fail> {
+    compare(&rt, rt.alloc(), &rows::WRAPPING)
+}
+
+#[test]
+fn quotients_are_truncated(rt: HostRuntime) -> Result<(), Fail> {
+    compare(&rt, rt.alloc(), &rows::DIVISION)
+}
+
+#[test]
+fn the_second_part_is_evaluated_where_it_is_needed(rt: HostRuntime) -> Result<(), Fail> {
+    compare(&rt, rt.alloc(), &rows::LOGIC)
+}
+
+#[test]
+fn arrays_of_bits_are_numbers(rt: HostRuntime) -> Result<(), Fail> {
+    compare(&rt, rt.alloc(), &rows::BITS)
+}
+
+#[test]
+fn arrays_are_values(rt: HostRuntime) -> Result<(), Fail> {
+    compare(&rt, rt.alloc(), &rows::ARRAYS)
+}
+
+#[test]
+fn references_are_shared(rt: HostRuntime) -> Result<(), Fail> {
+    compare(&rt, rt.alloc(), &rows::RECORDS)
+}
+
+#[test]
+fn targets_come_before_values(rt: HostRuntime) -> Result<(), Fail> {
+    compare(&rt, rt.alloc(), &rows::ORDERS)
+}
+
+#[test]
+fn ref_parameters_are_copied_back_in_order(rt: HostRuntime) -> Result<(), Fail> {
+    compare(&rt, rt.alloc(), &rows::REFS)
+}
+
+#[test]
+fn statements_end(rt: HostRuntime) -> Result<(), Fail> {
+    compare(&rt, rt.alloc(), &rows::STATEMENTS)
+}
+
+#[test]
+fn loops_end_at_the_bound(rt: HostRuntime) -> Result<(), Fail> {
+    compare(&rt, rt.alloc(), &rows::LOOPS)
+}
+
+#[test]
+fn calls_end_at_both_bounds(rt: HostRuntime) -> Result<(), Fail> {
+    compare(&rt, rt.alloc(), &rows::CALLS)
+}
+
+#[test]
+fn constants_and_bits_are_numbers(rt: HostRuntime) -> Result<(), Fail> {
+    compare(&rt, rt.alloc(), &rows::CONSTANTS)
 }
 
 /// What a call can stand in, written before a statement, before an expression and behind it.
@@ -70,12 +132,26 @@ fn deep(
     Ok(code)
 }
 
+fn ends(rt: &impl Abort, alloc: Global, nests: &[(&str, &str, &str)]) -> Result<(), Fail> {
+    for nest in nests {
+        let code = deep(alloc, "7", 100, *nest)?;
+        let end = ending(alloc, code.as_str())?;
+        assert!(rt; end.as_slice() == b"done + n 0 0 0".as_slice());
+    }
+    Ok(())
+}
+
 #[test]
 fn nested_runs_end(rt: HostRuntime) -> Result<(), Fail> {
-    for nest in NESTS {
-        let code = deep(rt.alloc(), "7", 100, nest)?;
-        let end = ending(rt.alloc(), code.as_str())?;
-        assert!(rt; end.as_slice() == b"done + n 0 0 0".as_slice());
+    ends(&rt, rt.alloc(), &NESTS)
+}
+
+fn end_or_leave(rt: &impl Abort, alloc: Global, nests: &[(&str, &str, &str)]) -> Result<(), Fail> {
+    for nest in nests {
+        let code = deep(alloc, "127", 250, *nest)?;
+        if let Ok(end) = ending(alloc, code.as_str()) {
+            assert!(rt; end.as_slice() == b"done + n 0 0 0".as_slice());
+        }
     }
     Ok(())
 }
@@ -83,11 +159,5 @@ fn nested_runs_end(rt: HostRuntime) -> Result<(), Fail> {
 // 128 calls, each 250 deep in its caller: where this is too deep, memory is wanting, and the process goes on.
 #[test]
 fn the_deepest_runs_leave_the_process(rt: HostRuntime) -> Result<(), Fail> {
-    for nest in NESTS {
-        let code = deep(rt.alloc(), "127", 250, nest)?;
-        if let Ok(end) = ending(rt.alloc(), code.as_str()) {
-            assert!(rt; end.as_slice() == b"done + n 0 0 0".as_slice());
-        }
-    }
-    Ok(())
+    end_or_leave(&rt, rt.alloc(), &NESTS)
 }
