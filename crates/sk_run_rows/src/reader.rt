@@ -10,7 +10,7 @@ use sk_prog::{
 use std::alloc::{AllocError, Global};
 
 /// How deep a program may be nested.
-const ROOM: u32 = 300;
+const ROOM: u32 = 600;
 
 #[derive(Drop)]
 pub struct Reader<'a> {
