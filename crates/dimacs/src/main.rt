@@ -4,15 +4,12 @@
 //! refutes the formula, and ends with status 0 or 1. A file in another form gets a message with its line, and status 1.
 #![tactic(auto)]
 
-mod read;
-mod show;
 mod solve;
 #[cfg(test)]
 mod tests;
 
-use crate::read::{Fault, read_clauses, read_log};
-use crate::show::{log_text, value_text};
 use crate::solve::{Verdict, solve};
+use dimacs_text::{Fault, log_text, read_clauses, read_log, value_text};
 use sk_clause::{Clauses, Log};
 use sk_rup::refutes;
 use std::process::ExitCode;

@@ -37,7 +37,7 @@ fn solver_of(alloc: Global, clauses: &Clauses) -> Result<Solver, AllocError>
 
 /// Whether the clauses can be met, with no budget. The only refusal is want of memory.
 pub fn solve(alloc: Global, clauses: &Clauses) -> Result<Found, AllocError>
-    ensures { IfOk result (λ f. IsVerdict clauses.now f.verdict) }
+    ensures { IfOk result (λ f. IsVerdict clauses.now f.verdict f.learnt) }
 {
     let mut solver = solver_of(alloc, clauses)?;
     let answer = solver.solve(0)?;
