@@ -7,6 +7,8 @@
 mod read;
 mod show;
 mod solve;
+#[cfg(test)]
+mod tests;
 
 use crate::read::{Fault, read_clauses, read_log};
 use crate::show::{log_text, value_text};

@@ -1,7 +1,7 @@
 // The reader of formulas and logs in the DIMACS format: a header `p cnf VARIABLES CLAUSES`, then clauses, each a row
 // of numbers ended by 0, in any lines. A number is a variable, from 1, or its negation. Lines that begin with `c` are
 // comments. A log has no header.
-ghost use Rattle.std.specs.Prelude.{◌↔◌, IsTrue};
+ghost use Rattle.std.specs.Prelude.{◌↔◌, ◌<◌, IsTrue, IfErr};
 ghost use Rattle.sk_clause.specs.Problem.{IsWithin};
 
 use sk_clause::{ClauseList, Clauses, Lit, Log};
@@ -176,8 +176,17 @@ fn last_flaw(clauses: &Clauses, clause: &[Lit], stated: Option<usize>) -> Option
     }
 }
 
-/// The clauses of a formula.
-pub fn read_clauses(alloc: Global, text: &str) -> Result<Clauses, Fault> {
+// The number of the line that ends a text of so many.
+fn last_line(lines: usize) -> usize
+    ensures { 0 < result }
+{
+    if lines == 0 { 1 } else { lines }
+}
+
+/// The clauses of a formula. A fault is in the line that is read when it shows, the last one at the end.
+pub fn read_clauses(alloc: Global, text: &str) -> Result<Clauses, Fault>
+    ensures { IfErr result (λ f. 0 < f.line) }
+{
     let mut clauses = Clauses::new(alloc);
     let mut clause: Vec<Lit> = Vec::new(alloc);
     let mut stated = None;
@@ -186,17 +195,27 @@ pub fn read_clauses(alloc: Global, text: &str) -> Result<Clauses, Fault> {
         number = number.saturating_add(1);
         match step(&mut clauses, &mut clause, stated, line) {
             Ok(so_far) => stated = so_far,
-            Err(flaw) => return Err(Fault { line: number, flaw }),
+            Err(flaw) => {
+                return Err(Fault {
+                    line: last_line(number),
+                    flaw,
+                });
+            }
         }
     }
     match last_flaw(&clauses, &clause, stated) {
-        Some(flaw) => Err(Fault { line: number, flaw }),
+        Some(flaw) => Err(Fault {
+            line: last_line(number),
+            flaw,
+        }),
         None => Ok(clauses),
     }
 }
 
 /// The clauses of a log.
-pub fn read_log(alloc: Global, text: &str) -> Result<Log, Fault> {
+pub fn read_log(alloc: Global, text: &str) -> Result<Log, Fault>
+    ensures { IfErr result (λ f. 0 < f.line) }
+{
     let mut log = ClauseList::new(alloc);
     let mut clause: Vec<Lit> = Vec::new(alloc);
     let mut number = 0usize;
@@ -205,13 +224,18 @@ pub fn read_log(alloc: Global, text: &str) -> Result<Log, Fault> {
         if !line.starts_with('c') {
             match take_log_line(&mut log, &mut clause, line) {
                 Ok(()) => {}
-                Err(flaw) => return Err(Fault { line: number, flaw }),
+                Err(flaw) => {
+                    return Err(Fault {
+                        line: last_line(number),
+                        flaw,
+                    });
+                }
             }
         }
     }
     if !clause.is_empty() {
         return Err(Fault {
-            line: number,
+            line: last_line(number),
             flaw: Flaw::NoEnd,
         });
     }

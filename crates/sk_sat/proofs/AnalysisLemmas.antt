@@ -76,6 +76,12 @@ kept_out vs kept l out f w h = record {
     | inl same ↦ subst (Contains (out ++ l ∷ [])) (same_var_fails vs l m f k same) (Contains-push out l)
     | inr before ↦ Contains-append_left out (l ∷ []) m (h.there m k before)
   ];
+  only = record {
+    each = λ v o. elim (set_cases kept l.var v w o) [
+      | inl same ↦ (l, Contains-push out l, sym same)
+      | inr before ↦ (let r = h.only.each v before in (r.0, Contains-append_left out (l ∷ []) r.0 r.1, r.2))
+    ];
+  };
 }
 
 pub kept_there : (vs : List (Option Bool)) (kept : List Bool) (l : Lit) (out : List Lit) → Fails vs l → is_open kept l ≡ true → IsKept vs kept out → Contains out l

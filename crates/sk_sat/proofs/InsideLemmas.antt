@@ -8,7 +8,7 @@ use Rattle.sk_clause.specs.Meaning.{Includes}
 use Rattle.sk_clause.proofs.MeaningLemmas.{Contains-none}
 use Rattle.sk_sat.specs.Round.{IsUnlike, IsInside}
 
-more_cases : {X : Type 0} (c : List X) (i : ℕ) (d m : X) → i < length c → Contains (take (i + 1) c) m → Contains (take i c) m ⊎ (get_or c i d ≡ m)
+pub more_cases : {X : Type 0} (c : List X) (i : ℕ) (d m : X) → i < length c → Contains (take (i + 1) c) m → Contains (take i c) m ⊎ (get_or c i d ≡ m)
 more_cases c i d m l h = Contains-push_cases (take i c) (get_or c i d) m (subst (λ y. Contains y m) (take_more c i d l) h)
 
 -- the literal is not one of these

@@ -4,12 +4,12 @@ use Rattle.std.specs.Prelude.{All, Contains}
 use Rattle.std.proofs.lemmas.List.{take_more, take_all}
 use Rattle.std.proofs.lemmas.List.Elements.{Contains-push_cases, Contains-push, Contains-append_left}
 use Rattle.sk_clause.specs.declared.lit.Lit.{Lit}
-use Rattle.sk_clause.specs.Meaning.{negated, Falsifies}
+use Rattle.sk_clause.specs.Meaning.{negated, Falsifies, denied}
 use Rattle.sk_clause.proofs.MeaningLemmas.{Contains-none}
 use Rattle.sk_clause.specs.Values.{Holds, Fails}
 use Rattle.sk_clause.proofs.ValueLemmas.{negated_holds, fails_from_negated, negated-negated, negated_fails}
 use Rattle.sk_sat.specs.Trail.{lit_at, Agrees, IsTrailOf}
-use Rattle.sk_sat.specs.Analysis.{level_at, is_open, marked_count, IsCovered, IsFalseIn, Absorbs, IsKept, IsFalsified, Pending, IsTurn, IsLesson}
+use Rattle.sk_sat.specs.Analysis.{level_at, is_open, marked_count, IsCovered, IsFalseIn, Absorbs, IsKept, IsFalsified, Pending, IsTurn, IsLesson, IsClean}
 use Rattle.sk_sat.proofs.AnalysisLemmas.{marked_count-clear, marked_count-set}
 use Rattle.sk_sat.proofs.ResolveLemmas.{pending_begins}
 
@@ -38,20 +38,16 @@ deepest_all level c i n l h = subst (λ x. IsDeepest level x n) (take_all i c l)
 
 pub ruleset depths = (deepest_begins, deepest_more, deepest_all)
 
-none_marked : (n v : ℕ) → get_or (replicate n false) v false ≡ true → ⊥
-none_marked zero v h = cc
-none_marked (suc n) zero h = cc
-none_marked (suc n) (suc v) h = none_marked n v h
+pub marked_count-clean : (marks : List Bool) → IsClean marks → marked_count marks ≡ 0
+marked_count-clean [] h = refl
+marked_count-clean (true ∷ ms) h = absurd (h.none 0 refl)
+marked_count-clean (false ∷ ms) h = marked_count-clean ms (record { none = λ v k. h.none (suc v) k })
 
-pub none_marked_in : (marks : List Bool) (n v : ℕ) → marks ≡ replicate n false → get_or marks v false ≡ true → ⊥
-none_marked_in marks n v e h = none_marked n v (subst (λ x. get_or x v false ≡ true) e h)
+pub none_marked : (marks : List Bool) → IsClean marks → (v : ℕ) → get_or marks v false ≡ true → ⊥
+none_marked marks h = h.none
 
-pub marked_count-replicate : (n : ℕ) → marked_count (replicate n false) ≡ 0
-marked_count-replicate zero = refl
-marked_count-replicate (suc n) = marked_count-replicate n
-
-pub kept_none : (vs : List (Option Bool)) (n : ℕ) → IsKept vs (replicate n false) []
-kept_none vs n = record { there = λ m f h. absurd (none_marked n m.var h) }
+pub kept_none : (vs : List (Option Bool)) (kept : List Bool) → IsClean kept → IsKept vs kept []
+kept_none vs kept h = record { there = λ m f k. absurd (h.none m.var k); only = record { each = λ v k. absurd (h.none v k) } }
 
 -- a literal of the depth was marked
 pub marked_some : (known : List (List Lit)) (vs : List (Option Bool)) (lv : List ℕ) (depth i : ℕ) (marks marks' : List Bool) (out' : List Lit) (m : Lit)
@@ -65,13 +61,14 @@ marked_some known vs lv depth i marks marks' out' m f some within deep a = elim 
   ]
 ]
 
-pub ruleset turns = (pending_begins, marked_some, marked_count-replicate, kept_none, none_marked_in)
+pub ruleset turns = (pending_begins, marked_some, marked_count-clean, kept_none, none_marked)
 
 pub lesson_from : (known : List (List Lit)) (vs : List (Option Bool)) (lv : List ℕ) (depth : ℕ) (out : List Lit) (u : Lit) (back : ℕ)
     → IsTurn known vs lv depth out u → 0 < depth → ((m : Lit) → Contains out m → level_at lv m ≤ back) → (0 < back → (m : Lit) × Contains out m × (level_at lv m ≡ back))
     → IsLesson known vs lv depth (out ++ negated u ∷ []) (negated u) back
 lesson_from known vs lv depth out u back t some most one = record {
-  follows = t.implied (out ++ negated u ∷ []) (Contains-push out (negated u)) (λ m h. Contains-append_left out (negated u ∷ []) m h);
+  follows = t.implied (out ++ negated u ∷ []) (Contains-push out (negated u))
+      (λ m h. denied (subst (Contains (out ++ negated u ∷ [])) (sym (negated-negated m)) (Contains-append_left out (negated u ∷ []) m h)));
   has = Contains-push out (negated u);
   fails = negated_fails vs u t.holds;
   deep = t.deep;

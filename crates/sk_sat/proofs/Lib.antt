@@ -2,6 +2,7 @@ pub mod AnalysisLemmas
 pub mod BeginLemmas
 pub mod CancelLemmas
 pub mod InsideLemmas
+pub mod KnownLemmas
 pub mod LessonLemmas
 pub mod NumberLemmas
 pub mod PropagateLemmas
@@ -12,3 +13,4 @@ pub mod SearchLemmas
 pub mod SettleLemmas
 pub mod SolverLemmas
 pub mod TrailLemmas
+pub mod TrimLemmas

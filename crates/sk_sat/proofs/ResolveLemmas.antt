@@ -10,7 +10,7 @@ use Rattle.sk_clause.proofs.MeaningLemmas.{Contains-none}
 use Rattle.sk_clause.specs.Values.{Holds, Fails, IsOpen, assigned}
 use Rattle.sk_clause.proofs.ValueLemmas.{negated_holds, fails_from_negated, same_var_holds, negated-negated, not_fails_holds}
 use Rattle.sk_sat.specs.Trail.{lit_at, Agrees, IsLeveled, IsReason, IsTrailOf}
-use Rattle.sk_sat.specs.Analysis.{level_at, is_open, marked_count, IsCovered, IsFalseIn, Absorbs, IsKept, IsFalsified, Pending, IsTurn}
+use Rattle.sk_sat.specs.Analysis.{level_at, is_open, marked_count, IsCovered, IsFalseIn, Absorbs, IsKept, IsFalsified, Pending, IsTurn, IsClean}
 use Rattle.sk_sat.proofs.AnalysisLemmas.{marked_count-clear, marked_one, marked_none}
 
 -- where a literal stands in a front of the trail
@@ -26,7 +26,7 @@ place ls m h = (h.0, h.1, get_or_default ls h.0 _ m h.1 ∙ h.2)
 
 module _ (known : List (List Lit)) (vs : List (Option Bool)) (lv rs : List ℕ) (ls : List Lit) (lims : List ℕ) (t : IsTrailOf known vs lv rs ls lims) where
   -- the other literals of a reason are false
-  others_fail : (r q : ℕ) (l : Lit) → q ≤ length ls → IsReason known r (take q ls) l → (w : Lit) → Contains (get_or known r []) w → w ≢ l → Fails vs w
+  pub others_fail : (r q : ℕ) (l : Lit) → q ≤ length ls → IsReason known r (take q ls) l → (w : Lit) → Contains (get_or known r []) w → w ≢ l → Fails vs w
   others_fail r q l h why w within other =
       let k = place_in_front ls q (negated w) h (why.others w within other) in
       fails_from_negated vs w (subst (Holds vs) k.3 (t.agrees.holds k.0 k.2))
@@ -150,12 +150,16 @@ module _ (known : List (List Lit)) (vs : List (Option Bool)) (lv rs : List ℕ) 
             | inr other ↦ absurd (marked_none (set marks (lit_at ls q).var false) m.var (omega (arith, marked_count-clear marks (lit_at ls q).var marked)) (get_or-set_other marks (lit_at ls q).var m.var false false other ∙ a))
           ]
           | inr b ↦ elim b [
-            | inl put ↦ denied (subst (Contains c) (sym (negated-negated m)) (all m put))
+            | inl put ↦ all m put
             | inr low ↦ zero_closure c m f low
           ]
         ]);
         outs = p.outs;
       }
+
+      -- and nothing is marked any more
+      pub turn_clean : marked_count marks ≡ 1 → IsClean (set marks (lit_at ls q).var false)
+      turn_clean one = record { none = λ v k. marked_none (set marks (lit_at ls q).var false) v (omega (arith, marked_count-clear marks (lit_at ls q).var marked)) k }
 
   pub pending_not_over : (marks : List Bool) (out : List Lit) → Pending known vs lv ls (length lims) 0 marks out → 0 < marked_count marks → ⊥
   pending_not_over marks out p some = let v = marked_one marks some in omega (arith, (p.placed v.0 v.2).1)

@@ -1,5 +1,6 @@
 -- The steps of the search.
-use Rattle.std.proofs.Common.{◌≡◌, ◌≢◌, ◌⊎◌, inl, inr, Bool, true, false, not, ℕ, zero, suc, ◌+◌, ◌-◌, ◌^◌, ◌<◌, ◌≤◌, ◌++◌, List, [], ◌∷◌, length, get_or, take, replicate, map, refl, sym, ◌∙◌, ap, arith, subst, Option, Some, None}
+use Rattle.std.proofs.Common.{◌≡◌, ◌≢◌, ◌⊎◌, inl, inr, Bool, true, false, not, ℕ, zero, suc, ◌+◌, ◌-◌, ◌*◌, ◌^◌, ◌<◌, ◌≤◌, ◌++◌, List, [], ◌∷◌, length, get_or, take, replicate, map, refl, sym, ◌∙◌, ap, arith, subst, Option, Some, None}
+use Rattle.std.proofs.Math.Nat.{suc-mul}
 use Rattle.std.specs.Prelude.{All, Contains, unwrap_or, if◌then◌else◌}
 use Rattle.std.proofs.lemmas.List.{length-replicate, append-nil, append_assoc, take-append-le, take_at, get_or_append_left, get_or_push, length_push, length-map}
 use Rattle.std.proofs.lemmas.List.Elements.{All-push, All-nil, Contains-append_left}
@@ -10,7 +11,7 @@ use Rattle.sk_clause.proofs.MeaningLemmas.{Contains-none, true_by}
 use Rattle.sk_clause.specs.Values.{signed, Holds, Fails, open_count}
 use Rattle.sk_clause.proofs.ValueLemmas.{none_holds}
 use Rattle.sk_sat.specs.declared.trail.Trail.{Trail}
-use Rattle.sk_sat.specs.Trail.{IsTrailOf, IsTrail, Agrees, IsLeveled, number, progress}
+use Rattle.sk_sat.specs.Trail.{IsTrailOf, IsTrail, Agrees, IsLeveled, number, progress, work, effort}
 use Rattle.sk_sat.specs.Round.{Adds, IsUnlike, IsMet, GoesOn}
 use Rattle.sk_sat.specs.Search.{IsUnspent}
 use Rattle.sk_clause.specs.Meaning.{IsConsistent, Includes, NoneIncludes}
@@ -128,10 +129,6 @@ met_all clauses known fresh vs bits e m b c within =
     let r = m.each c (subst (λ x. Contains x c) (sym e) (Contains-append_left clauses fresh c within)) in
     subst (λ x. clause_true (valuation x) c ≡ true) (sym b) (true_by (valuation (map (λ o. unwrap_or o false) vs)) c r.0 r.1 (holds_true vs r.0 r.2))
 
--- how much is left to do
-abbrev pub work : Trail → ℕ
-work t = (length t.values.items + 1) ^ (suc (length t.values.items)) - progress t
-
 pub work_falls : (known known' : List (List Lit)) (t t' : Trail) → IsTrail known' t' → length t'.values.items ≡ length t.values.items → progress t < progress t' → work t' < work t
 work_falls known known' t t' h e p =
     let n = length t'.values.items in
@@ -141,5 +138,39 @@ work_falls known known' t t' h e p =
     let l = number_lt (n + 1) n 0 t'.lims.items (length t'.lits.items) a r b in
     let f : (length t'.values.items + 1) ^ (suc (length t'.values.items)) ≡ (length t.values.items + 1) ^ (suc (length t.values.items)) = ap (λ k. (k + 1) ^ (suc k)) e in
     omega arith
+
+pub effort_falls : (left : ℕ) (t t' : Trail) → length t'.values.items ≡ length t.values.items → work t' < work t → effort left t' < effort left t
+effort_falls left t t' e h =
+    let f : left * suc ((length t'.values.items + 1) ^ (suc (length t'.values.items))) ≡ left * suc ((length t.values.items + 1) ^ (suc (length t.values.items))) = ap (λ k. left * suc ((k + 1) ^ (suc k))) e in
+    omega arith
+
+-- a restart costs less than what it takes from the restarts left
+pub effort_anew : (left left' : ℕ) (t t' : Trail) → left' + 1 ≡ left → length t'.values.items ≡ length t.values.items → effort left' t' ≤ effort left t
+effort_anew left left' t t' l e =
+    let top : ℕ = (length t.values.items + 1) ^ (suc (length t.values.items)) in
+    let f : left' * suc ((length t'.values.items + 1) ^ (suc (length t'.values.items))) ≡ left' * suc top = ap (λ k. left' * suc ((k + 1) ^ (suc k))) e in
+    let g : (length t'.values.items + 1) ^ (suc (length t'.values.items)) ≡ top = ap (λ k. (k + 1) ^ (suc k)) e in
+    let h : left * suc top ≡ suc left' * suc top = ap (λ k. k * suc top) (omega arith) in
+    omega (arith, suc-mul left' (suc top))
+
+-- as is a restart that had nothing to go back
+pub effort_same : (left left' : ℕ) (t : Trail) → left' + 1 ≡ left → effort left' t ≤ effort left t
+effort_same left left' t l = effort_anew left left' t t l refl
+
+pub searches_anew : (clauses : List (List Lit)) (vars budget : ℕ) (known fresh : List (List Lit)) (t t' : Trail) (left : ℕ)
+    → Searches clauses vars budget known fresh t left → IsTrail known t' → length t'.values.items ≡ length t.values.items → Searches clauses vars budget known fresh t' left
+searches_anew clauses vars budget known fresh t t' left s h e = record {
+  grown = s.grown;
+  each = s.each;
+  consistent = s.consistent;
+  unlike = s.unlike;
+  within = s.within;
+  on_trail = h;
+  long = e ∙ s.long;
+  endless = s.endless;
+  some = s.some;
+}
+
+pub ruleset restarts = (effort_anew, effort_same)
 
 pub ruleset searches = (searches_begin, searches_decided, searches_learnt, grown_added, each_added, consistent_added, within_added, spent_added, unspent, met_all, work_falls)

@@ -1,5 +1,5 @@
 -- What holds of the literals that are true so far, in the order in which they became so.
-use Rattle.std.specs.Prelude.{◌≡◌, ◌≢◌, ℕ, ◌+◌, ◌-◌, ◌*◌, ◌^◌, ◌<◌, ◌≤◌, Bool, false, Option, List, [], ◌∷◌, Contains, All, length, take}
+use Rattle.std.specs.Prelude.{◌≡◌, ◌≢◌, ℕ, suc, ◌+◌, ◌-◌, ◌*◌, ◌^◌, ◌<◌, ◌≤◌, Bool, false, Option, List, [], ◌∷◌, Contains, All, length, take}
 use Rattle.std.specs.List.{slice_index_or}
 use Rattle.std.proofs.Common.{◌⊎◌}
 use Rattle.sk_clause.specs.declared.lit.Lit.{Lit}
@@ -67,3 +67,11 @@ number base d from (x ∷ xs) len = (x - from) * base ^ d + number base (d - 1) 
 
 abbrev pub progress : Trail → ℕ
 progress t = number (length t.values.items + 1) (length t.values.items) 0 t.lims.items (length t.lits.items)
+
+-- how much is left to do before the next restart
+abbrev pub work : Trail → ℕ
+work t = (length t.values.items + 1) ^ (suc (length t.values.items)) - progress t
+
+-- how much is left to do where so many restarts may still come
+abbrev pub effort : ℕ → Trail → ℕ
+effort left t = left * suc ((length t.values.items + 1) ^ (suc (length t.values.items))) + work t

@@ -1,34 +1,66 @@
-// How much each variable was met in what was learnt, and its last value.
-use crate::trail::Trail;
-use sk_clause::{ClauseList, Lit};
+// How much each variable was met in conflicts, and its last sign.
+ghost use Rattle.std.specs.Prelude.{◌≡◌, ◌<◌, length, None, true, IfSome, slice_index_or};
+
+use sk_clause::Lit;
 use std::alloc::{AllocError, Global};
 
-/// Weights and last signs of the variables. No contract speaks of them: they only order the decisions.
+/// No place in the heap.
+const NONE: u32 = u32::MAX;
+
+/// Weights are scaled down where the step passes this.
+const LARGEST_STEP: u64 = 1 << 52;
+
+/// The binary digits that weights lose then.
+const SCALE: u32 = 32;
+
+/// The step before the first conflict.
+const FIRST_STEP: u64 = 1 << 20;
+
+/// Weights and last signs of the variables, and a heap of variables with the heaviest first. No contract speaks of
+/// them: they only order the decisions. A variable that is not in the heap is found by looking at all.
 #[derive(Drop)]
 pub struct Activity {
     weights: Vec<u64>,
     negative: Vec<bool>,
     step: u64,
+    heap: Vec<u32>,
+    /// Of each variable its place in the heap, or `NONE`.
+    places: Vec<u32>,
 }
-
-/// Weights are scaled down where the step passes this.
-const LARGEST_STEP: u64 = 1 << 40;
 
 // A sixteenth more, at least 1.
 fn grown(step: u64) -> u64 {
     step.saturating_add(step / 16).saturating_add(1)
 }
 
+// Whether a variable is there and has no value.
+fn is_free(values: &[Option<bool>], v: usize) -> bool
+    ensures { result ≡ true → (v < length values.now) × (slice_index_or values.now v None ≡ None) }
+{
+    if v >= values.len() {
+        return false;
+    }
+    values[v].is_none()
+}
+
 impl Activity {
-    /// No weights.
+    /// No weights, and all variables in the heap.
     pub fn new(alloc: Global, vars: usize) -> Result<Activity, AllocError> {
         let weights = vec![in alloc; 0; vars]?;
         let negative = vec![in alloc; true; vars]?;
-        Ok(Activity {
+        let places = vec![in alloc; NONE; vars]?;
+        let heap = Vec::with_capacity(alloc, vars)?;
+        let mut activity = Activity {
             weights,
             negative,
-            step: 1,
-        })
+            step: FIRST_STEP,
+            heap,
+            places,
+        };
+        for v in 0..vars {
+            activity.put(v);
+        }
+        Ok(activity)
     }
 
     /// The weight of a variable.
@@ -49,63 +81,154 @@ impl Activity {
         }
     }
 
-    // Keeps the values as the signs of later decisions.
-    fn save(&mut self, values: &[Option<bool>]) {
-        for v in 0..values.len() {
-            if let Some(b) = values[v] {
-                if v < self.negative.len() {
-                    self.negative[v] = !b;
-                }
-            }
+    // The variable at a place of the heap.
+    fn at(&self, place: usize) -> u32 {
+        if place < self.heap.len() {
+            self.heap[place]
+        } else {
+            NONE
         }
     }
 
-    // Adds the step to the weight of a variable.
-    fn bump(&mut self, v: usize) {
+    // Writes a variable to a place of the heap.
+    fn set_at(&mut self, place: usize, v: u32) {
+        if place < self.heap.len() && place < NONE as usize {
+            self.heap[place] = v;
+            self.set_place(v, place as u32);
+        }
+    }
+
+    // The place of a variable.
+    fn place(&self, v: usize) -> u32 {
+        if v < self.places.len() {
+            self.places[v]
+        } else {
+            NONE
+        }
+    }
+
+    fn set_place(&mut self, v: u32, place: u32) {
+        let v = v as usize;
+        if v < self.places.len() {
+            self.places[v] = place;
+        }
+    }
+
+    // Moves the variable at a place up to where none above it is lighter.
+    fn rise(&mut self, place: usize) {
+        let v = self.at(place);
+        let weight = self.weight(v as usize);
+        let mut hole = place;
+        'up: while hole > 0 {
+            let above = (hole - 1) / 2;
+            let u = self.at(above);
+            if self.weight(u as usize) >= weight {
+                break;
+            }
+            self.set_at(hole, u);
+            hole = above;
+        }
+        self.set_at(hole, v);
+    }
+
+    // Of the two places below one the place of the heavier variable.
+    fn heavier_below(&self, place: usize) -> usize {
+        let left = place.saturating_mul(2).saturating_add(1);
+        let right = left.saturating_add(1);
+        if right < self.heap.len()
+            && self.weight(self.at(left) as usize) < self.weight(self.at(right) as usize)
+        {
+            right
+        } else {
+            left
+        }
+    }
+
+    // Moves the variable at the front down to where none below it is heavier.
+    fn sink(&mut self) {
+        let v = self.at(0);
+        let weight = self.weight(v as usize);
+        let mut hole = 0;
+        for _ in 0..self.heap.len() {
+            let below = self.heavier_below(hole);
+            let u = self.at(below);
+            if below >= self.heap.len() || self.weight(u as usize) <= weight {
+                break;
+            }
+            self.set_at(hole, u);
+            hole = below;
+        }
+        self.set_at(hole, v);
+    }
+
+    // Puts a variable into the heap, if it is not there and there is room.
+    fn put(&mut self, v: usize) {
+        if v >= NONE as usize || self.place(v) != NONE {
+            return;
+        }
+        let place = self.heap.len();
+        if self.heap.push(v as u32).is_ok() {
+            self.set_at(place, v as u32);
+            self.rise(place);
+        }
+    }
+
+    // Takes the heaviest variable from the heap.
+    fn take(&mut self) -> Option<usize> {
+        let first = self.at(0);
+        let last = self.heap.pop()?;
+        self.set_place(first, NONE);
+        if !self.heap.is_empty() {
+            self.set_at(0, last);
+            self.sink();
+        }
+        Some(first as usize)
+    }
+
+    /// The heaviest variable of the heap that has no value. It and those before it leave the heap.
+    pub fn take_free(&mut self, values: &[Option<bool>]) -> Option<usize>
+        ensures { IfSome result (λ v. (v < length values.now) × (slice_index_or values.now v None ≡ None)) }
+    {
+        for _ in 0..self.heap.len() {
+            let v = self.take()?;
+            if is_free(values, v) {
+                return Some(v);
+            }
+        }
+        None
+    }
+
+    /// The literals from a place on lose their values: their signs are kept for later decisions, and their variables
+    /// are in the heap again.
+    pub fn release(&mut self, lits: &[Lit], begin: usize) {
+        for i in begin..lits.len() {
+            let l = lits[i];
+            if l.var < self.negative.len() {
+                self.negative[l.var] = l.neg;
+            }
+            self.put(l.var);
+        }
+    }
+
+    /// The variable was met in a conflict.
+    pub fn bump(&mut self, v: usize) {
         if v < self.weights.len() {
             self.weights[v] = self.weights[v].saturating_add(self.step);
-        }
-    }
-
-    // The variables of a clause gain weight, if there is one of this number.
-    fn bump_all(&mut self, known: &ClauseList, i: usize) {
-        if i < known.len() {
-            for l in known.get(i) {
-                self.bump(l.var);
+            let place = self.place(v);
+            if place != NONE {
+                self.rise(place as usize);
             }
         }
     }
 
-    // The variables of the reason of a variable gain weight, if it got its value at the last level.
-    fn bump_reason(&mut self, trail: &Trail, known: &ClauseList, v: usize) {
-        if v < trail.level.len() && v < trail.reason.len() && trail.level[v] == trail.lims.len() {
-            self.bump_all(known, trail.reason[v]);
-        }
-    }
-
-    /// The variables of a false clause, and those of the reasons of its last literals, gain weight, and the values are
-    /// kept as the signs of later decisions.
-    pub fn meet(&mut self, trail: &Trail, known: &ClauseList, i: usize) {
-        self.save(&trail.values);
-        self.bump_all(known, i);
-        if i < known.len() {
-            for l in known.get(i) {
-                self.bump_reason(trail, known, l.var);
-            }
-        }
-    }
-
-    /// The variables of a clause that was learnt gain weight, and later ones will gain more.
-    pub fn learn(&mut self, clause: &[Lit]) {
-        for l in clause {
-            self.bump(l.var);
-        }
+    /// A conflict is over: later ones will count for more.
+    pub fn end_conflict(&mut self) {
         self.step = grown(self.step);
         if self.step > LARGEST_STEP {
             for w in self.weights.iter_mut() {
-                *w = *w >> 30;
+                *w = *w >> SCALE;
             }
-            self.step = 1024;
+            self.step = self.step >> SCALE;
         }
     }
 }

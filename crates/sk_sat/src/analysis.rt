@@ -4,13 +4,16 @@ ghost use Rattle.sk_clause.specs.declared.lit.Lit.{Lit};
 ghost use Rattle.sk_clause.specs.Problem.{IsWithin, AreWithin};
 ghost use Rattle.sk_clause.specs.Values.{Holds, Fails, IsOpen, assigned};
 ghost use Rattle.sk_sat.specs.Trail.{IsTrailOf, IsTrail};
-ghost use Rattle.std.specs.Prelude.{false, replicate, max};
-ghost use Rattle.sk_sat.specs.Analysis.{Absorbs, IsKept, marked_count, Pending, IsTurn, IsFalsified, IsLesson, level_at};
+ghost use Rattle.std.specs.Prelude.{true, max};
+ghost use Rattle.sk_sat.specs.Analysis.{Absorbs, IsKept, marked_count, Pending, IsTurn, IsFalsified, IsLesson, IsClean, IsOnly, AreCovered, IsImplied, level_at};
 
+use crate::activity::Activity;
+use crate::known::Known;
 use crate::trail::Trail;
 use crate::values::value;
-use sk_clause::{ClauseList, Lit};
+use sk_clause::Lit;
 use std::alloc::{AllocError, Global};
+use std::marker::Model;
 
 /// Deals with a literal, if it is false: marks it where it is false at this depth, and else puts it out once.
 #[tactic(auto, using(crate::proofs::AnalysisLemmas::marks))]
@@ -22,6 +25,7 @@ fn absorb_one(
     marks: &mut [bool],
     kept: &mut [bool],
     out: &mut Vec<Lit>,
+    activity: &mut Activity,
     count: usize,
 ) -> Result<usize, AllocError>
     requires values { l.var < length values.now }
@@ -45,6 +49,7 @@ fn absorb_one(
         }
         prove!(count < marks.len());
         marks[l.var] = true;
+        activity.bump(l.var);
         return Ok(count + 1);
     }
     if at == 0 {
@@ -55,6 +60,7 @@ fn absorb_one(
     }
     out.push(l)?;
     kept[l.var] = true;
+    activity.bump(l.var);
     Ok(count)
 }
 
@@ -68,6 +74,7 @@ fn absorb(
     marks: &mut [bool],
     kept: &mut [bool],
     out: &mut Vec<Lit>,
+    activity: &mut Activity,
     count: usize,
 ) -> Result<usize, AllocError>
     requires values { IsWithin (length values.now) clause.now }
@@ -83,7 +90,7 @@ fn absorb(
 {
     let mut count = count;
     for l in clause {
-        count = absorb_one(values, level, depth, *l, marks, kept, out, count)?;
+        count = absorb_one(values, level, depth, *l, marks, kept, out, activity, count)?;
     }
     Ok(count)
 }
@@ -95,10 +102,11 @@ fn resolve(
     reason: &[usize],
     lits: &[Lit],
     lims: &[usize],
-    known: &ClauseList,
+    known: &Known,
     marks: &mut [bool],
     kept: &mut [bool],
     out: &mut Vec<Lit>,
+    activity: &mut Activity,
     count: usize,
 ) -> Result<Lit, AllocError>
     requires trail { IsTrailOf known.now values.now level.now reason.now lits.now lims.now }
@@ -109,7 +117,9 @@ fn resolve(
     requires out { IsKept values.now kept.old out.old.items }
     requires count { count ≡ marked_count marks.old }
     requires some { 0 < count }
-    ensures { IfOk result (λ u. IsTurn known.now values.now level.now (length lims.now) out.new.items u) }
+    ensures turn { IfOk result (λ u. IsTurn known.now values.now level.now (length lims.now) out.new.items u) }
+    ensures kept { OnOk result (IsKept values.now kept.new out.new.items) }
+    ensures clean { OnOk result (IsClean marks.new) }
 {
     let depth = lims.len();
     let mut count = count;
@@ -123,7 +133,17 @@ fn resolve(
                 return Ok(t);
             }
             let clause = known.get(reason[t.var]);
-            count = absorb(values, level, depth, clause, marks, kept, out, count - 1)?;
+            count = absorb(
+                values,
+                level,
+                depth,
+                clause,
+                marks,
+                kept,
+                out,
+                activity,
+                count - 1,
+            )?;
         }
     }
     unreachable!()
@@ -150,53 +170,204 @@ pub fn deepest(level: &[usize], clause: &[Lit]) -> usize
     deepest
 }
 
-/// What a conflict teaches.
-#[derive(Drop)]
-pub struct Lesson {
-    pub clause: Vec<Lit>,
-    pub turn: Lit,
-    pub back: usize,
-}
-
-/// What a conflict at the last level teaches.
-#[tactic(auto, using(crate::proofs::LessonLemmas::lessons))]
-pub fn analyze(
-    alloc: Global,
-    trail: &Trail,
-    known: &ClauseList,
-    conflict: usize,
-) -> Result<Lesson, AllocError>
-    requires trail { IsTrail known.now trail.now }
-    requires within { AreWithin (length trail.now.values.items) known.now }
-    requires conflict { IsFalsified known.now trail.now.values.items conflict }
-    requires deep { (m : Lit) × Contains (slice_index_or known.now conflict []) m × (level_at trail.now.level.items m ≡ length trail.now.lims.items) }
-    requires some { 0 < length trail.now.lims.items }
-    ensures { IfOk result (λ lesson. IsLesson known.now trail.now.values.items trail.now.level.items (length trail.now.lims.items) lesson.clause.items lesson.turn lesson.back) }
+// Whether each other literal of a clause is false at level 0, or kept.
+#[tactic(auto, using(crate::proofs::TrimLemmas::covers))]
+fn is_covered(level: &[usize], kept: &[bool], clause: &[Lit], l: Lit) -> bool
+    requires { length kept.now ≡ length level.now }
+    ensures { result ≡ true → AreCovered level.now kept.now clause.now l }
 {
-    let vars = trail.values.len();
-    let mut marks: Vec<bool> = vec![in alloc; false; vars]?;
-    let mut kept: Vec<bool> = vec![in alloc; false; vars]?;
-    let mut out: Vec<Lit> = Vec::new(alloc);
-    let (turn, back) = lesson_of(
-        &trail.values,
-        &trail.level,
-        &trail.reason,
-        &trail.lits,
-        &trail.lims,
-        known,
-        conflict,
-        &mut marks,
-        &mut kept,
-        &mut out,
-    )?;
-    Ok(Lesson {
-        clause: out,
-        turn,
-        back,
-    })
+    for m in clause {
+        if m.var != l.var {
+            if m.var >= level.len() || (level[m.var] != 0 && !kept[m.var]) {
+                return false;
+            }
+        }
+    }
+    true
 }
 
-// The lesson's literals in `out`; its literal of this depth, and the depth of the others.
+// Whether the other literals that were put out, and those of level 0, force the negation of one that was put out.
+fn is_implied(
+    values: &[Option<bool>],
+    level: &[usize],
+    reason: &[usize],
+    lits: &[Lit],
+    lims: &[usize],
+    known: &Known,
+    kept: &[bool],
+    l: Lit,
+) -> bool
+    requires trail { IsTrailOf known.now values.now level.now reason.now lits.now lims.now }
+    requires fails { Fails values.now l }
+    requires kept { length kept.now ≡ length values.now }
+    ensures { result ≡ true → IsImplied known.now reason.now level.now lits.now kept.now l }
+{
+    if l.var >= level.len() || l.var >= reason.len() {
+        return false;
+    }
+    let at = level[l.var];
+    if at == 0 || at > lims.len() {
+        return false;
+    }
+    let begin = lims[at - 1];
+    let id = reason[l.var];
+    if begin >= lits.len() || lits[begin].var == l.var || id >= known.len() {
+        return false;
+    }
+    is_covered(level, kept, known.get(id), l)
+}
+
+// The literals put out but for those that the others force.
+#[tactic(auto, using(crate::proofs::TrimLemmas::trims))]
+fn trim(
+    values: &[Option<bool>],
+    level: &[usize],
+    reason: &[usize],
+    lits: &[Lit],
+    lims: &[usize],
+    known: &Known,
+    kept: &[bool],
+    out: &[Lit],
+    slim: &mut Vec<Lit>,
+    turn: Lit,
+) -> Result<(), AllocError>
+    requires trail { IsTrailOf known.now values.now level.now reason.now lits.now lims.now }
+    requires kept { IsKept values.now kept.now out.now }
+    requires long { length kept.now ≡ length values.now }
+    requires turn { IsTurn known.now values.now level.now (length lims.now) out.now turn }
+    ensures { OnOk result (IsTurn known.now values.now level.now (length lims.now) slim.new.items turn) }
+{
+    slim.clear();
+    for l in out {
+        if !is_implied(values, level, reason, lits, lims, known, kept, *l) {
+            slim.push(*l)?;
+        }
+    }
+    Ok(())
+}
+
+// Takes the marks of the literals that were put out.
+#[tactic(auto, using(crate::proofs::TrimLemmas::releases))]
+fn release(kept: &mut [bool], out: &[Lit])
+    requires { IsOnly kept.old out.now }
+    ensures { IsClean kept.new }
+{
+    for l in out {
+        if l.var < kept.len() {
+            kept[l.var] = false;
+        }
+    }
+}
+
+// Takes all marks.
+#[tactic(auto, using(crate::proofs::TrimLemmas::wipes))]
+fn wipe(marks: &mut [bool])
+    ensures { IsClean marks.new }
+{
+    for m in marks.iter_mut() {
+        *m = false;
+    }
+}
+
+// Marks of which none is set.
+#[tactic(auto, using(crate::proofs::TrimLemmas::wipes))]
+fn no_marks(alloc: Global, vars: usize) -> Result<Vec<bool>, AllocError>
+    ensures clean { IfOk result (λ v. IsClean v.items) }
+    ensures long { IfOk result (λ v. length v.items ≡ vars) }
+{
+    vec![in alloc; false; vars]
+}
+
+/// What a conflict teaches, and what is needed to find it, which is kept from one conflict to the next. Contracts see
+/// the clause that the last conflict taught.
+#[derive(Drop)]
+pub struct Lessons {
+    alloc: Global,
+    marks: Vec<bool>,
+    kept: Vec<bool>,
+    out: Vec<Lit>,
+    clause: Vec<Lit>,
+}
+
+impl Model for Lessons {
+    ghost use Rattle.std.specs.Prelude.{List};
+    ghost use Rattle.sk_clause.specs.declared.lit.Lit.{Lit};
+    ghost use Rattle.sk_sat.specs.Analysis.{IsClean};
+
+    ghost Value = { List Lit };
+
+    ghost view = { λ a. a.clause.items };
+
+    ghost invariant = { λ a. IsClean a.marks.items × IsClean a.kept.items };
+}
+
+impl Lessons {
+    /// Marks for so many variables, of which none is set.
+    pub fn new(alloc: Global, vars: usize) -> Result<Lessons, AllocError> {
+        let marks = no_marks(alloc, vars)?;
+        let kept = no_marks(alloc, vars)?;
+        Ok(Lessons {
+            alloc,
+            marks,
+            kept,
+            out: Vec::new(alloc),
+            clause: Vec::new(alloc),
+        })
+    }
+
+    /// The clause that the last conflict taught.
+    pub fn clause(&self) -> &[Lit]
+        ensures { result.now ≡ self.now }
+    {
+        &self.clause
+    }
+
+    /// What a conflict at the last level teaches: the literal that the clause forces, and the level of the others.
+    pub fn analyze(
+        &mut self,
+        trail: &Trail,
+        known: &Known,
+        activity: &mut Activity,
+        conflict: usize,
+    ) -> Result<(Lit, usize), AllocError>
+        requires trail { IsTrail known.now trail.now }
+        requires within { AreWithin (length trail.now.values.items) known.now }
+        requires conflict { IsFalsified known.now trail.now.values.items conflict }
+        requires deep { (m : Lit) × Contains (slice_index_or known.now conflict []) m × (level_at trail.now.level.items m ≡ length trail.now.lims.items) }
+        requires some { 0 < length trail.now.lims.items }
+        ensures { IfOk result (λ r. IsLesson known.now trail.now.values.items trail.now.level.items (length trail.now.lims.items) self.new r.0 r.1) }
+    {
+        let vars = trail.values.len();
+        if self.marks.len() != vars || self.kept.len() != vars {
+            self.marks = no_marks(self.alloc, vars)?;
+            self.kept = no_marks(self.alloc, vars)?;
+        }
+        let lesson = lesson_of(
+            &trail.values,
+            &trail.level,
+            &trail.reason,
+            &trail.lits,
+            &trail.lims,
+            known,
+            conflict,
+            &mut self.marks,
+            &mut self.kept,
+            &mut self.out,
+            &mut self.clause,
+            activity,
+        );
+        match lesson {
+            Ok(r) => Ok(r),
+            Err(e) => {
+                wipe(&mut self.marks);
+                wipe(&mut self.kept);
+                Err(e)
+            }
+        }
+    }
+}
+
+// The lesson in `slim`; its literal of this depth, and the depth of the others.
 #[tactic(auto, using(crate::proofs::LessonLemmas::lessons))]
 fn lesson_of(
     values: &[Option<bool>],
@@ -204,28 +375,37 @@ fn lesson_of(
     reason: &[usize],
     lits: &[Lit],
     lims: &[usize],
-    known: &ClauseList,
+    known: &Known,
     conflict: usize,
     marks: &mut [bool],
     kept: &mut [bool],
     out: &mut Vec<Lit>,
+    slim: &mut Vec<Lit>,
+    activity: &mut Activity,
 ) -> Result<(Lit, usize), AllocError>
     requires trail { IsTrailOf known.now values.now level.now reason.now lits.now lims.now }
     requires within { AreWithin (length values.now) known.now }
     requires conflict { IsFalsified known.now values.now conflict }
     requires deep { (m : Lit) × Contains (slice_index_or known.now conflict []) m × (level_at level.now m ≡ length lims.now) }
     requires some { 0 < length lims.now }
-    requires marks { marks.old ≡ replicate (length values.now) false }
-    requires kept { kept.old ≡ replicate (length values.now) false }
-    requires out { out.old.items ≡ [] }
-    ensures { IfOk result (λ r. IsLesson known.now values.now level.now (length lims.now) out.new.items r.0 r.1) }
+    requires marks_long { length marks.old ≡ length values.now }
+    requires kept_long { length kept.old ≡ length values.now }
+    requires marks { IsClean marks.old }
+    requires kept { IsClean kept.old }
+    ensures lesson { IfOk result (λ r. IsLesson known.now values.now level.now (length lims.now) slim.new.items r.0 r.1) }
+    ensures marks { OnOk result (IsClean marks.new) }
+    ensures kept { OnOk result (IsClean kept.new) }
 {
     let turn = turn_of(
-        values, level, reason, lits, lims, known, conflict, marks, kept, out,
+        values, level, reason, lits, lims, known, conflict, marks, kept, out, activity,
     )?;
-    let back = deepest(level, out);
+    trim(
+        values, level, reason, lits, lims, known, kept, out, slim, turn,
+    )?;
+    release(kept, out);
+    let back = deepest(level, slim);
     let turn = turn.negate();
-    out.push(turn)?;
+    slim.push(turn)?;
     Ok((turn, back))
 }
 
@@ -237,25 +417,40 @@ fn turn_of(
     reason: &[usize],
     lits: &[Lit],
     lims: &[usize],
-    known: &ClauseList,
+    known: &Known,
     conflict: usize,
     marks: &mut [bool],
     kept: &mut [bool],
     out: &mut Vec<Lit>,
+    activity: &mut Activity,
 ) -> Result<Lit, AllocError>
     requires trail { IsTrailOf known.now values.now level.now reason.now lits.now lims.now }
     requires within { AreWithin (length values.now) known.now }
     requires conflict { IsFalsified known.now values.now conflict }
     requires deep { (m : Lit) × Contains (slice_index_or known.now conflict []) m × (level_at level.now m ≡ length lims.now) }
     requires some { 0 < length lims.now }
-    requires marks { marks.old ≡ replicate (length values.now) false }
-    requires kept { kept.old ≡ replicate (length values.now) false }
-    requires out { out.old.items ≡ [] }
-    ensures { IfOk result (λ u. IsTurn known.now values.now level.now (length lims.now) out.new.items u) }
+    requires marks_long { length marks.old ≡ length values.now }
+    requires kept_long { length kept.old ≡ length values.now }
+    requires marks { IsClean marks.old }
+    requires kept { IsClean kept.old }
+    ensures turn { IfOk result (λ u. IsTurn known.now values.now level.now (length lims.now) out.new.items u) }
+    ensures kept { OnOk result (IsKept values.now kept.new out.new.items) }
+    ensures clean { OnOk result (IsClean marks.new) }
 {
+    out.clear();
     let clause = known.get(conflict);
-    let count = absorb(values, level, lims.len(), clause, marks, kept, out, 0)?;
+    let count = absorb(
+        values,
+        level,
+        lims.len(),
+        clause,
+        marks,
+        kept,
+        out,
+        activity,
+        0,
+    )?;
     resolve(
-        values, level, reason, lits, lims, known, marks, kept, out, count,
+        values, level, reason, lits, lims, known, marks, kept, out, activity, count,
     )
 }

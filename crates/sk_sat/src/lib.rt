@@ -4,7 +4,10 @@
 
 mod activity;
 mod analysis;
+mod codes;
+mod known;
 mod propagate;
+mod restarts;
 mod round;
 mod search;
 mod settle;

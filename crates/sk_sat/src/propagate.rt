@@ -6,9 +6,10 @@ ghost use Rattle.sk_sat.specs.Trail.{IsTrail, Extends};
 ghost use Rattle.sk_sat.specs.Analysis.{IsFalsified};
 ghost use Rattle.sk_sat.specs.declared.propagate.Look.TheVariants.{Falsified};
 
+use crate::known::Known;
 use crate::trail::Trail;
 use crate::values::{Scan, scan_of};
-use sk_clause::{ClauseList, Lit};
+use sk_clause::Lit;
 use std::alloc::AllocError;
 
 /// What a look at a clause came to.
@@ -24,7 +25,7 @@ pub enum Look {
 
 /// Looks at a clause, and makes its literal true where only one is left.
 #[tactic(auto, using(crate::proofs::PropagateLemmas::looks))]
-pub fn look_at(trail: &mut Trail, known: &ClauseList, i: usize) -> Result<Look, AllocError>
+pub fn look_at(trail: &mut Trail, known: &Known, i: usize) -> Result<Look, AllocError>
     requires trail { IsTrail known.now trail.old }
     requires within { AreWithin (length trail.old.values.items) known.now }
     requires i { i < length known.now }

@@ -8,12 +8,14 @@ ghost use Rattle.sk_sat.specs.Analysis.{IsFalsified};
 ghost use Rattle.sk_sat.specs.Round.{IsRound, IsFree, IsMet};
 
 use crate::activity::Activity;
+use crate::analysis::Lessons;
+use crate::known::Known;
 use crate::settle::{Step, settle};
 use crate::trail::Trail;
 use crate::values::{Scan, scan_of};
 use crate::watches::Watches;
 use sk_clause::{ClauseList, Lit};
-use std::alloc::{AllocError, Global};
+use std::alloc::AllocError;
 
 /// What a round came to.
 #[derive(Clone, Copy, Debug)]
@@ -55,7 +57,7 @@ fn better(values: &[Option<bool>], activity: &Activity, i: usize, best: Option<L
     }
 }
 
-/// A literal whose variable has no value and most weight, if there is one.
+// A literal whose variable has no value and most weight, if there is one: looks at all variables.
 #[tactic(auto, using(crate::proofs::RoundLemmas::picks))]
 fn pick(values: &[Option<bool>], activity: &Activity) -> Option<Lit>
     ensures free { IfSome result (IsFree values.now) }
@@ -68,9 +70,23 @@ fn pick(values: &[Option<bool>], activity: &Activity) -> Option<Lit>
     best
 }
 
+/// A literal whose variable has no value, if there is one: of the heaviest variable in the heap, or else of any.
+fn choose(values: &[Option<bool>], activity: &mut Activity) -> Option<Lit>
+    ensures free { IfSome result (IsFree values.now) }
+    ensures full { IfNone result ((l : Lit) → l.var < length values.now → IsOpen values.now l → ⊥) }
+{
+    match activity.take_free(values) {
+        Some(v) => Some(Lit {
+            var: v,
+            neg: activity.is_negative(v),
+        }),
+        None => pick(values, activity),
+    }
+}
+
 /// The first clause that is false, where each variable has a value.
 #[tactic(auto, using(crate::proofs::RoundLemmas::fulls))]
-fn first_false(values: &[Option<bool>], known: &ClauseList) -> Option<usize>
+fn first_false(values: &[Option<bool>], known: &Known) -> Option<usize>
     requires full { (l : Lit) → l.var < length values.now → IsOpen values.now l → ⊥ }
     requires within { AreWithin (length values.now) known.now }
     ensures falsified { IfSome result (IsFalsified known.now values.now) }
@@ -89,10 +105,11 @@ fn first_false(values: &[Option<bool>], known: &ClauseList) -> Option<usize>
 // Deals with a conflict.
 #[tactic(auto, using(crate::proofs::SettleLemmas::resolutions))]
 fn resolve_all(
-    alloc: Global,
     trail: &mut Trail,
-    known: &mut ClauseList,
+    known: &mut Known,
     fresh: &mut ClauseList,
+    lessons: &mut Lessons,
+    activity: &mut Activity,
     strict: bool,
     i: usize,
 ) -> Result<Round, AllocError>
@@ -101,7 +118,7 @@ fn resolve_all(
     requires conflict { IsFalsified known.old trail.old.values.items i }
     ensures { IfOk result (IsRound strict known.old known.new fresh.old fresh.new trail.old trail.new) }
 {
-    match settle(alloc, trail, known, fresh, strict, i)? {
+    match settle(trail, known, fresh, lessons, activity, strict, i)? {
         Step::Learnt => Ok(Round::Learnt),
         Step::Forced => Ok(Round::Moved),
         Step::Refuted => Ok(Round::Refuted),
@@ -112,11 +129,11 @@ fn resolve_all(
 /// A round: propagates, and then learns or decides. With `strict` no clause is learnt that includes a known one.
 #[tactic(auto, using(crate::proofs::SettleLemmas::rounds))]
 pub fn round_of(
-    alloc: Global,
     trail: &mut Trail,
-    known: &mut ClauseList,
+    known: &mut Known,
     fresh: &mut ClauseList,
     watches: &mut Watches,
+    lessons: &mut Lessons,
     activity: &mut Activity,
     strict: bool,
 ) -> Result<Round, AllocError>
@@ -125,18 +142,17 @@ pub fn round_of(
     ensures { IfOk result (IsRound strict known.old known.new fresh.old fresh.new trail.old trail.new) }
 {
     if let Some(i) = watches.propagate(trail, known)? {
-        activity.meet(trail, known, i);
-        let round = resolve_all(alloc, trail, known, fresh, strict, i)?;
+        let round = resolve_all(trail, known, fresh, lessons, activity, strict, i)?;
         return Ok(round);
     }
-    match pick(&trail.values, activity) {
+    match choose(&trail.values, activity) {
         Some(l) => {
             trail.decide(l)?;
             Ok(Round::Moved)
         }
         None => match first_false(&trail.values, known) {
             Some(i) => {
-                let round = resolve_all(alloc, trail, known, fresh, strict, i)?;
+                let round = resolve_all(trail, known, fresh, lessons, activity, strict, i)?;
                 Ok(round)
             }
             None => Ok(Round::Full),

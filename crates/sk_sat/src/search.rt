@@ -6,6 +6,9 @@ ghost use Rattle.sk_clause.specs.Meaning.{EachFollows, IsConsistent};
 ghost use Rattle.sk_sat.specs.Search.{IsOutcome};
 
 use crate::activity::Activity;
+use crate::analysis::Lessons;
+use crate::known::Known;
+use crate::restarts::{Restarts, begin_anew};
 use crate::round::{Round, round_of};
 use crate::trail::Trail;
 use crate::watches::Watches;
@@ -37,17 +40,17 @@ fn is_limited(budget: u64) -> bool
     budget > 0
 }
 
-// Watches the last clause, and its variables gain weight.
+// Watches the last clause, and ends the conflict that taught it.
 fn learn_last(
     watches: &mut Watches,
     activity: &mut Activity,
-    known: &ClauseList,
+    known: &Known,
     level: &[usize],
 ) -> Result<(), AllocError> {
     let n = known.len();
     if n > 0 {
         watches.learn(known.get(n - 1), level)?;
-        activity.learn(known.get(n - 1));
+        activity.end_conflict();
     }
     Ok(())
 }
@@ -58,7 +61,7 @@ fn learn_last(
 pub fn search(
     alloc: Global,
     vars: usize,
-    known: &mut ClauseList,
+    known: &mut Known,
     fresh: &mut ClauseList,
     budget: u64,
 ) -> Result<Outcome, AllocError>
@@ -73,15 +76,17 @@ pub fn search(
     let mut trail = Trail::new(alloc, vars)?;
     let mut watches = Watches::new(alloc, vars)?;
     let mut activity = Activity::new(alloc, vars)?;
+    let mut lessons = Lessons::new(alloc, vars)?;
+    let mut restarts = Restarts::new();
     let strict = is_limited(budget);
     let mut left = budget;
     'rounds: loop {
         match round_of(
-            alloc,
             &mut trail,
             known,
             fresh,
             &mut watches,
+            &mut lessons,
             &mut activity,
             strict,
         )? {
@@ -94,6 +99,7 @@ pub fn search(
                 }
                 left = left.saturating_sub(1);
                 learn_last(&mut watches, &mut activity, known, &trail.level)?;
+                begin_anew(&mut trail, &mut activity, &mut restarts);
             }
         }
     }

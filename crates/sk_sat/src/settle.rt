@@ -7,10 +7,12 @@ ghost use Rattle.sk_sat.specs.Trail.{IsTrail, IsBack};
 ghost use Rattle.sk_sat.specs.Analysis.{IsFalsified, IsLesson, level_at};
 ghost use Rattle.sk_sat.specs.Round.{IsStep, IsDeep, IsConflictDepth, IsUnlike, IsInside, Learns, StepsOn, FallsBack};
 
-use crate::analysis::{analyze, deepest};
+use crate::activity::Activity;
+use crate::analysis::{Lessons, deepest};
+use crate::known::{Known, has};
 use crate::trail::Trail;
 use sk_clause::{ClauseList, Lit};
-use std::alloc::{AllocError, Global};
+use std::alloc::AllocError;
 
 /// What dealing with one conflict came to.
 #[derive(Clone, Copy, Debug)]
@@ -25,53 +27,13 @@ pub enum Step {
     Again(usize),
 }
 
-// Whether a clause has a literal.
-#[tactic(auto, using(crate::proofs::InsideLemmas::holders))]
-fn has(clause: &[Lit], l: Lit) -> bool
-    ensures { IsTrue result ↔ Contains clause.now l }
-{
-    for m in clause {
-        if m.is(l) {
-            return true;
-        }
-    }
-    false
-}
-
-// Whether a clause has each literal of another.
-#[tactic(auto, using(crate::proofs::InsideLemmas::includers))]
-fn includes(clause: &[Lit], other: &[Lit]) -> bool
-    ensures { IsTrue result ↔ Includes clause.now other.now }
-{
-    for m in other {
-        if !has(clause, *m) {
-            return false;
-        }
-    }
-    true
-}
-
-// A known clause that a clause includes.
-#[tactic(auto, using(crate::proofs::InsideLemmas::finders))]
-fn find_inside(known: &ClauseList, clause: &[Lit]) -> Option<usize>
-    ensures some { IfSome result (IsInside known.now clause.now) }
-    ensures none { IfNone result (IsUnlike known.now clause.now) }
-{
-    for j in 0..known.len() {
-        if includes(clause, known.get(j)) {
-            return Some(j);
-        }
-    }
-    None
-}
-
 // A known clause that a clause includes, where repeats are not wanted.
-fn find_repeated(strict: bool, known: &ClauseList, clause: &[Lit]) -> Option<usize>
+fn find_repeated(strict: bool, known: &Known, clause: &[Lit]) -> Option<usize>
     ensures some { IfSome result (IsInside known.now clause.now) }
     ensures none { IfNone result (strict ≡ true → IsUnlike known.now clause.now) }
 {
     if strict {
-        return find_inside(known, clause);
+        return known.find_inside(clause);
     }
     None
 }
@@ -79,8 +41,9 @@ fn find_repeated(strict: bool, known: &ClauseList, clause: &[Lit]) -> Option<usi
 // Adds the lesson, and goes back to where it forces a literal.
 fn heed(
     trail: &mut Trail,
-    known: &mut ClauseList,
+    known: &mut Known,
     fresh: &mut ClauseList,
+    activity: &mut Activity,
     strict: bool,
     clause: &[Lit],
     turn: Lit,
@@ -91,7 +54,7 @@ fn heed(
     requires unlike { strict ≡ true → IsUnlike known.old clause.now }
     ensures { OnOk result (Learns strict known.old known.new fresh.old fresh.new trail.old trail.new) }
 {
-    trail.cancel(back);
+    trail.cancel(back, activity);
     let id = known.len();
     known.push(clause)?;
     fresh.push(clause)?;
@@ -102,7 +65,8 @@ fn heed(
 // Goes back to where known clause j, which the lesson includes, forces a literal or is false. Whether it is false.
 fn repeat(
     trail: &mut Trail,
-    known: &ClauseList,
+    known: &Known,
+    activity: &mut Activity,
     clause: &[Lit],
     turn: Lit,
     back: usize,
@@ -114,7 +78,7 @@ fn repeat(
     ensures falls { IfOk result (λ b. b ≡ true → FallsBack known.now j trail.old trail.new) }
     ensures steps { IfOk result (λ b. b ≡ false → StepsOn known.now trail.old trail.new) }
 {
-    trail.cancel(back);
+    trail.cancel(back, activity);
     if !has(known.get(j), turn) {
         return Ok(true);
     }
@@ -125,8 +89,9 @@ fn repeat(
 // Learns the lesson, or finds that a known clause says as much.
 fn conclude(
     trail: &mut Trail,
-    known: &mut ClauseList,
+    known: &mut Known,
     fresh: &mut ClauseList,
+    activity: &mut Activity,
     strict: bool,
     clause: &[Lit],
     turn: Lit,
@@ -138,11 +103,11 @@ fn conclude(
 {
     match find_repeated(strict, known, clause) {
         None => {
-            heed(trail, known, fresh, strict, clause, turn, back)?;
+            heed(trail, known, fresh, activity, strict, clause, turn, back)?;
             Ok(Step::Learnt)
         }
         Some(j) => {
-            if repeat(trail, known, clause, turn, back, j)? {
+            if repeat(trail, known, activity, clause, turn, back, j)? {
                 return Ok(Step::Again(j));
             }
             Ok(Step::Forced)
@@ -152,10 +117,11 @@ fn conclude(
 
 // Deals with a conflict at the last level.
 fn learn(
-    alloc: Global,
     trail: &mut Trail,
-    known: &mut ClauseList,
+    known: &mut Known,
     fresh: &mut ClauseList,
+    lessons: &mut Lessons,
+    activity: &mut Activity,
     strict: bool,
     conflict: usize,
 ) -> Result<Step, AllocError>
@@ -166,22 +132,23 @@ fn learn(
     requires some { 0 < length trail.old.lims.items }
     ensures { IfOk result (IsStep strict known.old known.new fresh.old fresh.new trail.old trail.new) }
 {
-    let lesson = analyze(alloc, trail, known, conflict)?;
+    let (turn, back) = lessons.analyze(trail, known, activity, conflict)?;
     let step = conclude(
         trail,
         known,
         fresh,
+        activity,
         strict,
-        &lesson.clause,
-        lesson.turn,
-        lesson.back,
+        lessons.clause(),
+        turn,
+        back,
     )?;
     Ok(step)
 }
 
 // The level of a conflict.
 #[tactic(auto, using(crate::proofs::SettleLemmas::depths))]
-fn depth_of(trail: &Trail, known: &ClauseList, i: usize) -> usize
+fn depth_of(trail: &Trail, known: &Known, i: usize) -> usize
     requires trail { IsTrail known.now trail.now }
     requires within { AreWithin (length trail.now.values.items) known.now }
     requires conflict { IsFalsified known.now trail.now.values.items i }
@@ -192,24 +159,25 @@ fn depth_of(trail: &Trail, known: &ClauseList, i: usize) -> usize
 
 // Goes back to a level, which may be the last one.
 #[tactic(auto, using(crate::proofs::SettleLemmas::backs))]
-fn back_to(trail: &mut Trail, known: &ClauseList, depth: usize)
+fn back_to(trail: &mut Trail, known: &Known, activity: &mut Activity, depth: usize)
     requires trail { IsTrail known.now trail.old }
     requires depth { depth ≤ length trail.old.lims.items }
     ensures trail { IsTrail known.now trail.new }
     ensures back { IsBack depth trail.old trail.new }
 {
     if depth < trail.lims.len() {
-        trail.cancel(depth);
+        trail.cancel(depth, activity);
     }
 }
 
 // Deals with a conflict.
 #[tactic(auto, using(crate::proofs::SettleLemmas::settles))]
 fn step_of(
-    alloc: Global,
     trail: &mut Trail,
-    known: &mut ClauseList,
+    known: &mut Known,
     fresh: &mut ClauseList,
+    lessons: &mut Lessons,
+    activity: &mut Activity,
     strict: bool,
     i: usize,
 ) -> Result<Step, AllocError>
@@ -222,17 +190,18 @@ fn step_of(
     if depth == 0 {
         return Ok(Step::Refuted);
     }
-    back_to(trail, known, depth);
-    let step = learn(alloc, trail, known, fresh, strict, i)?;
+    back_to(trail, known, activity, depth);
+    let step = learn(trail, known, fresh, lessons, activity, strict, i)?;
     Ok(step)
 }
 
 /// Deals with conflicts until a clause forces a literal or the empty clause follows; never answers `Again`.
 pub fn settle(
-    alloc: Global,
     trail: &mut Trail,
-    known: &mut ClauseList,
+    known: &mut Known,
     fresh: &mut ClauseList,
+    lessons: &mut Lessons,
+    activity: &mut Activity,
     strict: bool,
     i: usize,
 ) -> Result<Step, AllocError>
@@ -244,7 +213,7 @@ pub fn settle(
 {
     let mut conflict = i;
     'conflicts: loop {
-        match step_of(alloc, trail, known, fresh, strict, conflict)? {
+        match step_of(trail, known, fresh, lessons, activity, strict, conflict)? {
             Step::Again(j) => conflict = j,
             Step::Learnt => return Ok(Step::Learnt),
             Step::Forced => return Ok(Step::Forced),

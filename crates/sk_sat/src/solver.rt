@@ -6,6 +6,7 @@ ghost use Rattle.sk_clause.specs.Problem.{IsWithin};
 ghost use Rattle.sk_sat.specs.Solver.{IsSound};
 ghost use Rattle.sk_sat.specs.Answer.{IsSolved};
 
+use crate::known::Known;
 use crate::search::{Outcome, search};
 use sk_base::List;
 use sk_clause::{Assignment, ClauseList, Lit, Log};
@@ -134,6 +135,21 @@ fn joined(alloc: Global, a: &ClauseList, b: &ClauseList) -> Result<ClauseList, A
     Ok(list)
 }
 
+// The clauses of one list behind those of another, as known ones.
+#[tactic(auto, using(crate::proofs::SolverLemmas::joins))]
+fn known_of(alloc: Global, a: &ClauseList, b: &ClauseList) -> Result<Known, AllocError>
+    ensures { IfOk result (λ list. list ≡ a.now ++ b.now) }
+{
+    let mut list = Known::new(alloc);
+    for i in 0..a.len() {
+        list.push(a.get(i))?;
+    }
+    for k in 0..b.len() {
+        list.push(b.get(k))?;
+    }
+    Ok(list)
+}
+
 // The log of a refutation: the clauses, and the empty one behind them.
 fn closed(alloc: Global, clauses: &ClauseList) -> Result<Log, AllocError>
     ensures { IfOk result (λ log. log ≡ clauses.now ++ [] ∷ []) }
@@ -156,7 +172,7 @@ fn solve_parts(
     requires { IsSound vars added.now learnt.now }
     ensures { IfOk result (λ r. IsSolved vars added.now learnt.now budget r.0 r.1) }
 {
-    let mut known = joined(alloc, added, learnt)?;
+    let mut known = known_of(alloc, added, learnt)?;
     let mut fresh = ClauseList::new(alloc);
     let outcome = search(alloc, vars, &mut known, &mut fresh, budget)?;
     let all = joined(alloc, learnt, &fresh)?;

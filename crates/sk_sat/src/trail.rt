@@ -4,6 +4,7 @@ ghost use Rattle.sk_clause.specs.declared.lit.Lit.{Lit};
 ghost use Rattle.sk_clause.specs.Values.{Holds, Fails, IsOpen, assigned};
 ghost use Rattle.sk_sat.specs.Trail.{IsTrail, IsReason, Agrees, IsBack};
 
+use crate::activity::Activity;
 use sk_clause::Lit;
 use std::alloc::{AllocError, Global};
 
@@ -87,8 +88,8 @@ impl Trail {
         Ok(())
     }
 
-    /// Goes back to a level.
-    pub fn cancel(&mut self, level: usize)
+    /// Goes back to a level, and tells which variables have no value any more.
+    pub fn cancel(&mut self, level: usize, activity: &mut Activity)
         requires level { level < length self.old.lims.items }
         requires agrees { Agrees self.old.values.items self.old.lits.items }
         requires begin { slice_index self.old.lims.items level ≤ length self.old.lits.items }
@@ -99,6 +100,7 @@ impl Trail {
         ensures lims { self.new.lims.items ≡ take level self.old.lims.items }
     {
         let begin = self.lims[level];
+        activity.release(&self.lits, begin);
         self.lims.truncate(level);
         clear(&mut self.values, &mut self.lits, begin);
     }

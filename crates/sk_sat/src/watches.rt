@@ -1,23 +1,22 @@
 // What known clauses force, found through two watched literals of each.
-ghost use Rattle.std.specs.Prelude.{◌≡◌, ℕ, ◌<◌, ◌/◌, length, OnOk, IfOk, IfSome};
+ghost use Rattle.std.specs.Prelude.{◌≡◌, ℕ, ◌<◌, ◌≤◌, ◌/◌, length, OnOk, IfOk, IfSome};
 ghost use Rattle.sk_clause.specs.Problem.{AreWithin};
 ghost use Rattle.sk_sat.specs.Trail.{IsTrail, Extends};
 ghost use Rattle.sk_sat.specs.Analysis.{IsFalsified};
 ghost use Rattle.sk_sat.specs.declared.watches.Visit.TheVariants.{Falsified};
 
+use crate::codes::{NONE, code_of, is_false, is_true, opposite};
+use crate::known::Known;
 use crate::propagate::{Look, look_at};
 use crate::trail::Trail;
-use sk_clause::{ClauseList, Lit};
+use sk_clause::Lit;
 use std::alloc::{AllocError, Global};
-
-/// No watch.
-const NONE: usize = usize::MAX;
 
 /// A clause watches a literal, and the next watch of the same literal.
 #[derive(Clone, Copy, Drop)]
-pub struct Watch {
-    lit: Lit,
-    next: usize,
+struct Watch {
+    lit: u32,
+    next: u32,
 }
 
 /// Whether a clause watches.
@@ -25,63 +24,60 @@ pub struct Watch {
 enum Use {
     /// It always does.
     Always,
-    /// It does, and forced a literal or was false when so many clauses had been learnt.
-    Last(u64),
-    /// It does no more. It stays in the list of clauses, and can be a reason.
-    Never,
+    /// It does until it rests, and forced a literal or was false when so many clauses had been learnt.
+    Last(u32),
 }
 
-/// A learnt clause stops watching when so many more were learnt since it was of use.
-const LONGEST_REST: u64 = 2000;
-
-/// How often, in learnt clauses, such clauses are looked for.
-const FORGET_EVERY: u64 = 1000;
+/// A learnt clause stops watching when so many more were learnt since it was of use. It stays in the list of clauses,
+/// and can be a reason.
+const LONGEST_REST: u32 = 1000;
 
 /// Learnt clauses of so many literals always watch.
 const SHORT: usize = 3;
 
 impl Use {
-    fn is_never(self) -> bool {
+    // Whether a clause has stopped watching when so many have been learnt.
+    fn is_over(self, now: u32) -> bool {
         match self {
-            Use::Never => true,
-            _ => false,
-        }
-    }
-
-    // The use that is left when so many clauses have been learnt.
-    fn aged(self, now: u64) -> Use {
-        match self {
-            Use::Always => Use::Always,
-            Use::Last(at) => {
-                if at.saturating_add(LONGEST_REST) < now {
-                    Use::Never
-                } else {
-                    Use::Last(at)
-                }
-            }
-            Use::Never => Use::Never,
+            Use::Always => false,
+            Use::Last(at) => at.saturating_add(LONGEST_REST) < now,
         }
     }
 
     // The use of a clause that has just been of use.
-    fn renewed(self, now: u64) -> Use {
+    fn renewed(self, now: u32) -> Use {
         match self {
             Use::Always => Use::Always,
-            _ => Use::Last(now),
+            Use::Last(_) => Use::Last(now),
         }
     }
+}
+
+/// Where the literals of a clause begin and end among those of all, and whether it watches.
+#[derive(Clone, Copy, Drop)]
+struct Row {
+    start: u32,
+    end: u32,
+    used: Use,
+}
+
+// A place among the literals, where it is small enough.
+fn place_of(n: usize) -> u32 {
+    if n < NONE as usize { n as u32 } else { NONE }
 }
 
 /// For each literal the watches of it, in a list that is linked by their numbers. Watches 2i and 2i + 1 are those of
 /// clause i. No contract says that they are right: wrong ones would only make the search slower.
 #[derive(Drop)]
 pub struct Watches {
-    heads: Vec<usize>,
+    /// Of each literal its first watch.
+    heads: Vec<u32>,
     watches: Vec<Watch>,
-    /// Of each clause whether it watches.
-    uses: Vec<Use>,
+    /// The literals of the clauses, one clause behind another, in each the watched ones first.
+    codes: Vec<u32>,
+    rows: Vec<Row>,
     /// How many clauses have been learnt.
-    now: u64,
+    learnt: u32,
     /// How many literals of the trail have been followed up.
     done: usize,
 }
@@ -92,27 +88,32 @@ pub enum Visit {
     /// The clause goes on watching the literal.
     Stays,
     /// It is to watch this literal in its place.
-    Moves(Lit),
-    /// It forced a literal, and goes on watching.
-    Forces,
+    Moves(u32),
     /// It watches no more.
     Leaves,
     /// Each literal of it is false.
     Falsified,
 }
 
-// The number of a literal's list.
-fn code(l: Lit) -> usize {
-    l.var
-        .wrapping_mul(2)
-        .wrapping_add(if l.neg { 1 } else { 0 })
+// Puts a literal that is not false into the place of a watched one, if there is one that is not watched.
+fn replace(codes: &mut [u32], values: &[Option<bool>], place: usize, other: u32) -> Option<u32> {
+    for p in 2..codes.len() {
+        let code = codes[p];
+        if !is_false(values, code) && code != other {
+            codes.swap(p, place % 2);
+            return Some(code);
+        }
+    }
+    None
 }
 
-// Whether a literal is true.
-fn is_true(values: &[Option<bool>], l: Lit) -> bool {
-    match values.get(l.var) {
-        Some(Some(b)) => *b != l.neg,
-        _ => false,
+// Brings a literal to a place.
+fn bring(codes: &mut [u32], code: u32, place: usize) {
+    for p in place..codes.len() {
+        if codes[p] == code {
+            codes.swap(p, place);
+            return;
+        }
     }
 }
 
@@ -136,7 +137,7 @@ fn deepest_of(level: &[usize], clause: &[Lit], other: Lit) -> Lit {
 }
 
 impl Watches {
-    /// Lists for so many variables, and no watches, with room for those of so many clauses.
+    /// Lists for so many variables, and no watches.
     pub fn new(alloc: Global, vars: usize) -> Result<Watches, AllocError> {
         let mut heads = vec![in alloc; NONE; vars]?;
         let negative = vec![in alloc; NONE; vars]?;
@@ -144,14 +145,16 @@ impl Watches {
         Ok(Watches {
             heads,
             watches: Vec::new(alloc),
-            uses: Vec::new(alloc),
-            now: 0,
+            codes: Vec::new(alloc),
+            rows: Vec::new(alloc),
+            learnt: 0,
             done: 0,
         })
     }
 
-    fn first(&self, l: Lit) -> usize {
-        let c = code(l);
+    // The first watch of a literal.
+    fn first(&self, code: u32) -> u32 {
+        let c = code as usize;
         if c < self.heads.len() {
             self.heads[c]
         } else {
@@ -159,14 +162,15 @@ impl Watches {
         }
     }
 
-    fn set_first(&mut self, l: Lit, k: usize) {
-        let c = code(l);
+    fn set_first(&mut self, code: u32, k: u32) {
+        let c = code as usize;
         if c < self.heads.len() {
             self.heads[c] = k;
         }
     }
 
-    fn next(&self, k: usize) -> usize {
+    fn next(&self, k: u32) -> u32 {
+        let k = k as usize;
         if k < self.watches.len() {
             self.watches[k].next
         } else {
@@ -174,91 +178,114 @@ impl Watches {
         }
     }
 
-    // The literal of a watch, or else l.
-    fn lit(&self, k: usize, l: Lit) -> Lit {
+    // The literal of a watch.
+    fn lit(&self, k: u32) -> u32 {
+        let k = k as usize;
         if k < self.watches.len() {
             self.watches[k].lit
         } else {
-            l
+            NONE
         }
     }
 
     // Puts a watch into the list of a literal.
-    fn link(&mut self, k: usize, l: Lit) {
-        let next = self.first(l);
-        if k < self.watches.len() {
-            self.watches[k] = Watch { lit: l, next };
-            self.set_first(l, k);
+    fn link(&mut self, k: u32, lit: u32) {
+        let next = self.first(lit);
+        let at = k as usize;
+        if at < self.watches.len() {
+            self.watches[at] = Watch { lit, next };
+            self.set_first(lit, k);
         }
     }
 
     // Takes the watch behind `before` out of the list of a literal; `next` is the one that follows it.
-    fn unlink(&mut self, l: Lit, before: usize, next: usize) {
-        if before < self.watches.len() {
-            let lit = self.watches[before].lit;
-            self.watches[before] = Watch { lit, next };
+    fn unlink(&mut self, lit: u32, before: u32, next: u32) {
+        let at = before as usize;
+        if at < self.watches.len() {
+            self.watches[at].next = next;
         } else {
-            self.set_first(l, next);
+            self.set_first(lit, next);
         }
     }
 
     // The number of clauses that have watches.
     fn len(&self) -> usize {
-        self.watches.len() / 2
+        self.rows.len()
     }
 
     // Makes the watches of the next clause, which watch nothing.
-    fn make(&mut self, first_use: Use) -> Result<(), AllocError> {
-        let idle = Watch {
-            lit: Lit { var: 0, neg: false },
+    fn make(&mut self, clause: &[Lit], first_use: Use) -> Result<(), AllocError> {
+        let none = Watch {
+            lit: NONE,
             next: NONE,
         };
-        self.uses.push(first_use)?;
-        self.watches.push(idle)?;
-        self.watches.push(idle)?;
+        self.watches.push(none)?;
+        self.watches.push(none)?;
+        let start = place_of(self.codes.len());
+        for l in clause {
+            self.codes.push(code_of(*l))?;
+        }
+        self.rows.push(Row {
+            start,
+            end: place_of(self.codes.len()),
+            used: first_use,
+        })?;
         Ok(())
     }
 
-    // Has a clause watch two literals, if they are two.
-    fn set(&mut self, i: usize, a: Lit, b: Lit) {
-        if !a.is(b) {
-            self.link(i.wrapping_mul(2), a);
-            self.link(i.wrapping_mul(2).wrapping_add(1), b);
+    // Where the literals of a clause begin and end.
+    fn range(&self, i: usize) -> (usize, usize)
+        ensures order { result.0 ≤ result.1 }
+        ensures within { result.1 ≤ length self.now.codes.items }
+    {
+        if i >= self.rows.len() {
+            return (0, 0);
+        }
+        let start = self.rows[i].start as usize;
+        let end = self.rows[i].end as usize;
+        if start <= end && end <= self.codes.len() {
+            (start, end)
+        } else {
+            (0, 0)
         }
     }
 
+    // Has a clause watch two literals of it, if they are two.
+    fn set(&mut self, i: usize, a: Lit, b: Lit) {
+        if i >= (NONE / 2) as usize || a.is(b) {
+            return;
+        }
+        let (start, end) = self.range(i);
+        let codes = &mut self.codes[start..end];
+        bring(codes, code_of(a), 0);
+        bring(codes, code_of(b), 1);
+        let k = (i as u32) * 2;
+        self.link(k, code_of(a));
+        self.link(k + 1, code_of(b));
+    }
+
+    // Whether a clause has stopped watching. Its watches leave the lists when they are next met.
     fn is_forgotten(&self, i: usize) -> bool {
-        i < self.uses.len() && self.uses[i].is_never()
+        i < self.rows.len() && self.rows[i].used.is_over(self.learnt)
     }
 
     // A clause has been of use.
     fn renew(&mut self, i: usize) {
-        if i < self.uses.len() {
-            self.uses[i] = self.uses[i].renewed(self.now);
-        }
-    }
-
-    // From time to time has clauses stop watching that have long been of no use. Their watches leave the lists when
-    // they are next met.
-    fn forget(&mut self) {
-        if self.now % FORGET_EVERY == 0 {
-            let now = self.now;
-            for u in self.uses.iter_mut() {
-                *u = u.aged(now);
-            }
+        if i < self.rows.len() {
+            self.rows[i].used = self.rows[i].used.renewed(self.learnt);
         }
     }
 
     /// Makes the watches of a clause that was learnt: its last literal, which it forces, and a deepest other one.
     pub fn learn(&mut self, clause: &[Lit], level: &[usize]) -> Result<(), AllocError> {
         let i = self.len();
-        self.now = self.now.saturating_add(1);
-        self.forget();
-        self.make(if clause.len() <= SHORT {
+        self.learnt = self.learnt.saturating_add(1);
+        let first_use = if clause.len() <= SHORT {
             Use::Always
         } else {
-            Use::Last(self.now)
-        })?;
+            Use::Last(self.learnt)
+        };
+        self.make(clause, first_use)?;
         if let [front @ .., turn] = clause {
             self.set(i, *turn, deepest_of(level, front, *turn));
         }
@@ -267,11 +294,7 @@ impl Watches {
 
     // Makes the watches of the clauses that have none yet, and makes literals true that they force. A false one.
     #[tactic(auto, using(crate::proofs::PropagateLemmas::passes))]
-    fn take_in(
-        &mut self,
-        trail: &mut Trail,
-        known: &ClauseList,
-    ) -> Result<Option<usize>, AllocError>
+    fn take_in(&mut self, trail: &mut Trail, known: &Known) -> Result<Option<usize>, AllocError>
         requires trail { IsTrail known.now trail.old }
         requires within { AreWithin (length trail.old.values.items) known.now }
         ensures trail { OnOk result (IsTrail known.now trail.new) }
@@ -281,9 +304,9 @@ impl Watches {
         for i in self.len()..known.len() {
             match look_at(trail, known, i)? {
                 Look::Falsified => return Ok(Some(i)),
-                Look::Forced => self.make(Use::Always)?,
+                Look::Forced => self.make(known.get(i), Use::Always)?,
                 Look::Settled(a, b) => {
-                    self.make(Use::Always)?;
+                    self.make(known.get(i), Use::Always)?;
                     self.set(i, a, b);
                 }
             }
@@ -291,33 +314,42 @@ impl Watches {
         Ok(None)
     }
 
+    // Has watch k move from its literal, which became false, to another that is not, if there is one.
+    fn replaced(&mut self, values: &[Option<bool>], k: u32, other: u32) -> Option<u32> {
+        let (start, end) = self.range((k / 2) as usize);
+        replace(&mut self.codes[start..end], values, (k % 2) as usize, other)
+    }
+
     // Deals with watch k, whose literal became false.
     #[tactic(auto, using(crate::proofs::PropagateLemmas::passes))]
-    fn visit(
-        &self,
-        trail: &mut Trail,
-        known: &ClauseList,
-        k: usize,
-        gone: Lit,
-    ) -> Result<Visit, AllocError>
+    fn visit(&mut self, trail: &mut Trail, known: &Known, k: u32) -> Result<Visit, AllocError>
         requires trail { IsTrail known.now trail.old }
         requires within { AreWithin (length trail.old.values.items) known.now }
         ensures trail { OnOk result (IsTrail known.now trail.new) }
         ensures extends { OnOk result (Extends trail.old trail.new) }
         ensures falsified { IfOk result (λ seen. seen ≡ Falsified → IsFalsified known.now trail.new.values.items (k / 2)) }
     {
-        let i = k / 2;
-        if self.is_forgotten(i) {
-            return Ok(Visit::Leaves);
-        }
-        let other = self.lit(k ^ 1, gone);
+        let i = (k / 2) as usize;
+        let other = self.lit(k ^ 1);
         if i >= known.len() || is_true(&trail.values, other) {
             return Ok(Visit::Stays);
         }
+        if self.is_forgotten(i) {
+            return Ok(Visit::Leaves);
+        }
+        if let Some(lit) = self.replaced(&trail.values, k, other) {
+            return Ok(Visit::Moves(lit));
+        }
         match look_at(trail, known, i)? {
-            Look::Falsified => Ok(Visit::Falsified),
-            Look::Forced => Ok(Visit::Forces),
-            Look::Settled(a, b) => Ok(Visit::Moves(if a.is(other) { b } else { a })),
+            Look::Falsified => {
+                self.renew(i);
+                Ok(Visit::Falsified)
+            }
+            Look::Forced => {
+                self.renew(i);
+                Ok(Visit::Stays)
+            }
+            Look::Settled(_, _) => Ok(Visit::Stays),
         }
     }
 
@@ -326,8 +358,8 @@ impl Watches {
     fn spread(
         &mut self,
         trail: &mut Trail,
-        known: &ClauseList,
-        gone: Lit,
+        known: &Known,
+        gone: u32,
     ) -> Result<Option<usize>, AllocError>
         requires trail { IsTrail known.now trail.old }
         requires within { AreWithin (length trail.old.values.items) known.now }
@@ -342,21 +374,14 @@ impl Watches {
                 return Ok(None);
             }
             let next = self.next(k);
-            match self.visit(trail, known, k, gone)? {
+            match self.visit(trail, known, k)? {
                 Visit::Stays => before = k,
-                Visit::Moves(l) => {
+                Visit::Moves(lit) => {
                     self.unlink(gone, before, next);
-                    self.link(k, l);
-                }
-                Visit::Forces => {
-                    self.renew(k / 2);
-                    before = k;
+                    self.link(k, lit);
                 }
                 Visit::Leaves => self.unlink(gone, before, next),
-                Visit::Falsified => {
-                    self.renew(k / 2);
-                    return Ok(Some(k / 2));
-                }
+                Visit::Falsified => return Ok(Some((k / 2) as usize)),
             }
             k = next;
         }
@@ -368,7 +393,7 @@ impl Watches {
     pub fn propagate(
         &mut self,
         trail: &mut Trail,
-        known: &ClauseList,
+        known: &Known,
     ) -> Result<Option<usize>, AllocError>
         requires trail { IsTrail known.now trail.old }
         requires within { AreWithin (length trail.old.values.items) known.now }
@@ -385,7 +410,7 @@ impl Watches {
 
     // Follows up the literals of the trail. A false clause.
     #[tactic(auto, using(crate::proofs::PropagateLemmas::passes))]
-    fn follow(&mut self, trail: &mut Trail, known: &ClauseList) -> Result<Option<usize>, AllocError>
+    fn follow(&mut self, trail: &mut Trail, known: &Known) -> Result<Option<usize>, AllocError>
         requires trail { IsTrail known.now trail.old }
         requires within { AreWithin (length trail.old.values.items) known.now }
         ensures trail { OnOk result (IsTrail known.now trail.new) }
@@ -399,7 +424,7 @@ impl Watches {
         'queue: while done < trail.lits.len() {
             let l = trail.lits[done];
             done += 1;
-            let found = self.spread(trail, known, l.negate())?;
+            let found = self.spread(trail, known, opposite(code_of(l)))?;
             if found.is_some() {
                 self.done = done;
                 return Ok(found);

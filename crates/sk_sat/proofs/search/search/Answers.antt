@@ -1,6 +1,6 @@
-use Rattle.std.proofs.Common.{◌≡◌, ◌∙◌, ap, length, subst}
+use Rattle.std.proofs.Common.{◌≡◌, ◌∙◌, ap, length, subst, arith}
 use Rattle.std.proofs.lemmas.List.{length-map}
-use Rattle.sk_sat.proofs.SearchLemmas.{searches_begin, searches_decided, searches_learnt, grown_added, each_added, consistent_added, within_added, spent_added, unspent, met_all, work_falls}
+use Rattle.sk_sat.proofs.SearchLemmas.{searches_begin, searches_decided, searches_learnt, grown_added, each_added, consistent_added, within_added, spent_added, unspent, met_all, work_falls, effort_falls, searches_anew}
 use Rattle.sk_sat.proofs.search.search.Goals as goal
 
 pub rounds-init : goal.rounds-init
@@ -49,7 +49,7 @@ returns-in-Full-clause-outcome c =
 pub rounds-smaller-in-Moved : goal.rounds-smaller-in-Moved
 rounds-smaller-in-Moved c =
     let r = rw c.in-Moved.is at c.in_ok-round_of.ensures in
-    work_falls c.rounds.known c.round_of.new.known c.rounds.trail c.round_of.new.trail r.2.trail r.2.long r.2.more
+    effort_falls c.rounds.restarts.left c.rounds.trail c.round_of.new.trail r.2.long (work_falls c.rounds.known c.round_of.new.known c.rounds.trail c.round_of.new.trail r.2.trail r.2.long r.2.more)
 
 pub rounds-preserved-in-Moved : goal.rounds-preserved-in-Moved
 rounds-preserved-in-Moved c =
@@ -84,9 +84,17 @@ returns-then-left-eq1-clause-outcome c =
 pub rounds-smaller : goal.rounds-smaller
 rounds-smaller c =
     let r = rw c.in-Learnt.is at c.in_ok-round_of.ensures in
-    work_falls c.rounds.known c.round_of.new.known c.rounds.trail c.round_of.new.trail r.1.trail r.1.long r.1.more
+    let f = effort_falls c.rounds.restarts.left c.rounds.trail c.round_of.new.trail r.1.long (work_falls c.rounds.known c.round_of.new.known c.rounds.trail c.round_of.new.trail r.1.trail r.1.long r.1.more) in
+    let g = c.begin_anew.ensures.less in
+    omega arith
+
+pub begin_anew-requires : goal.begin_anew-requires
+begin_anew-requires c =
+    let r = rw c.in-Learnt.is at c.in_ok-round_of.ensures in
+    (c.round_of.new.known, r.1.trail)
 
 pub rounds-preserved : goal.rounds-preserved
 rounds-preserved c =
     let r = rw c.in-Learnt.is at c.in_ok-round_of.ensures in
-    rw c.saturating_sub-left.ensures (searches_learnt _ _ _ _ _ c.rounds.trail _ c.rounds.invariant _ _ _ r.0.1 (λ p. r.0.2 (c.is_limited-strict.ensures p)) c.round_of.new.trail r.1 c.if-left-eq1.false)
+    let s = searches_learnt _ _ _ _ _ c.rounds.trail _ c.rounds.invariant _ _ _ r.0.1 (λ p. r.0.2 (c.is_limited-strict.ensures p)) c.round_of.new.trail r.1 c.if-left-eq1.false in
+    rw c.saturating_sub-left.ensures (searches_anew _ _ _ _ _ c.round_of.new.trail c.begin_anew.new.trail _ s (c.begin_anew.ensures.trail c.round_of.new.known r.1.trail) c.begin_anew.ensures.long)

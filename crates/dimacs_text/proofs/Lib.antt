@@ -1,0 +1,4 @@
+pub mod NumberLemmas
+pub mod RowsLemmas
+pub mod ReadLemmas
+pub mod TextLemmas

@@ -1,0 +1,4 @@
+pub mod Formula
+pub mod Heading
+pub mod Reading
+pub mod Written

@@ -1,6 +1,0 @@
-use Rattle.std.proofs.Common.{take}
-use Rattle.sk_sat.proofs.InsideLemmas.{IsNotIn}
-use Rattle.sk_sat.proofs.settle.has.Given as goal
-
-abbrev pub invariant-loop-m : goal.invariant-loop-m
-invariant-loop-m l = IsNotIn (take l.m-index l.clause) l.l

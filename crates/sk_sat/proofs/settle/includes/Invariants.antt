@@ -1,6 +1,0 @@
-use Rattle.std.proofs.Common.{take}
-use Rattle.sk_sat.proofs.InsideLemmas.{IsPart}
-use Rattle.sk_sat.proofs.settle.includes.Given as goal
-
-abbrev pub invariant-loop-m : goal.invariant-loop-m
-invariant-loop-m l = IsPart l.clause (take l.m-index l.other)

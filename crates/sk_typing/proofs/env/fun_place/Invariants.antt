@@ -1,0 +1,10 @@
+use Rattle.std.proofs.Common.{◌≡◌, drop}
+use Rattle.std.specs.Prelude.{map}
+use Rattle.sk_types.specs.Scope.{Signature, place_of}
+use Rattle.sk_check.specs.Envs.{signature}
+use Rattle.sk_typing.proofs.Places.{past}
+use Rattle.sk_typing.proofs.env.fun_place.Given as goal
+
+-- none so far has the name
+abbrev pub invariant-loop-i : goal.invariant-loop-i
+invariant-loop-i l = place_of (map (λ (s : Signature). s.name) (map signature l.funs)) l.name ≡ past l.i (place_of (map (λ (s : Signature). s.name) (map signature (drop l.i l.funs))) l.name)
