@@ -24,3 +24,9 @@ Tests (Ok done) e a = InRange e a
 Tests (Err WrongLength) e a = length a.values ≢ length e.sites
 Tests (Err (OutOfRange site)) e a = IsFirstOut e a site
 Tests (Err Memory) e a = ⊥
+
+-- Why a program is not filled, by the cause. Want of memory has none.
+abbrev pub IsRefused : FillFault → Expanded → Choice → Type 0
+IsRefused WrongLength e a = length a.values ≢ length e.sites
+IsRefused (OutOfRange site) e a = IsFirstOut e a site
+IsRefused Memory e a = Unit {0}

@@ -8,10 +8,6 @@ abbrev pub marked : List Bool → List ℕ → List Bool
 marked table [] = table
 marked table (f ∷ fs) = marked (slice_set table f true) fs
 
--- the functions that a part calls if it stands
-abbrev pub called_if : Bool → Part Standing → ℕ → List ℕ
-called_if b p i = if b then (p.at i).called else []
-
 -- of these parts, of which the first has number k, those stand whose number meets a test
 abbrev pub some_of : (ℕ → Bool) → ℕ → List (Part Standing) → List (Part Standing)
 some_of test k [] = []

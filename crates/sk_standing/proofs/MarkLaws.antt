@@ -1,32 +1,14 @@
 -- Marks of parts one after another.
 use Rattle.std.proofs.Common.{◌≡◌, ℕ, zero, suc, ◌+◌, ◌<◌, ◌≤◌, Bool, true, false, List, [], ◌∷◌, ◌++◌, length, refl, ap, ◌∙◌, arith}
-use Rattle.std.specs.Prelude.{if◌then◌else◌, ◌==◌, nat_lt, slice_set, ◌&&◌}
+use Rattle.std.specs.Prelude.{if◌then◌else◌, ◌==◌, nat_lt, slice_set}
 use Rattle.std.proofs.lemmas.Bool.{lt-ltb, le-ltb, eq-eqb, ne_eqb}
 use Rattle.sk_model.specs.Parts.{Part}
 use Rattle.sk_model.specs.Stands.{Standing, absent, first_of, only}
-use Rattle.sk_holes.specs.Marks.{marked, some_of}
+use Rattle.sk_standing.specs.Marks.{marked, some_of}
 
 pub marked_append : (table : List Bool) (fs gs : List ℕ) → marked table (fs ++ gs) ≡ marked (marked table fs) gs
 marked_append table [] gs = refl
 marked_append table (f ∷ fs) gs = marked_append (slice_set table f true) fs gs
-
-pub marked_two : (b : Bool) (table : List Bool) (fs gs : List ℕ) → marked table (if b then fs ++ gs else []) ≡ marked (marked table (if b then fs else [])) (if b then gs else [])
-marked_two true table fs gs = marked_append table fs gs
-marked_two false table fs gs = refl
-
-pub marked_call : (b : Bool) (table : List Bool) (f : ℕ) (fs : List ℕ) → marked table (if b then f ∷ fs else []) ≡ marked (marked table (if b then f ∷ [] else [])) (if b then fs else [])
-marked_call true table f fs = refl
-marked_call false table f fs = refl
-
-pub marked_none : (b : Bool) (table : List Bool) → marked table (if b then [] else []) ≡ table
-marked_none true table = refl
-marked_none false table = refl
-
--- a part of which a test decides
-pub called_some : (b c : Bool) (p : Part Standing) (i : ℕ) → (if b then ((if c then p else absent p).at i).called else []) ≡ (if b && c then (p.at i).called else [])
-called_some true true p i = refl
-called_some true false p i = refl
-called_some false c p i = refl
 
 -- none of the parts from a number on stands
 never : (test : ℕ → Bool) (k : ℕ) (ps : List (Part Standing)) → ((m : ℕ) → k ≤ m → test m ≡ false) → some_of test k ps ≡ first_of 0 ps
@@ -48,8 +30,6 @@ some_first v ps = first v 0 (λ n. nat_lt n v) ps (λ m l. lt-ltb m v (omega (ar
 
 pub some_only : (v : ℕ) (ps : List (Part Standing)) → some_of (λ n. n == v) 0 ps ≡ only v ps
 some_only v ps = one v 0 (λ n. n == v) ps (λ m e. eq-eqb m v (omega (arith, e))) (λ m n. ne_eqb m v (λ e. n (omega (arith, e))))
-
-pub ruleset marks = (marked_two, marked_call, marked_none, called_some)
 
 pub set_past : (table : List Bool) (k : ℕ) (b : Bool) → length table ≤ k → slice_set table k b ≡ table
 set_past [] k b h = refl

@@ -1,0 +1,12 @@
+//! What of an expanded program stands under a choice.
+#![tactic(auto)]
+
+mod functions;
+mod hole;
+mod met;
+mod walker;
+
+pub use functions::{Stood, stood};
+pub use hole::is_hole;
+pub use met::{Met, Paid};
+pub use walker::Walker;
