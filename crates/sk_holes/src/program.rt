@@ -19,7 +19,7 @@ use crate::slots::slots_needed;
 use sk_base::List;
 use sk_model::{Choice, Expanded};
 use sk_prog::{Elem, Fun, FunKind, PEForm, PExpr, PForm, PStmt, Prog, Ty};
-use sk_standing::{Paid, Stood, stood};
+use sk_standing::{Paid, Stood, what_stands};
 use std::alloc::{AllocError, Global};
 
 /// `minimize(v);` for a minrepeat that pays v.
@@ -167,7 +167,7 @@ fn filled_funs(
     requires { total (map (sites_in values.now) funs.now) ≤ length values.now }
     ensures { IfOk result (λ x. x ≡ filled_by values.now ordinary funs.now) }
 {
-    let stood = stood(alloc, values, ordinary, funs)?;
+    let stood = what_stands(alloc, values, ordinary, funs)?;
     let ranks = number_functions(alloc, stood.stands.as_slice())?;
     let filler = Filler {
         alloc,

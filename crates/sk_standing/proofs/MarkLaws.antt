@@ -1,10 +1,10 @@
 -- Marks of parts one after another.
 use Rattle.std.proofs.Common.{◌≡◌, ℕ, zero, suc, ◌+◌, ◌<◌, ◌≤◌, Bool, true, false, List, [], ◌∷◌, ◌++◌, length, refl, ap, ◌∙◌, arith}
-use Rattle.std.specs.Prelude.{if◌then◌else◌, ◌==◌, nat_lt, slice_set}
+use Rattle.std.specs.Prelude.{◌==◌, nat_lt, slice_set}
 use Rattle.std.proofs.lemmas.Bool.{lt-ltb, le-ltb, eq-eqb, ne_eqb}
 use Rattle.sk_model.specs.Parts.{Part}
 use Rattle.sk_model.specs.Stands.{Standing, absent, first_of, only}
-use Rattle.sk_standing.specs.Marks.{marked, some_of}
+use Rattle.sk_standing.specs.Marks.{marked, kept_if, some_of}
 
 pub marked_append : (table : List Bool) (fs gs : List ℕ) → marked table (fs ++ gs) ≡ marked (marked table fs) gs
 marked_append table [] gs = refl
@@ -12,18 +12,21 @@ marked_append table (f ∷ fs) gs = marked_append (slice_set table f true) fs gs
 
 -- none of the parts from a number on stands
 never : (test : ℕ → Bool) (k : ℕ) (ps : List (Part Standing)) → ((m : ℕ) → k ≤ m → test m ≡ false) → some_of test k ps ≡ first_of 0 ps
+unfolding kept_if
 never test k [] h = refl
-never test k (p ∷ ps) h = (λ j. (if h k (omega arith) j then p else absent p) ∷ some_of test (k + 1) ps) ∙ ap (λ qs. absent p ∷ qs) (never test (k + 1) ps (λ m l. h m (omega (arith, l))))
+never test k (p ∷ ps) h = (λ j. kept_if (h k (omega arith) j) p ∷ some_of test (k + 1) ps) ∙ ap (λ qs. absent p ∷ qs) (never test (k + 1) ps (λ m l. h m (omega (arith, l))))
 
 first : (v k : ℕ) (test : ℕ → Bool) (ps : List (Part Standing)) → ((m : ℕ) → m < k + v → test m ≡ true) → ((m : ℕ) → k + v ≤ m → test m ≡ false) → some_of test k ps ≡ first_of v ps
+unfolding kept_if
 first v k test [] below above = refl
 first zero k test (p ∷ ps) below above = never test k (p ∷ ps) (λ m l. above m (omega (arith, l)))
-first (suc v) k test (p ∷ ps) below above = (λ j. (if below k (omega arith) j then p else absent p) ∷ some_of test (k + 1) ps) ∙ ap (λ qs. p ∷ qs) (first v (k + 1) test ps (λ m l. below m (omega (arith, l))) (λ m l. above m (omega (arith, l))))
+first (suc v) k test (p ∷ ps) below above = (λ j. kept_if (below k (omega arith) j) p ∷ some_of test (k + 1) ps) ∙ ap (λ qs. p ∷ qs) (first v (k + 1) test ps (λ m l. below m (omega (arith, l))) (λ m l. above m (omega (arith, l))))
 
 one : (v k : ℕ) (test : ℕ → Bool) (ps : List (Part Standing)) → ((m : ℕ) → m ≡ k + v → test m ≡ true) → ((m : ℕ) → (m ≡ k + v → ⊥) → test m ≡ false) → some_of test k ps ≡ only v ps
+unfolding kept_if
 one v k test [] is not = refl
-one zero k test (p ∷ ps) is not = (λ j. (if is k (omega arith) j then p else absent p) ∷ some_of test (k + 1) ps) ∙ ap (λ qs. p ∷ qs) (never test (k + 1) ps (λ m l. not m (λ e. absurd (omega (arith, l, e)))))
-one (suc v) k test (p ∷ ps) is not = (λ j. (if not k (λ e. absurd (omega (arith, e))) j then p else absent p) ∷ some_of test (k + 1) ps) ∙ ap (λ qs. absent p ∷ qs) (one v (k + 1) test ps (λ m e. is m (omega (arith, e))) (λ m n. not m (λ e. n (omega (arith, e)))))
+one zero k test (p ∷ ps) is not = (λ j. kept_if (is k (omega arith) j) p ∷ some_of test (k + 1) ps) ∙ ap (λ qs. p ∷ qs) (never test (k + 1) ps (λ m l. not m (λ e. absurd (omega (arith, l, e)))))
+one (suc v) k test (p ∷ ps) is not = (λ j. kept_if (not k (λ e. absurd (omega (arith, e))) j) p ∷ some_of test (k + 1) ps) ∙ ap (λ qs. absent p ∷ qs) (one v (k + 1) test ps (λ m e. is m (omega (arith, e))) (λ m n. not m (λ e. n (omega (arith, e)))))
 
 pub some_first : (v : ℕ) (ps : List (Part Standing)) → some_of (λ n. nat_lt n v) 0 ps ≡ first_of v ps
 some_first v ps = first v 0 (λ n. nat_lt n v) ps (λ m l. lt-ltb m v (omega (arith, l))) (λ m l. le-ltb m v (omega (arith, l)))

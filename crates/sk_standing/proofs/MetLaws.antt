@@ -1,16 +1,19 @@
 -- What is met with parts one after another.
 use Rattle.std.proofs.Common.{◌≡◌, ℕ, zero, suc, ◌+◌, Bool, true, false, List, [], ◌∷◌, ◌++◌, map, length, refl, sym, ap, ◌∙◌, append_assoc}
 use Rattle.std.proofs.lemmas.List.{append-nil, map-append}
-use Rattle.std.specs.Prelude.{if◌then◌else◌, ◌==◌, nat_lt, ◌&&◌}
+use Rattle.std.specs.Prelude.{◌==◌, nat_lt, ◌&&◌}
 use Rattle.sk_model.specs.Parts.{Part, counts}
-use Rattle.sk_model.specs.Stands.{Payment, Standing, absent, in_row, first_of, only}
+use Rattle.sk_model.specs.Stands.{Payment, Standing, in_row, first_of, only}
 use Rattle.sk_standing.specs.declared.met.Paid.{Paid}
-use Rattle.sk_standing.specs.Marks.{marked, some_of}
+use Rattle.sk_standing.specs.Marks.{marked, kept_if, some_of}
 use Rattle.sk_standing.specs.Met.{Seen, noted, walked}
 use Rattle.sk_standing.proofs.MarkLaws.{marked_append, some_first, some_only}
 
-seen_as : (t t' : List Bool) (p p' : List Paid) → t ≡ t' → p ≡ p' → (let a : Seen = record { called = t; paid = p } in a) ≡ record { called = t'; paid = p' }
-seen_as t t' p p' e h j = record { called = e j; paid = h j }
+abbrev made : List Bool → List Paid → Seen
+made t p = record { called = t; paid = p }
+
+seen_as : (t t' : List Bool) (p p' : List Paid) → t ≡ t' → p ≡ p' → made t p ≡ made t' p'
+seen_as t t' p p' e h j = made (e j) (h j)
 
 pub walked_two : (m : Seen) (b : Bool) (fs gs : List ℕ) (ps qs : List Payment) → walked m b (fs ++ gs) (ps ++ qs) ≡ walked (walked m b fs ps) b gs qs
 unfolding walked
@@ -29,13 +32,14 @@ pub walked_paid : (m : Seen) (b : Bool) (fs : List ℕ) (p : Payment) (ps : List
 walked_paid m b fs p ps = walked_two m b [] fs (p ∷ []) ps
 
 -- a part of which a test decides
-pub walked_some : (m : Seen) (b c : Bool) (p : Part Standing) (i : ℕ) → walked m b ((if c then p else absent p).at i).called ((if c then p else absent p).at i).paid ≡ walked m (b && c) (p.at i).called (p.at i).paid
-unfolding walked
+pub walked_some : (m : Seen) (b c : Bool) (p : Part Standing) (i : ℕ) → walked m b ((kept_if c p).at i).called ((kept_if c p).at i).paid ≡ walked m (b && c) (p.at i).called (p.at i).paid
+unfolding walked kept_if
 walked_some m true true p i = refl
 walked_some m true false p i = seen_as m.called m.called (m.paid ++ []) m.paid refl (append-nil m.paid)
 walked_some m false c p i = refl
 
-pub some_count : (c : Bool) (p : Part Standing) → (if c then p else absent p).count ≡ p.count
+pub some_count : (c : Bool) (p : Part Standing) → (kept_if c p).count ≡ p.count
+unfolding kept_if
 some_count true p = refl
 some_count false p = refl
 

@@ -1,10 +1,10 @@
 -- The table of called functions says which copies stand.
-use Rattle.std.proofs.Common.{◌≡◌, ℕ, zero, suc, ◌+◌, ◌<◌, ◌≤◌, Bool, true, false, List, [], ◌∷◌, ◌++◌, map, length, refl, sym, ap, subst, ◌∙◌, append_assoc, arith}
+use Rattle.std.proofs.Common.{◌≡◌, ℕ, zero, suc, ◌+◌, ◌<◌, ◌≤◌, Bool, true, false, List, [], ◌∷◌, ◌++◌, map, length, refl, sym, ap, subst, ◌∙◌, append_assoc, arith, inl, inr}
 use Rattle.std.specs.Prelude.{if◌then◌else◌, ◌==◌, ◌||◌, nat_lt, slice_set, slice_index_or, replicate}
 use Rattle.std.specs.List.{list_any}
 use Rattle.std.proofs.lemmas.List.{append-nil, map-append, length-set, get_or-set_same, get_or-set_other}
 use Rattle.std.proofs.lemmas.List.Folds.{list_any-append}
-use Rattle.std.proofs.lemmas.Bool.{eq-eqb, ne_eqb}
+use Rattle.std.proofs.lemmas.Bool.Decides.{eqb_tells}
 use Rattle.std.proofs.Math.Bool.{or-false}
 use Rattle.sk_prog.specs.declared.prog.Fun.{Fun}
 use Rattle.sk_prog.specs.declared.stmt.PStmt.{PStmt}
@@ -23,21 +23,15 @@ or_true : (b : Bool) → (b || true) ≡ true
 or_true true = refl
 or_true false = refl
 
+set_same : (table : List Bool) (f k : ℕ) → f ≡ k → k < length table → slice_index_or (slice_set table f true) k false ≡ (slice_index_or table k false || true)
+set_same table f k e h = subst (λ (g : ℕ). slice_index_or (slice_set table g true) k false ≡ (slice_index_or table k false || true)) (sym e) (get_or-set_same table k true false h ∙ sym (or_true (slice_index_or table k false)))
+
 set_one : (table : List Bool) (f k : ℕ) → k < length table → slice_index_or (slice_set table f true) k false ≡ (slice_index_or table k false || (f == k))
 set_one table f k h =
-    elim (f == k) as (λ b. (f == k) ≡ b → slice_index_or (slice_set table f true) k false ≡ (slice_index_or table k false || b)) [
-      | true ↦ λ same. set_same table f k (eqb_true f k same) h
-      | false ↦ λ other. get_or-set_other table f k true false (λ e. absurd (differs f k other e)) ∙ sym (or-false (slice_index_or table k false))
-    ] refl
-  where
-    eqb_true : (f k : ℕ) → (f == k) ≡ true → f ≡ k
-    eqb_true f k e = grind (arith, e)
-
-    differs : (f k : ℕ) → (f == k) ≡ false → k ≡ f → ⊥
-    differs f k e g = let h : (f == k) ≡ true = eq-eqb f k (sym g) in cc
-
-    set_same : (table : List Bool) (f k : ℕ) → f ≡ k → k < length table → slice_index_or (slice_set table f true) k false ≡ (slice_index_or table k false || true)
-    set_same table f k e h = subst (λ g. slice_index_or (slice_set table g true) k false ≡ (slice_index_or table k false || true)) (sym e) (get_or-set_same table k true false h ∙ sym (or_true (slice_index_or table k false)))
+    elim (eqb_tells f k) [
+      | inl t ↦ set_same table f k t.1 h ∙ ap (λ b. slice_index_or table k false || b) (sym t.0)
+      | inr t ↦ get_or-set_other table f k true false (λ e. t.1 (sym e)) ∙ sym (or-false (slice_index_or table k false)) ∙ ap (λ b. slice_index_or table k false || b) (sym t.0)
+    ]
 
 -- The table says which functions are called, as far as it goes.
 record Agrees (table : List Bool) (called : List ℕ) : Type 0 where

@@ -8,7 +8,11 @@ abbrev pub marked : List Bool → List ℕ → List Bool
 marked table [] = table
 marked table (f ∷ fs) = marked (slice_set table f true) fs
 
+-- a part, if it stands
+unfoldable pub kept_if : Bool → Part Standing → Part Standing
+kept_if b p = if b then p else absent p
+
 -- of these parts, of which the first has number k, those stand whose number meets a test
 abbrev pub some_of : (ℕ → Bool) → ℕ → List (Part Standing) → List (Part Standing)
 some_of test k [] = []
-some_of test k (p ∷ ps) = (if test k then p else absent p) ∷ some_of test (k + 1) ps
+some_of test k (p ∷ ps) = kept_if (test k) p ∷ some_of test (k + 1) ps

@@ -22,11 +22,11 @@ pub struct Stood {
 }
 
 /// Walks functions, of which the first, so many, are ordinary, in their order.
-fn walk(alloc: Global, walker: Walker, ordinary: u32, funs: &[Fun]) -> Result<Stood, AllocError>
-    requires { total (map (sites_in walker.values.now) funs.now) ≤ length walker.values.now }
-    ensures stands { IfOk result (λ s. s.stands.items ≡ funs_standing walker.values.now ordinary (nothing_seen (length funs.now)) 0 0 funs.now) }
-    ensures counts { IfOk result (λ s. s.counts.items ≡ map (sites_in walker.values.now) funs.now) }
-    ensures met { IfOk result (λ s. s.met ≡ funs_seen walker.values.now ordinary (nothing_seen (length funs.now)) 0 0 funs.now) }
+fn walk(alloc: Global, walker: &Walker, ordinary: u32, funs: &[Fun]) -> Result<Stood, AllocError>
+    requires { total (map (sites_in walker.now.values.now) funs.now) ≤ length walker.now.values.now }
+    ensures stands { IfOk result (λ s. s.stands.items ≡ funs_standing walker.now.values.now ordinary (nothing_seen (length funs.now)) 0 0 funs.now) }
+    ensures counts { IfOk result (λ s. s.counts.items ≡ map (sites_in walker.now.values.now) funs.now) }
+    ensures met { IfOk result (λ s. s.met ≡ funs_seen walker.now.values.now ordinary (nothing_seen (length funs.now)) 0 0 funs.now) }
 {
     let mut stands = Vec::new(alloc);
     let mut counts = Vec::new(alloc);
@@ -48,7 +48,7 @@ fn walk(alloc: Global, walker: Walker, ordinary: u32, funs: &[Fun]) -> Result<St
 
 /// What stands of functions, of which the first, so many, are ordinary, under these values.
 #[tactic(auto, using(crate::proofs::StandLaws::whole))]
-pub fn stood(
+pub fn what_stands(
     alloc: Global,
     values: &[u32],
     ordinary: u32,
@@ -60,6 +60,6 @@ pub fn stood(
     ensures paid { IfOk result (λ s. map minimize_paid s.met.paid ≡ map minimize_of (all_paid (standing_from values.now ordinary [] 0 0 funs.now))) }
 {
     let walker = Walker { values };
-    let stood = walk(alloc, walker, ordinary, funs)?;
+    let stood = walk(alloc, &walker, ordinary, funs)?;
     Ok(stood)
 }

@@ -6,7 +6,7 @@ mod hole;
 mod met;
 mod walker;
 
-pub use functions::{Stood, stood};
+pub use functions::{Stood, what_stands};
 pub use hole::is_hole;
 pub use met::{Met, Paid};
 pub use walker::Walker;
