@@ -11,7 +11,7 @@ use Rattle.sk_model.specs.declared.expanded.Choice.{Choice}
 use Rattle.sk_model.specs.declared.expanded.Expanded.{Expanded}
 use Rattle.sk_model.specs.Parts.{rank, total}
 use Rattle.sk_model.specs.Sites.{sites, funs_sites, stmts_sites}
-use Rattle.sk_model.specs.Stands.{body_standing, standing_from, funs_stand, all_paid}
+use Rattle.sk_model.specs.Stands.{Payment, body_standing, standing_from, funs_stand, all_paid}
 use Rattle.sk_model.specs.Fill.{Fits, InRange, minimize_of, stmts_count, fill_fun, fill_funs, fill}
 use Rattle.sk_model.proofs.Bare.{filled_has_no_sites}
 use Rattle.sk_holes.specs.declared.fault.FillFault.{FillFault}
@@ -20,6 +20,7 @@ use Rattle.sk_holes.specs.Range.{Tests, IsRefused}
 use Rattle.sk_holes.specs.Ranks.{ranks_from, count_true}
 use Rattle.sk_holes.specs.Table.{numbered}
 use Rattle.sk_standing.specs.declared.met.Paid.{Paid}
+use Rattle.sk_standing.specs.Met.{payment}
 use Rattle.sk_standing.specs.Functions.{minimize_paid, sites_in}
 use Rattle.sk_holes.specs.Whole.{filled_by}
 use Rattle.sk_holes.specs.Needs.{HasItsSites, is_narrow, are_narrow, are_numbers}
@@ -41,16 +42,24 @@ fill_step values number paid false bs f fs i = refl
 
 pub ruleset functions = (same_count, fill_step)
 
+paid_as : (ps : List Paid) (qs : List Payment) → map payment ps ≡ qs → map minimize_paid ps ≡ map minimize_of qs
+paid_as ps qs is = one_by_one ps ∙ ap (λ xs. map minimize_of xs) is
+  where
+    one_by_one : (ps : List Paid) → map minimize_paid ps ≡ map minimize_of (map payment ps)
+    one_by_one [] = refl
+    one_by_one (p ∷ ps) = ap (λ ss. minimize_paid p ∷ ss) (one_by_one ps)
+
 -- The table of numbers and the payments are those of what stands.
-pub filled_functions : (values : List ℕ) (ordinary : ℕ) (fs : List Fun) (stands : List Bool) (paid : List PStmt) (table : List ℕ) (last : ℕ)
+pub filled_functions : (values : List ℕ) (ordinary : ℕ) (fs : List Fun) (stands : List Bool) (paid : List Paid) (payments : List Payment) (table : List ℕ) (last : ℕ)
     → stands ≡ funs_stand (standing_from values ordinary [] 0 0 fs)
-    → paid ≡ map minimize_of (all_paid (standing_from values ordinary [] 0 0 fs))
+    → map payment paid ≡ payments → payments ≡ all_paid (standing_from values ordinary [] 0 0 fs)
     → table ≡ ranks_from 0 stands → last ≡ count_true stands
-    → fill_funs values (numbered table last) paid stands fs 0 ≡ filled_by values ordinary fs
-filled_functions values ordinary fs stands paid table last is pays tabled counted =
+    → fill_funs values (numbered table last) (map minimize_paid paid) stands fs 0 ≡ filled_by values ordinary fs
+filled_functions values ordinary fs stands paid payments table last is noted pays tabled counted =
     let by : numbered table last ≡ rank stands = ap (λ t. numbered t last) tabled ∙ ap (λ l. numbered (ranks_from 0 stands) l) counted ∙ ranks stands in
-    ap (λ n. fill_funs values n paid stands fs 0) by
-    ∙ ap (λ ps. fill_funs values (rank stands) ps stands fs 0) pays
+    ap (λ n. fill_funs values n (map minimize_paid paid) stands fs 0) by
+    ∙ ap (λ ps. fill_funs values (rank stands) ps stands fs 0) (paid_as paid payments noted)
+    ∙ ap (λ ps. fill_funs values (rank stands) (map minimize_of ps) stands fs 0) pays
     ∙ ap (λ bs. fill_funs values (rank bs) (map minimize_of (all_paid (standing_from values ordinary [] 0 0 fs))) bs fs 0) is
 
 -- how many sites the functions have

@@ -19,7 +19,7 @@ use crate::slots::slots_needed;
 use sk_base::List;
 use sk_model::{Choice, Expanded};
 use sk_prog::{Elem, Fun, FunKind, PEForm, PExpr, PForm, PStmt, Prog, Ty};
-use sk_standing::{Paid, Stood, what_stands};
+use sk_standing::{Paid, Stood, Walker, what_stands};
 use std::alloc::{AllocError, Global};
 
 /// `minimize(v);` for a minrepeat that pays v.
@@ -121,15 +121,14 @@ impl Filler<'_> {
 
     /// The functions that stand, filled.
     #[tactic(auto, using(crate::proofs::ProgramLaws::functions))]
-    fn funs(&self, stood: &Stood, funs: &[Fun]) -> Result<Vec<Fun>, AllocError>
+    fn funs(&self, stood: &Stood, paid: &[Paid], funs: &[Fun]) -> Result<Vec<Fun>, AllocError>
         requires stands { length stood.now.stands.items ≡ length funs.now }
         requires counts { stood.now.counts.items ≡ map (sites_in self.now.values.now) funs.now }
         requires reaches { total stood.now.counts.items ≤ length self.now.values.now }
-        ensures { IfOk result (λ x. x.items ≡ fill_funs self.now.values.now (number self.now) (map minimize_paid stood.now.met.paid) stood.now.stands.items funs.now 0) }
+        ensures { IfOk result (λ x. x.items ≡ fill_funs self.now.values.now (number self.now) (map minimize_paid paid.now) stood.now.stands.items funs.now 0) }
     {
         let mut filled = Vec::new(self.alloc);
         let mut at = 0;
-        let paid = stood.met.paid();
         for (n, f) in funs.iter().enumerate() {
             self.add(
                 &mut at,
@@ -167,7 +166,8 @@ fn filled_funs(
     requires { total (map (sites_in values.now) funs.now) ≤ length values.now }
     ensures { IfOk result (λ x. x ≡ filled_by values.now ordinary funs.now) }
 {
-    let stood = what_stands(alloc, values, ordinary, funs)?;
+    let walker = Walker { values };
+    let stood = what_stands(alloc, &walker, ordinary, funs)?;
     let ranks = number_functions(alloc, stood.stands.as_slice())?;
     let filler = Filler {
         alloc,
@@ -175,7 +175,7 @@ fn filled_funs(
         table: ranks.table.as_slice(),
         last: ranks.last,
     };
-    let filled = filler.funs(&stood, funs)?;
+    let filled = filler.funs(&stood, stood.met.paid(), funs)?;
     Ok(List::from_vec(filled))
 }
 

@@ -6,8 +6,7 @@ ghost use Rattle.sk_holes.specs.Filling.{Reaches, value_at, optional, stmt, stmt
 
 use crate::filler::Filler;
 use sk_base::{Boxed, List, Name};
-use sk_prog::{PExpr, PForm, PStmt, Ty};
-use sk_standing::is_hole;
+use sk_prog::{PEForm, PExpr, PForm, PStmt, Ty};
 use std::alloc::AllocError;
 
 /// A statement with the span of another.
@@ -134,12 +133,16 @@ impl Filler<'_> {
         ensures filled { IfOk result (λ x. sform.Block x.items ≡ (repeated self.now count.now copies.now).at at.old) }
         ensures at { OnOk result (at.new ≡ at.old + ((repeated self.now count.now copies.now).count)) }
     {
-        if is_hole(count) {
-            let filled = self.kept(at, copies)?;
-            return Ok(filled);
+        match &count.form {
+            PEForm::Hole(_) => {
+                let filled = self.kept(at, copies)?;
+                Ok(filled)
+            }
+            _ => {
+                let filled = self.stmts(at, copies)?;
+                Ok(filled)
+            }
         }
-        let filled = self.stmts(at, copies)?;
-        Ok(filled)
     }
 
     /// The statements of a reorder in the order that its digits say.

@@ -1,7 +1,7 @@
--- Which functions what stands calls, as marks in a table of functions.
-use Rattle.std.specs.Prelude.{ℕ, ◌+◌, List, [], ◌∷◌, Bool, true, slice_set, if◌then◌else◌}
+-- Which of some parts stand, and which functions are called, as marks in a table.
+use Rattle.std.specs.Prelude.{ℕ, ◌+◌, List, [], ◌∷◌, Bool, true, slice_set}
 use Rattle.sk_model.specs.Parts.{Part}
-use Rattle.sk_model.specs.Stands.{Standing, absent}
+use Rattle.sk_model.specs.Stands.{Standing, part_if}
 
 -- the table in which these functions too are marked; one that is not in the table is passed over
 abbrev pub marked : List Bool → List ℕ → List Bool
@@ -10,7 +10,7 @@ marked table (f ∷ fs) = marked (slice_set table f true) fs
 
 -- a part, if it stands
 unfoldable pub kept_if : Bool → Part Standing → Part Standing
-kept_if b p = if b then p else absent p
+kept_if b p = part_if b p
 
 -- of these parts, of which the first has number k, those stand whose number meets a test
 abbrev pub some_of : (ℕ → Bool) → ℕ → List (Part Standing) → List (Part Standing)

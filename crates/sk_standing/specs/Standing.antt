@@ -1,12 +1,12 @@
 -- What of the parts of a program stands by one walker, and how many sites they have.
-use Rattle.std.specs.Prelude.{ℕ, ◌+◌, ◌≤◌, ◌==◌, List, map, Option, option_map, length, nat_lt}
+use Rattle.std.specs.Prelude.{ℕ, ◌+◌, ◌-◌, ◌≤◌, ◌==◌, List, map, Option, option_map, length, nat_lt}
 use Rattle.sk_prog.specs.declared.ty.Ty.{Ty}
 use Rattle.sk_prog.specs.declared.expr.PExpr.{PExpr}
 use Rattle.sk_prog.specs.declared.expr.PField.{PField}
 use Rattle.sk_prog.specs.declared.expr.PEForm.TheFolds.{fold-PField}
 use Rattle.sk_prog.specs.declared.stmt.PStmt.{PStmt}
 use Rattle.sk_model.specs.Parts.{Part}
-use Rattle.sk_model.specs.Stands.{Standing, in_row, first_of, only, by_value, if_there, eform_standing, expr_standing, value_standing, repeat_standing, stmt_standing}
+use Rattle.sk_model.specs.Stands.{Standing, own, beside, in_row, first_of, only, by_value, if_there, eform_standing, expr_standing, value_standing, repeat_standing, stmt_standing}
 use Rattle.sk_standing.specs.declared.walker.Walker.{Walker}
 use Rattle.sk_standing.specs.Marks.{some_of}
 
@@ -57,3 +57,7 @@ module _ (w : Walker) where
 
   abbrev pub repeated : PExpr → List PStmt → Part Standing
   repeated count ss = repeat_standing w.values.now count (map stmt ss)
+
+  -- the statements of a reorder, which all stand, behind its own sites
+  abbrev pub reordered : List PStmt → Part Standing
+  reordered ss = beside (own (length ss - 1)) (in_row (map stmt ss))

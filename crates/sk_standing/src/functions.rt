@@ -1,13 +1,14 @@
 //! Which functions of a program stand under a choice.
-ghost use Rattle.std.specs.Prelude.{◌≡◌, ◌≤◌, [], IfOk, length, map};
+ghost use Rattle.std.specs.Prelude.{◌≡◌, ◌≤◌, ◌+◌, ◌++◌, ◌∷◌, [], IfOk, OnOk, length, map};
 ghost use Rattle.sk_model.specs.Parts.{total};
 ghost use Rattle.sk_model.specs.Stands.{standing_from, funs_stand, all_paid};
-ghost use Rattle.sk_model.specs.Fill.{minimize_of};
-ghost use Rattle.sk_standing.specs.Functions.{minimize_paid, sites_in, nothing_seen, funs_standing, funs_seen};
+ghost use Rattle.sk_standing.specs.Marks.{marked, kept_if};
+ghost use Rattle.sk_standing.specs.Standing.{Has, stmts};
+ghost use Rattle.sk_standing.specs.Functions.{sites_in, stands_by};
 
 use crate::met::Met;
 use crate::walker::Walker;
-use sk_prog::Fun;
+use sk_prog::{Fun, PStmt};
 use std::alloc::{AllocError, Global};
 
 /// What stands of the functions of a program.
@@ -21,45 +22,88 @@ pub struct Stood {
     pub met: Met,
 }
 
-/// Walks functions, of which the first, so many, are ordinary, in their order.
-fn walk(alloc: Global, walker: &Walker, ordinary: u32, funs: &[Fun]) -> Result<Stood, AllocError>
-    requires { total (map (sites_in walker.now.values.now) funs.now) ≤ length walker.now.values.now }
-    ensures stands { IfOk result (λ s. s.stands.items ≡ funs_standing walker.now.values.now ordinary (nothing_seen (length funs.now)) 0 0 funs.now) }
-    ensures counts { IfOk result (λ s. s.counts.items ≡ map (sites_in walker.now.values.now) funs.now) }
-    ensures met { IfOk result (λ s. s.met ≡ funs_seen walker.now.values.now ordinary (nothing_seen (length funs.now)) 0 0 funs.now) }
+/// Marks functions in a table.
+#[tactic(auto, using(crate::proofs::MarkLaws::set_past))]
+fn mark_one(table: &mut [bool], f: u32)
+    ensures { table.new ≡ marked table.old (f ∷ []) }
 {
-    let mut stands = Vec::new(alloc);
-    let mut counts = Vec::new(alloc);
-    let mut met = Met::new(alloc, funs.len())?;
-    let mut at = 0;
-    for (n, f) in funs.iter().enumerate() {
-        let first = at;
-        let stand = met.stands(ordinary, n);
-        walker.stmts(stand, &mut at, &mut met, f.body.as_slice())?;
-        stands.push(stand)?;
-        counts.push(at - first)?;
+    let f = f as usize;
+    if f < table.len() {
+        table[f] = true;
     }
-    Ok(Stood {
-        stands,
-        counts,
-        met,
-    })
 }
 
-/// What stands of functions, of which the first, so many, are ordinary, under these values.
-#[tactic(auto, using(crate::proofs::StandLaws::whole))]
+fn mark(table: &mut [bool], called: &[u32])
+    ensures { table.new ≡ marked table.old called.now }
+{
+    for f in called {
+        mark_one(table, *f);
+    }
+}
+
+/// Whether the function with a number stands: the first, so many, stand, and each other where it is called.
+fn stands(table: &[bool], ordinary: u32, n: usize) -> bool
+    ensures { result ≡ stands_by ordinary table.now n }
+{
+    if n < ordinary as usize {
+        return true;
+    }
+    match table.get(n) {
+        Some(called) => *called,
+        None => false,
+    }
+}
+
+/// What stands of a body, which may stand.
+#[tactic(auto, unfolding(crate::specs::Marks::kept_if))]
+fn body(
+    walker: &Walker,
+    stands: bool,
+    at: &mut usize,
+    met: &mut Met,
+    body: &[PStmt],
+) -> Result<(), AllocError>
+    requires { Has walker.now at.old ((stmts walker.now body.now).count) }
+    ensures called { OnOk result (met.new.called ≡ met.old.called ++ ((kept_if stands (stmts walker.now body.now)).at at.old).called) }
+    ensures payments { OnOk result (met.new.payments ≡ met.old.payments ++ ((kept_if stands (stmts walker.now body.now)).at at.old).paid) }
+    ensures at { OnOk result (at.new ≡ at.old + ((stmts walker.now body.now).count)) }
+{
+    if stands {
+        walker.stmts(at, met, body)?;
+        return Ok(());
+    }
+    walker.skip_stmts(at, body);
+    Ok(())
+}
+
+/// What stands of functions, of which the first, so many, are ordinary, under the values of a walker.
 pub fn what_stands(
     alloc: Global,
-    values: &[u32],
+    walker: &Walker,
     ordinary: u32,
     funs: &[Fun],
 ) -> Result<Stood, AllocError>
-    requires { total (map (sites_in values.now) funs.now) ≤ length values.now }
-    ensures stands { IfOk result (λ s. s.stands.items ≡ funs_stand (standing_from values.now ordinary [] 0 0 funs.now)) }
-    ensures counts { IfOk result (λ s. s.counts.items ≡ map (sites_in values.now) funs.now) }
-    ensures paid { IfOk result (λ s. map minimize_paid s.met.paid ≡ map minimize_of (all_paid (standing_from values.now ordinary [] 0 0 funs.now))) }
+    requires { total (map (sites_in walker.now.values.now) funs.now) ≤ length walker.now.values.now }
+    ensures stands { IfOk result (λ s. s.stands.items ≡ funs_stand (standing_from walker.now.values.now ordinary [] 0 0 funs.now)) }
+    ensures counts { IfOk result (λ s. s.counts.items ≡ map (sites_in walker.now.values.now) funs.now) }
+    ensures paid { IfOk result (λ s. s.met.payments ≡ all_paid (standing_from walker.now.values.now ordinary [] 0 0 funs.now)) }
 {
-    let walker = Walker { values };
-    let stood = walk(alloc, &walker, ordinary, funs)?;
-    Ok(stood)
+    let mut all = Vec::new(alloc);
+    let mut counts = Vec::new(alloc);
+    let mut met = Met::new(alloc);
+    let mut table = vec![in alloc; false; funs.len()]?;
+    let mut at = 0;
+    for (n, f) in funs.iter().enumerate() {
+        let (first, from) = (at, met.called().len());
+        let stand = stands(table.as_slice(), ordinary, n);
+        body(walker, stand, &mut at, &mut met, f.body.as_slice())?;
+        mark(table.as_mut_slice(), &met.called()[from..]);
+        all.push(stand)?;
+        counts.push(at - first)?;
+    }
+    Ok(Stood {
+        stands: all,
+        counts,
+        met,
+    })
 }

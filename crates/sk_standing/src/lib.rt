@@ -7,6 +7,5 @@ mod met;
 mod walker;
 
 pub use functions::{Stood, what_stands};
-pub use hole::is_hole;
 pub use met::{Met, Paid};
 pub use walker::Walker;

@@ -1,7 +1,6 @@
 //! What the walk of what stands has met.
-ghost use Rattle.std.specs.Prelude.{◌≡◌, [], ◌∷◌, IfOk, OnOk, replicate, false};
-ghost use Rattle.sk_standing.specs.Met.{walked};
-ghost use Rattle.sk_standing.specs.Functions.{stands_after};
+ghost use Rattle.std.specs.Prelude.{◌≡◌, [], ◌∷◌, ◌++◌, OnOk, map};
+ghost use Rattle.sk_standing.specs.Met.{payment};
 
 use sk_base::Span;
 use std::alloc::{AllocError, Global};
@@ -14,73 +13,64 @@ pub struct Paid {
     pub amount: u32,
 }
 
-/// For each function whether it is called, and what is paid.
+/// The functions that are called, and what is paid, in order.
 #[derive(Drop)]
 pub struct Met {
-    called: Vec<bool>,
+    called: Vec<u32>,
     paid: Vec<Paid>,
 }
 
 impl Model for Met {
-    ghost use Rattle.sk_standing.specs.Met.{Seen};
+    ghost use Rattle.std.specs.Prelude.{map};
+    ghost use Rattle.sk_standing.specs.Met.{Seen, payment};
     ghost use Rattle.std.specs.Coded.{codes};
 
     ghost Value = { Seen };
 
     ghost coded = { Prim.hlevel codes };
 
-    ghost view = { λ m. record { called = m.called.items; paid = m.paid.items } };
+    ghost view = { λ m. record { called = m.called.items; payments = map payment m.paid.items } };
 }
 
 impl Met {
-    /// Nothing of a program with so many functions.
-    pub fn new(alloc: Global, funs: usize) -> Result<Met, AllocError>
-        ensures { IfOk result (λ m. m ≡ record { called = replicate funs false; paid = [] }) }
+    /// Nothing.
+    pub fn new(alloc: Global) -> Met
+        ensures { result ≡ record { called = []; payments = [] } }
     {
-        let called = vec![in alloc; false; funs]?;
-        let paid = Vec::new(alloc);
-        Ok(Met { called, paid })
-    }
-
-    /// Notes that a function is called, if what calls it stands.
-    #[tactic(auto, using(crate::proofs::MarkLaws::set_past), unfolding(crate::specs::Met::walked))]
-    pub fn call(&mut self, stands: bool, f: u32)
-        ensures { self.new ≡ walked self.old stands (f ∷ []) [] }
-    {
-        let f = f as usize;
-        if stands && f < self.called.len() {
-            self.called[f] = true;
+        Met {
+            called: Vec::new(alloc),
+            paid: Vec::new(alloc),
         }
     }
 
-    /// Notes what a minrepeat pays, if it stands.
-    #[tactic(auto, unfolding(crate::specs::Met::walked))]
-    pub fn pay(&mut self, stands: bool, span: Span, amount: u32) -> Result<(), AllocError>
-        ensures { OnOk result (self.new ≡ walked self.old stands [] (record { span = span; amount = amount } ∷ [])) }
+    /// Notes that a function is called.
+    pub fn call(&mut self, f: u32) -> Result<(), AllocError>
+        ensures called { OnOk result (self.new.called ≡ self.old.called ++ f ∷ []) }
+        ensures payments { OnOk result (self.new.payments ≡ self.old.payments) }
     {
-        if stands {
-            self.paid.push(Paid { span, amount })?;
-            return Ok(());
-        }
+        self.called.push(f)?;
         Ok(())
     }
 
-    /// Whether a function stands: the first, so many, stand, and each other where it is called.
-    pub fn stands(&self, ordinary: u32, f: usize) -> bool
-        ensures { result ≡ stands_after ordinary self.now f }
+    /// Notes what a minrepeat pays.
+    pub fn pay(&mut self, span: Span, amount: u32) -> Result<(), AllocError>
+        ensures called { OnOk result (self.new.called ≡ self.old.called) }
+        ensures payments { OnOk result (self.new.payments ≡ self.old.payments ++ record { span = span; amount = amount } ∷ []) }
     {
-        if f < ordinary as usize {
-            return true;
-        }
-        match self.called.get(f) {
-            Some(called) => *called,
-            None => false,
-        }
+        self.paid.push(Paid { span, amount })?;
+        Ok(())
     }
 
-    /// What is paid.
+    /// The functions that are called, in order.
+    pub fn called(&self) -> &[u32]
+        ensures { result.now ≡ self.now.called }
+    {
+        self.called.as_slice()
+    }
+
+    /// What is paid, in order.
     pub fn paid(&self) -> &[Paid]
-        ensures { result.now ≡ self.now.paid }
+        ensures { map payment result.now ≡ self.now.payments }
     {
         self.paid.as_slice()
     }
