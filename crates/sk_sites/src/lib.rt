@@ -1,0 +1,10 @@
+//! The sites of an expanded program.
+#![tactic(auto)]
+
+mod fault;
+mod held;
+mod lister;
+
+pub use fault::SitesFault;
+pub use held::{copies_held, hole_bits, most_copies};
+pub use lister::sites_of;
