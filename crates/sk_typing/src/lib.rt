@@ -1,6 +1,7 @@
 //! Typing of expressions: what an expression becomes where a type is wanted.
 #![tactic(auto)]
 
+mod elaborate;
 mod env;
 mod number;
 mod own;

@@ -1,0 +1,2 @@
+pub mod Plainer
+pub mod Steady
