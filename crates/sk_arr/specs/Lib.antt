@@ -1,0 +1,5 @@
+pub mod Shapes
+pub mod Held
+pub mod Places
+pub mod Answers
+pub mod Steps
