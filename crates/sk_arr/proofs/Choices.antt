@@ -1,5 +1,6 @@
 -- One of two shapes, part by part.
-use Rattle.std.proofs.Common.{◌≡◌, ℕ, ◌≤◌, Bool, true, false, List, [], ◌∷◌, ◌++◌, length, map, All, IsTrue, refl, sym, ap, subst, ◌∙◌, if◌then◌else◌}
+use Rattle.std.proofs.lemmas.List.{take_more}
+use Rattle.std.proofs.Common.{◌≡◌, ℕ, zero, suc, ◌+◌, ◌<◌, ◌≤◌, arith, Bool, true, false, List, [], ◌∷◌, ◌++◌, length, map, take, get_or, None, All, IsTrue, refl, sym, ap, subst, ◌∙◌, if◌then◌else◌}
 use Rattle.std.proofs.lemmas.List.Elements.{All-nil}
 use Rattle.sk_dag.specs.declared.env.Env.{Env}
 use Rattle.sk_dag.specs.declared.node.BoolId.{BoolId}
@@ -18,8 +19,8 @@ use Rattle.sk_arr.specs.Shapes.{blank, Alike, Stands, AllStand, SlotsPass, AllSl
 use Rattle.sk_arr.specs.Answers.{shapes_value, IsCopy, IsChoice, AreChoices}
 use Rattle.sk_arr.proofs.Makers.{Keeps-refl}
 use Rattle.sk_arr.proofs.Targets.{first_of, held_slot_first}
-use Rattle.sk_arr.proofs.Standing.{Stands-keeps, AllStand-keeps, bit_stands, int_stands, reference_stands, targets_few, array_stands}
-use Rattle.sk_arr.proofs.Values.{value_bit, value_int, value_reference, value_array, blank_bit, blank_int, blank_reference, blank_array, bit_passes, int_passes, reference_passes, targets_pass, array_passes, parts_pass, map_push, stand_none, stand_push, passes_push, passes_front, passes_last}
+use Rattle.sk_arr.proofs.Standing.{bit_there, int_there, targets_there, parts_stand, alike_parts, Stands-keeps, AllStand-keeps, bit_stands, int_stands, reference_stands, targets_few, array_stands}
+use Rattle.sk_arr.proofs.Values.{value_bit, value_int, value_reference, value_array, blank_bit, blank_int, blank_reference, blank_array, bit_passes, int_passes, reference_passes, targets_pass, array_passes, parts_pass, map_push, length_map, stand_none, stand_push, passes_push, passes_front, passes_last}
 
 -- a function of a choice is a choice of what it makes
 pub if_ap : {A B : Type 0} (f : A → B) (b : Bool) (x y : A) → f (if b then x else y) ≡ (if b then f x else f y)
@@ -117,6 +118,38 @@ choice_second {g} {c} {a} {b} {r} known alike copy = record {
   value = λ h more e. copy.value h e ∙ sym (ap (λ o. if o then shape_value h e a else shape_value h e b) (known h more e));
 }
 
-pub ruleset parts = (choice_bit, choice_int, choice_reference, choice_array)
+-- in the words of a match on the shapes
+pub choice_bits_at : {g : Graph} {c a b r : BoolId} {s u : Shape} → s ≡ shape.Bit a → u ≡ shape.Bit b → HasBool g.nodes r → ((h : Graph) → Grows g h → (e : Env) → bool_value h e r ≡ (if bool_value h e c then bool_value h e a else bool_value h e b)) → IsChoice g c s u (shape.Bit r)
+choice_bits_at {g} {c} {a} {b} {r} {s} {u} p q there value = subst (λ x. IsChoice g c x u (shape.Bit r)) (sym p) (subst (λ y. IsChoice g c (shape.Bit a) y (shape.Bit r)) (sym q) (choice_bit there value))
+
+pub choice_ints_at : {g : Graph} {c : BoolId} {a b r : WordId} {s u : Shape} → s ≡ shape.Int a → u ≡ shape.Int b → HasWord g.nodes r → ((h : Graph) → Grows g h → (e : Env) → word_value h e r ≡ (if bool_value h e c then word_value h e a else word_value h e b)) → IsChoice g c s u (shape.Int r)
+choice_ints_at {g} {c} {a} {b} {r} {s} {u} p q there value = subst (λ x. IsChoice g c x u (shape.Int r)) (sym p) (subst (λ y. IsChoice g c (shape.Int a) y (shape.Int r)) (sym q) (choice_int there value))
+
+pub choice_targets_at : {old new : Graph} {c : BoolId} {a b r : Targets} {s u : Shape} → s ≡ shape.Reference a → u ≡ shape.Reference b → Keeps old new → Stands old s → Stands old u → AreMerged new c a.slots.items b.slots.items [] r.slots.items → IsChoice new c s u (shape.Reference r)
+choice_targets_at {old} {new} {c} {a} {b} {r} {s} {u} p q k sa sb merged = subst (λ x. IsChoice new c x u (shape.Reference r)) (sym p) (subst (λ y. IsChoice new c (shape.Reference a) y (shape.Reference r)) (sym q) (choice_reference k (subst (Stands old) p sa) (subst (Stands old) q sb) merged))
+
+pub choice_parts_at : {g : Graph} {c : BoolId} {ss ts rs : List Shape} {s u : Shape} → s ≡ shape.Array ss → u ≡ shape.Array ts → AreChoices g c ss ts rs → IsChoice g c s u (shape.Array rs)
+choice_parts_at {g} {c} {ss} {ts} {rs} {s} {u} p q are = subst (λ x. IsChoice g c x u (shape.Array rs)) (sym p) (subst (λ y. IsChoice g c (shape.Array ss) y (shape.Array rs)) (sym q) (choice_array are))
+
+pub choices_more : {mid new : Graph} {c : BoolId} (list others made : List Shape) (i : ℕ) (a b r : Shape) → i < length list → i < length others → a ≡ get_or list i a → b ≡ get_or others i b → AreChoices mid c (take i list) (take i others) made → Keeps mid new → IsChoice new c a b r → AreChoices new c (take (i + 1) list) (take (i + 1) others) (made ++ r ∷ [])
+choices_more {mid} {new} {c} list others made i a b r l m p q are k is =
+    let more : take (i + 1) list ≡ take i list ++ a ∷ [] = take_more list i a l ∙ ap (λ x. take i list ++ x ∷ []) (sym p) in
+    let more' : take (i + 1) others ≡ take i others ++ b ∷ [] = take_more others i b m ∙ ap (λ x. take i others ++ x ∷ []) (sym q) in
+    subst (λ xs. AreChoices new c xs (take (i + 1) others) (made ++ r ∷ [])) (sym more)
+    (subst (λ ys. AreChoices new c (take i list ++ a ∷ []) ys (made ++ r ∷ [])) (sym more') (choices_push (take i list) (take i others) made a b r are k is))
+
+-- lists of equal forms are equally long, and alike one by one
+pub forms_long : {list others : List Shape} → map blank list ≡ map blank others → length list ≡ length others
+forms_long {list} {others} e = sym (length_map blank list) ∙ ap length e ∙ length_map blank others
+
+pub forms_alike : (list others : List Shape) (i : ℕ) (a b : Shape) → map blank list ≡ map blank others → i < length list → i < length others → a ≡ get_or list i a → b ≡ get_or others i b → Alike a b
+forms_alike list others i a b e l m p q = ap blank p ∙ get_or_mapped list i a l ∙ ap (λ vs. get_or vs i (SeenSlot None)) e ∙ sym (get_or_mapped others i b m) ∙ sym (ap blank q)
+  where
+    get_or_mapped : (xs : List Shape) (k : ℕ) (d : Shape) → k < length xs → blank (get_or xs k d) ≡ get_or (map blank xs) k (SeenSlot None)
+    get_or_mapped [] k d h = absurd (omega (arith, h))
+    get_or_mapped (x ∷ xs) zero d h = refl
+    get_or_mapped (x ∷ xs) (suc k) d h = get_or_mapped xs k d (omega (arith, h))
+
+pub ruleset parts = (choice_bits_at, choice_ints_at, choice_targets_at, choice_parts_at, bit_there, int_there, targets_there, parts_stand, alike_parts)
 
 pub ruleset known = (Keeps-refl, choice_first, choice_second)

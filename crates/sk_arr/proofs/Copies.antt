@@ -1,5 +1,6 @@
 -- Copies of shapes.
-use Rattle.std.proofs.Common.{◌≡◌, ℕ, ◌≤◌, Bool, List, [], ◌∷◌, ◌++◌, length, map, All, refl, sym, ap, subst, ◌∙◌}
+use Rattle.std.proofs.lemmas.List.{take_more}
+use Rattle.std.proofs.Common.{◌≡◌, ℕ, ◌+◌, ◌<◌, ◌≤◌, Bool, List, [], ◌∷◌, ◌++◌, length, map, take, get_or, All, refl, sym, ap, subst, ◌∙◌}
 use Rattle.sk_dag.specs.declared.env.Env.{Env}
 use Rattle.sk_dag.specs.declared.shape.Targets.{Targets}
 use Rattle.sk_dag.specs.declared.shape.Seen.{Seen}
@@ -12,7 +13,7 @@ use Rattle.sk_arr.specs.Held.{held_in, AllIn, AllPass}
 use Rattle.sk_arr.specs.Shapes.{blank, Stands, AllStand, SlotsPass, AllSlotsPass}
 use Rattle.sk_arr.specs.Answers.{shapes_value, IsCopy, AreCopies}
 use Rattle.sk_arr.proofs.Standing.{reference_stands, targets_there, targets_few, array_stands, parts_stand}
-use Rattle.sk_arr.proofs.Values.{value_reference, value_array, blank_reference, blank_array, reference_passes, targets_pass, array_passes, parts_pass, map_push, stand_none, stand_push, passes_push, passes_front, passes_last}
+use Rattle.sk_arr.proofs.Values.{value_reference, value_array, blank_reference, blank_array, reference_passes, targets_pass, array_passes, parts_pass, map_push, stand_none, stand_push, passes_push, passes_front, passes_last, stand_front, stand_last}
 
 pub IsCopy-refl : (g : Graph) (a : Shape) → Stands g a → IsCopy g a a
 IsCopy-refl g a h = record { stands = h; alike = refl; named = λ test p. p; value = λ k e. refl }
@@ -47,4 +48,17 @@ copies_push g ss rs a r are is = record {
   value = λ k e. map_push (shape_value k e) rs r ∙ (λ i. are.value k e i ++ is.value k e i ∷ []) ∙ sym (map_push (shape_value k e) ss a);
 }
 
-pub ruleset copies = (IsCopy-refl, copy_reference, copy_array)
+-- in the words of a match on the shape
+pub copy_targets_at : {g : Graph} {s : Shape} {a t : Targets} → s ≡ shape.Reference a → t.slots.items ≡ a.slots.items → Stands g s → IsCopy g s (shape.Reference t)
+copy_targets_at {g} {s} {a} {t} is items h = subst (λ x. IsCopy g x (shape.Reference t)) (sym is) (copy_reference g a t items (subst (Stands g) is h))
+
+pub copy_parts_at : {g : Graph} {s : Shape} {ss rs : List Shape} → s ≡ shape.Array ss → (AllStand g ss → AreCopies g ss rs) → Stands g s → IsCopy g s (shape.Array rs)
+copy_parts_at {g} {s} {ss} {rs} is are h = subst (λ x. IsCopy g x (shape.Array rs)) (sym is) (copy_array g ss rs are (subst (Stands g) is h))
+
+pub copies_more : {g : Graph} (list made : List Shape) (i : ℕ) (a r : Shape) → i < length list → a ≡ get_or list i a → (AllStand g (take i list) → AreCopies g (take i list) made) → (Stands g a → IsCopy g a r) → AllStand g (take (i + 1) list) → AreCopies g (take (i + 1) list) (made ++ r ∷ [])
+copies_more {g} list made i a r l at are is h =
+    let more : take (i + 1) list ≡ take i list ++ a ∷ [] = take_more list i a l ∙ ap (λ x. take i list ++ x ∷ []) (sym at) in
+    let h' : AllStand g (take i list ++ a ∷ []) = subst (AllStand g) more h in
+    subst (λ xs. AreCopies g xs (made ++ r ∷ [])) (sym more) (copies_push g (take i list) made a r (are (stand_front (take i list) a h')) (is (stand_last (take i list) a h')))
+
+pub ruleset copies = (IsCopy-refl, copy_targets_at, copy_parts_at)

@@ -22,8 +22,8 @@ use Rattle.sk_arr.specs.Shapes.{Stands}
 use Rattle.sk_arr.specs.Answers.{shapes_value, IsEquality, AreEqual}
 use Rattle.sk_arr.proofs.Makers.{Keeps-refl}
 use Rattle.sk_arr.proofs.Targets.{first_of, held_slot_first, held-append}
-use Rattle.sk_arr.proofs.Standing.{Stands-keeps, targets_few}
-use Rattle.sk_arr.proofs.Values.{value_bit, value_int, value_reference, value_array, map_push}
+use Rattle.sk_arr.proofs.Standing.{seen_lists, Stands-keeps, targets_few, bit_there, int_there, targets_there, parts_stand, alike_parts}
+use Rattle.sk_arr.proofs.Values.{value_bit, value_int, value_reference, value_array, map_push, length_map}
 
 pub int_eq-self : (x : ℤ) → int_eq x x ≡ true
 int_eq-self x = (Decides-int_eq x x).1 refl
@@ -100,10 +100,6 @@ as_slot : Seen → Option ℕ
 as_slot (SeenSlot s) = s
 as_slot _ = None
 
-as_list : Seen → List Seen
-as_list (SeenArray vs) = vs
-as_list _ = []
-
 pub equality_bit : {g : Graph} {a b r : BoolId} → HasBool g.nodes r → ((h : Graph) → Grows g h → (e : Env) → bool_value h e r ≡ (if bool_value h e a then bool_value h e b else not (bool_value h e b))) → IsEquality g (shape.Bit a) (shape.Bit b) r
 equality_bit {g} {a} {b} {r} there value = record {
   there = there;
@@ -142,12 +138,25 @@ equality_array {g} {ss} {ts} {r} are = record {
   there = are.there;
   value = λ h more e. (
     λ t. value_array h e ss ∙ ap (λ vs. SeenArray vs) ((are.value h more e).0 t) ∙ sym (value_array h e ts),
-    λ t. (are.value h more e).1 (ap as_list (sym (value_array h e ss) ∙ t ∙ value_array h e ts)));
+    λ t. (are.value h more e).1 (seen_lists (shapes_value h e ss) (shapes_value h e ts) (sym (value_array h e ss) ∙ t ∙ value_array h e ts)));
 }
 
 pub ruleset targets = (Keeps-refl)
 
-pub ruleset parts = (equality_bit, equality_int, equality_reference, equality_array)
+-- in the words of a match on the shapes
+pub equal_bits_at : {g : Graph} {a b r : BoolId} {s u : Shape} → s ≡ shape.Bit a → u ≡ shape.Bit b → HasBool g.nodes r → ((h : Graph) → Grows g h → (e : Env) → bool_value h e r ≡ (if bool_value h e a then bool_value h e b else not (bool_value h e b))) → IsEquality g s u r
+equal_bits_at {g} {a} {b} {r} {s} {u} p q there value = subst (λ x. IsEquality g x u r) (sym p) (subst (λ y. IsEquality g (shape.Bit a) y r) (sym q) (equality_bit there value))
+
+pub equal_ints_at : {g : Graph} {a b : WordId} {r : BoolId} {s u : Shape} → s ≡ shape.Int a → u ≡ shape.Int b → HasBool g.nodes r → ((h : Graph) → Grows g h → (e : Env) → bool_value h e r ≡ int_eq (word_value h e a) (word_value h e b)) → IsEquality g s u r
+equal_ints_at {g} {a} {b} {r} {s} {u} p q there value = subst (λ x. IsEquality g x u r) (sym p) (subst (λ y. IsEquality g (shape.Int a) y r) (sym q) (equality_int there value))
+
+pub equal_targets_at : {old new : Graph} {a b : Targets} {r : BoolId} {s u : Shape} → s ≡ shape.Reference a → u ≡ shape.Reference b → Keeps old new → Stands old s → Stands old u → HasBool new.nodes r → ((h : Graph) → Grows new h → (e : Env) → bool_value h e r ≡ (have_common (held_in h e a.slots.items) (held_in h e b.slots.items) || not (is_some_held (held_in h e a.slots.items) || is_some_held (held_in h e b.slots.items)))) → IsEquality new s u r
+equal_targets_at {old} {new} {a} {b} {r} {s} {u} p q k sa sb there value = subst (λ x. IsEquality new x u r) (sym p) (subst (λ y. IsEquality new (shape.Reference a) y r) (sym q) (equality_reference k (subst (Stands old) p sa) (subst (Stands old) q sb) there value))
+
+pub equal_parts_at : {g : Graph} {ss ts : List Shape} {r : BoolId} {s u : Shape} → s ≡ shape.Array ss → u ≡ shape.Array ts → AreEqual g ss ts r → IsEquality g s u r
+equal_parts_at {g} {ss} {ts} {r} {s} {u} p q are = subst (λ x. IsEquality g x u r) (sym p) (subst (λ y. IsEquality g (shape.Array ss) y r) (sym q) (equality_array are))
+
+pub ruleset parts = (equal_bits_at, equal_ints_at, equal_targets_at, equal_parts_at, bit_there, int_there, targets_there, parts_stand, alike_parts)
 
 pub equal_none : {g : Graph} {r : BoolId} → HasBool g.nodes r → ((h : Graph) → Grows g h → (e : Env) → bool_value h e r ≡ true) → AreEqual g [] [] r
 equal_none there value = record { there = there; value = λ h more e. (λ t. refl, λ t. value h more e) }
@@ -183,10 +192,6 @@ and_both false b e = absurd (true≢false (sym e))
 both_and : (a b : Bool) → a ≡ true → b ≡ true → (a && b) ≡ true
 both_and true b p q = q
 both_and false b p q = p
-
-pub length_map : {A B : Type 0} (f : A → B) (xs : List A) → length (map f xs) ≡ length xs
-length_map f [] = refl
-length_map f (x ∷ xs) = ap suc (length_map f xs)
 
 pub equal_push : {old mid new : Graph} (ss ts : List Shape) (a b : Shape) (r one all : BoolId) → length ss ≡ length ts → AreEqual old ss ts r → Keeps old mid → IsEquality mid a b one → Keeps mid new → HasBool new.nodes all → ((h : Graph) → Grows new h → (e : Env) → bool_value h e all ≡ (bool_value h e r && bool_value h e one)) → AreEqual new (ss ++ a ∷ []) (ts ++ b ∷ []) all
 equal_push {old} {mid} {new} ss ts a b r one all l are k is k' there value = record { there = there; value = λ h more e. by h e (k'.later h more) (value h more e) }

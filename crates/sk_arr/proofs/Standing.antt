@@ -11,6 +11,8 @@ use Rattle.sk_dag.specs.declared.shape.Shape.TheOpen as F
 use Rattle.sk_dag.specs.declared.shape.Shape.TheFolds.{every-Shape}
 use Rattle.sk_dag.specs.declared.shape.Seen.{Seen}
 use Rattle.sk_dag.specs.declared.shape.Seen.TheVariants.{Array as SeenArray}
+use Rattle.sk_dag.specs.declared.shape.Seen.TheOpen as N
+use Rattle.sk_dag.specs.declared.shape.Seen.TheViews.{out-Seen, outs-Array}
 use Rattle.sk_dag.specs.Graph.{Graph, Grows, HasSort, HasBool, HasWord, BoolSort, WordSort}
 use Rattle.sk_dag.specs.Eval.{bool_value, Keeps}
 use Rattle.sk_dag.proofs.EvalLemmas.{Grows-refl, bool_value-grows}
@@ -70,11 +72,16 @@ targets_few g t h e = few (bool_value g e) t.slots.items ((reference_every (Part
 pub parts_stand : {g : Graph} {s : Shape} {ss : List Shape} → Stands g s → s ≡ shape.Array ss → AllStand g ss
 parts_stand {g} {s} {ss} h is = record { each = λ i d lt. record { parts = array_every (PartStands g) ss (subst (every-Shape (PartStands g)) is h.parts) i d lt } }
 
-pub alike_parts : {s r : Shape} {ss rs : List Shape} → Alike s r → s ≡ shape.Array ss → r ≡ shape.Array rs → map blank ss ≡ map blank rs
-alike_parts {s} {r} {ss} {rs} h p q = ap parts_of (sym (fold_array Seen blank_step ss) ∙ ap blank (sym p) ∙ h ∙ ap blank q ∙ fold_array Seen blank_step rs)
-  where
-    parts_of : Seen → List Seen
-    parts_of (SeenArray vs) = vs
-    parts_of _ = []
+list_of : N.Seen-F Seen → List Seen
+list_of (N.Array vs) = vs
+list_of _ = []
+
+-- arrays are equal where their elements are
+pub seen_lists : (xs ys : List Seen) → SeenArray xs ≡ SeenArray ys → xs ≡ ys
+seen_lists xs ys e = sym (ap list_of (outs-Array xs)) ∙ ap (λ v. list_of (out-Seen v)) e ∙ ap list_of (outs-Array ys)
+
+pub alike_parts : (s r : Shape) (ss rs : List Shape) → Alike s r → s ≡ shape.Array ss → r ≡ shape.Array rs → map blank ss ≡ map blank rs
+alike_parts s r ss rs h p q =
+    seen_lists (map blank ss) (map blank rs) (sym (fold_array Seen blank_step ss) ∙ ap blank (sym p) ∙ h ∙ ap blank q ∙ fold_array Seen blank_step rs)
 
 pub ruleset inside = (Stands-keeps, AllStand-keeps, bit_there, int_there, targets_there, parts_stand, alike_parts)

@@ -148,9 +148,6 @@ module _ {mid new : Graph} {c : BoolId} {a b before made after : List (ℕ × Bo
       by h e true v = walk h e first more a next.front v
       by h e false v = walk h e second others b next.other v
 
-pub none_in : (g : Graph) → AllIn g []
-none_in g = record { each = All-nil (λ t. HasBool g.nodes t.1) }
-
 -- what follows from the lists about their parts
 first_in : (g : Graph) (slot : ℕ) (o : Option BoolId) (ts : List (ℕ × BoolId)) → AllIn g (with_target slot o ts) → guard_in g o
 first_in g slot None ts p = tt

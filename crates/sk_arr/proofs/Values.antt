@@ -64,6 +64,10 @@ module _ {A : Type 0} where
   map_push f [] x = refl
   map_push f (y ∷ ys) x = ap (λ l. f y ∷ l) (map_push f ys x)
 
+  pub length_map : {B : Type 0} (f : A → B) (xs : List A) → length (map f xs) ≡ length xs
+  length_map f [] = refl
+  length_map f (x ∷ xs) = ap suc (length_map f xs)
+
   module _ (P : A → Type 0) where
     pub all_push : (xs : List A) (x : A) → All P xs → P x → All P (xs ++ x ∷ [])
     all_push xs x h p = All-append P xs (x ∷ []) h (All-cons P x [] p (All-nil P))

@@ -17,9 +17,8 @@ use Rattle.sk_arr.specs.Shapes.{blank, Alike, Stands, AllStand, SlotsPass, AllSl
 use Rattle.sk_arr.specs.Answers.{shapes_value, IsChoice, IsWritten}
 use Rattle.sk_arr.specs.Steps.{IsWrittenAt, AreWritten}
 use Rattle.sk_arr.proofs.Makers.{Keeps-refl}
-use Rattle.sk_arr.proofs.Equals.{length_map}
 use Rattle.sk_arr.proofs.Standing.{AllStand-keeps}
-use Rattle.sk_arr.proofs.Values.{map_push, stand_none, stand_push, passes_push, passes_front, passes_last}
+use Rattle.sk_arr.proofs.Values.{map_push, length_map, stand_none, stand_push, passes_push, passes_front, passes_last}
 
 is_pos : (i n : ℕ) → int_eq (pos i) (pos n) ≡ true → i ≡ n
 is_pos i n e = ap number ((Decides-int_eq (pos i) (pos n)).0 e)
