@@ -105,7 +105,8 @@ equality_bit {g} {a} {b} {r} there value = record {
   there = there;
   value = λ h more e. (
     λ t. value_bit h e a ∙ (both_ways (bool_value h e a) (bool_value h e b)).0 (sym (value h more e) ∙ t) ∙ sym (value_bit h e b),
-    λ t. value h more e ∙ (both_ways (bool_value h e a) (bool_value h e b)).1 (sym (value_bit h e a) ∙ t ∙ value_bit h e b));
+    λ t. value h more e ∙ (both_ways (bool_value h e a) (bool_value h e b)).1 (sym (value_bit h e a) ∙ t ∙ value_bit h e b),
+  );
 }
 
 pub equality_int : {g : Graph} {a b : WordId} {r : BoolId} → HasBool g.nodes r → ((h : Graph) → Grows g h → (e : Env) → bool_value h e r ≡ int_eq (word_value h e a) (word_value h e b)) → IsEquality g (shape.Int a) (shape.Int b) r
@@ -113,7 +114,8 @@ equality_int {g} {a} {b} {r} there value = record {
   there = there;
   value = λ h more e. (
     λ t. value_int h e a ∙ ap (λ x. SeenInt x) ((Decides-int_eq (word_value h e a) (word_value h e b)).0 (sym (value h more e) ∙ t)) ∙ sym (value_int h e b),
-    λ t. value h more e ∙ (Decides-int_eq (word_value h e a) (word_value h e b)).1 (same_Some (word_value h e a) (word_value h e b) (ap as_int (sym (value_int h e a) ∙ t ∙ value_int h e b))));
+    λ t. value h more e ∙ (Decides-int_eq (word_value h e a) (word_value h e b)).1 (same_Some (word_value h e a) (word_value h e b) (ap as_int (sym (value_int h e a) ∙ t ∙ value_int h e b))),
+  );
 }
 
 pub equality_reference : {old new : Graph} {a b : Targets} {r : BoolId} → Keeps old new → Stands old (shape.Reference a) → Stands old (shape.Reference b) → HasBool new.nodes r → ((h : Graph) → Grows new h → (e : Env) → bool_value h e r ≡ (have_common (held_in h e a.slots.items) (held_in h e b.slots.items) || not (is_some_held (held_in h e a.slots.items) || is_some_held (held_in h e b.slots.items)))) → IsEquality new (shape.Reference a) (shape.Reference b) r
@@ -121,7 +123,8 @@ equality_reference {old} {new} {a} {b} {r} keeps sa sb there value = record {
   there = there;
   value = λ h more e. (
     λ t. seen h e a ∙ ap (λ s. SeenSlot s) ((ways h more e).0 (sym (value h more e) ∙ t)) ∙ sym (seen h e b),
-    λ t. value h more e ∙ (ways h more e).1 (ap as_slot (sym (seen h e a) ∙ t ∙ seen h e b)));
+    λ t. value h more e ∙ (ways h more e).1 (ap as_slot (sym (seen h e a) ∙ t ∙ seen h e b)),
+  );
 }
   where
     seen : (h : Graph) (e : Env) (t : Targets) → shape_value h e (shape.Reference t) ≡ SeenSlot (first_of (held_in h e t.slots.items))
@@ -138,7 +141,8 @@ equality_array {g} {ss} {ts} {r} are = record {
   there = are.there;
   value = λ h more e. (
     λ t. value_array h e ss ∙ ap (λ vs. SeenArray vs) ((are.value h more e).0 t) ∙ sym (value_array h e ts),
-    λ t. (are.value h more e).1 (seen_lists (shapes_value h e ss) (shapes_value h e ts) (sym (value_array h e ss) ∙ t ∙ value_array h e ts)));
+    λ t. (are.value h more e).1 (seen_lists (shapes_value h e ss) (shapes_value h e ts) (sym (value_array h e ss) ∙ t ∙ value_array h e ts)),
+  );
 }
 
 pub ruleset targets = (Keeps-refl)
@@ -201,6 +205,7 @@ equal_push {old} {mid} {new} ss ts a b r one all l are k is k' there value = rec
       λ t. let p = and_both (bool_value h e r) (bool_value h e one) (sym v ∙ t) in
           map_push (shape_value h e) ss a ∙ (λ i. (are.value h (k.later h more) e).0 p.0 i ++ (is.value h more e).0 p.1 i ∷ []) ∙ sym (map_push (shape_value h e) ts b),
       λ t. let p = push_same (shapes_value h e ss) (shapes_value h e ts) (shape_value h e a) (shape_value h e b)
-              (length_map (shape_value h e) ss ∙ l ∙ sym (length_map (shape_value h e) ts))
-              (sym (map_push (shape_value h e) ss a) ∙ t ∙ map_push (shape_value h e) ts b) in
-          v ∙ both_and (bool_value h e r) (bool_value h e one) ((are.value h (k.later h more) e).1 p.0) ((is.value h more e).1 p.1))
+          (length_map (shape_value h e) ss ∙ l ∙ sym (length_map (shape_value h e) ts))
+          (sym (map_push (shape_value h e) ss a) ∙ t ∙ map_push (shape_value h e) ts b) in
+          v ∙ both_and (bool_value h e r) (bool_value h e one) ((are.value h (k.later h more) e).1 p.0) ((is.value h more e).1 p.1),
+    )

@@ -55,16 +55,16 @@ read_on {old} {mid} {new} {list} {index} {place} {test} {a} {behind} {r} from k 
   value = λ h more e i low high w.
       ⊎_elim
       (λ (here : i < place + 1).
-        let same : i ≡ place = omega (arith, low, here) in
-        let is_it : bool_value h e test ≡ true = tested h (k'.later h more) e ∙ (Decides-int_eq (word_value h e index) (pos place)).1 (w ∙ ap (λ n. pos n) same) in
-        ap (slice_get (shapes_value h e list)) same
-        ∙ slice_get_map (shape_value h e) list place a within
-        ∙ ap (λ s. Some (shape_value h e s)) (sym at)
-        ∙ ap (λ v. Some v) (sym (one_choice true (shape_value h e a) (shape_value h e behind) (shape_value h e r) (bool_value h e test) (is.value h more e) is_it)))
+      let same : i ≡ place = omega (arith, low, here) in
+      let is_it : bool_value h e test ≡ true = tested h (k'.later h more) e ∙ (Decides-int_eq (word_value h e index) (pos place)).1 (w ∙ ap (λ n. pos n) same) in
+      ap (slice_get (shapes_value h e list)) same
+      ∙ slice_get_map (shape_value h e) list place a within
+      ∙ ap (λ s. Some (shape_value h e s)) (sym at)
+      ∙ ap (λ v. Some v) (sym (one_choice true (shape_value h e a) (shape_value h e behind) (shape_value h e r) (bool_value h e test) (is.value h more e) is_it)))
       (λ (above : place + 1 ≤ i).
-        let is_not : bool_value h e test ≡ false = tested h (k'.later h more) e ∙ other (word_value h e index) i place w above in
-        from.value h (k.later h (k'.later h more)) e i above high w
-        ∙ ap (λ v. Some v) (sym (one_choice false (shape_value h e a) (shape_value h e behind) (shape_value h e r) (bool_value h e test) (is.value h more e) is_not)))
+      let is_not : bool_value h e test ≡ false = tested h (k'.later h more) e ∙ other (word_value h e index) i place w above in
+      from.value h (k.later h (k'.later h more)) e i above high w
+      ∙ ap (λ v. Some v) (sym (one_choice false (shape_value h e a) (shape_value h e behind) (shape_value h e r) (bool_value h e test) (is.value h more e) is_not)))
       (cases_lt i (place + 1));
 }
   where

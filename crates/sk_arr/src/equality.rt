@@ -68,11 +68,7 @@ fn some_holds(dag: &mut Dag, targets: &[(u32, BoolId)]) -> Result<BoolId, AllocE
 
 /// Whether a target at this slot holds.
 #[tactic(auto, using(crate::proofs::Equals::targets))]
-fn slot_holds(
-    dag: &mut Dag,
-    slot: u32,
-    targets: &[(u32, BoolId)],
-) -> Result<BoolId, AllocError>
+fn slot_holds(dag: &mut Dag, slot: u32, targets: &[(u32, BoolId)]) -> Result<BoolId, AllocError>
     requires { AllIn dag.old targets.now }
     ensures keeps { Keeps dag.old dag.new }
     ensures there { IfOk result (λ r. HasBool dag.new.nodes r) }
@@ -90,11 +86,7 @@ fn slot_holds(
 
 /// Whether a target of the one and a target of the other hold that are at one slot.
 #[tactic(auto, using(crate::proofs::Equals::targets))]
-fn meet(
-    dag: &mut Dag,
-    a: &[(u32, BoolId)],
-    b: &[(u32, BoolId)],
-) -> Result<BoolId, AllocError>
+fn meet(dag: &mut Dag, a: &[(u32, BoolId)], b: &[(u32, BoolId)]) -> Result<BoolId, AllocError>
     requires a { AllIn dag.old a.now }
     requires b { AllIn dag.old b.now }
     ensures keeps { Keeps dag.old dag.new }
@@ -113,11 +105,7 @@ fn meet(
 
 /// Whether no target of either list holds.
 #[tactic(auto, using(crate::proofs::Equals::targets))]
-fn none_holds(
-    dag: &mut Dag,
-    a: &[(u32, BoolId)],
-    b: &[(u32, BoolId)],
-) -> Result<BoolId, AllocError>
+fn none_holds(dag: &mut Dag, a: &[(u32, BoolId)], b: &[(u32, BoolId)]) -> Result<BoolId, AllocError>
     requires a { AllIn dag.old a.now }
     requires b { AllIn dag.old b.now }
     ensures keeps { Keeps dag.old dag.new }

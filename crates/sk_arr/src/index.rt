@@ -196,12 +196,7 @@ fn read_at(
 
 /// The element that the index names.
 #[tactic(auto, using(crate::proofs::ReadLaws::reads))]
-fn element(
-    alloc: Global,
-    dag: &mut Dag,
-    list: &[Shape],
-    index: WordId,
-) -> Result<Shape, AllocError>
+fn element(alloc: Global, dag: &mut Dag, list: &[Shape], index: WordId) -> Result<Shape, AllocError>
     requires index { HasWord dag.old.nodes index }
     requires list { AllStand dag.old list.now }
     requires alike { AllAlike list.now }
