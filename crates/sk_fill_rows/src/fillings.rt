@@ -50,7 +50,7 @@ fn is_block(s: &PStmt, words: &[&[u8]]) -> bool {
 fn is_filled(prog: &Prog, words: &[&[u8]]) -> bool {
     match prog.funs.as_slice() {
         [main] => match main.body.as_slice() {
-            [first, last] => is_block(first, words) && given(last) == b"braces",
+            [first, last] => is_block(first, words) && given(last) == b"braces".as_slice(),
             _ => false,
         },
         _ => false,

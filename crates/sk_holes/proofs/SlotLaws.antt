@@ -98,18 +98,18 @@ module _ (values : List ℕ) (number : ℕ → ℕ) where
     assign = λ s p e. by_form (S.Assign p e) (form.Assign p e) (W.rolls-Assign p e) s (λ i. none_is (layer_of_assign ℕ ℕ form_slots (λ s. s.form) s (fill_expr values number p i) (fill_expr values number e (i + (expr_part values number p).count))));
     calls = λ s e. by_form (S.Call e) (form.Call e) (W.rolls-Call e) s (λ i. none_is (layer_of_call ℕ ℕ form_slots (λ s. s.form) s (fill_expr values number e i)));
     if_only = λ s c a h. by_form (S.If c a None) (form.If c a None) (W.rolls-If c a None) s (λ i.
-      let j = i + (expr_part values number c).count in
-      let is = layer_of_if ℕ ℕ form_slots (λ s. s.form) s (fill_expr values number c i) ((stmt_part values number a).at j) in
-      omega (arith, is, h j));
+        let j = i + (expr_part values number c).count in
+        let is = layer_of_if ℕ ℕ form_slots (λ s. s.form) s (fill_expr values number c i) ((stmt_part values number a).at j) in
+        omega (arith, is, h j));
     if_else = λ s c a b h k. by_form (S.If c a (Some b)) (form.If c a (Some b)) (W.rolls-If c a (Some b)) s (λ i.
-      let j = i + (expr_part values number c).count in
-      let l = j + (stmt_part values number a).count in
-      let is = layer_of_if_else ℕ ℕ form_slots (λ s. s.form) s (fill_expr values number c i) ((stmt_part values number a).at j) ((stmt_part values number b).at l) in
-      omega (arith, is, h j, k l));
+        let j = i + (expr_part values number c).count in
+        let l = j + (stmt_part values number a).count in
+        let is = layer_of_if_else ℕ ℕ form_slots (λ s. s.form) s (fill_expr values number c i) ((stmt_part values number a).at j) ((stmt_part values number b).at l) in
+        omega (arith, is, h j, k l));
     loop = λ s c a h. by_form (S.While c a) (form.While c a) (W.rolls-While c a) s (λ i.
-      let j = i + (expr_part values number c).count in
-      let is = layer_of_while ℕ ℕ form_slots (λ s. s.form) s (fill_expr values number c i) ((stmt_part values number a).at j) in
-      omega (arith, is, h j));
+        let j = i + (expr_part values number c).count in
+        let is = layer_of_while ℕ ℕ form_slots (λ s. s.form) s (fill_expr values number c i) ((stmt_part values number a).at j) in
+        omega (arith, is, h j));
     returns = λ s e. by_form (S.Return e) (form.Return e) (W.rolls-Return e) s (λ i. none_is (layer_of_return ℕ ℕ form_slots (λ s. s.form) s ((value_part values number e).at i)));
     asserts = λ s e. by_form (S.Assert e) (form.Assert e) (W.rolls-Assert e) s (λ i. none_is (layer_of_assert ℕ ℕ form_slots (λ s. s.form) s (fill_expr values number e i)));
     assumes = λ s e. by_form (S.Assume e) (form.Assume e) (W.rolls-Assume e) s (λ i. none_is (layer_of_assume ℕ ℕ form_slots (λ s. s.form) s (fill_expr values number e i)));
