@@ -8,9 +8,10 @@ use Rattle.sk_prog.specs.declared.expr.PField.{PField}
 use Rattle.sk_prog.specs.declared.expr.PEForm.TheFolds.{fold-PField}
 use Rattle.sk_prog.specs.declared.stmt.PStmt.{PStmt}
 use Rattle.sk_prog.specs.declared.stmt.PForm.{PForm}
+use Rattle.sk_prog.specs.declared.stmt.PForm.TheFolds.{fold-PForm}
 use Rattle.sk_model.specs.Parts.{Part, counts, in_turn, value}
 use Rattle.sk_model.specs.Sites.{is_hole}
-use Rattle.sk_model.specs.Fill.{Opened, hole_part, bits_at, renamed, eform_part, expr_step, field_step, expr_part, value_part, any_part, some_copies, all_copies, stmt_part}
+use Rattle.sk_model.specs.Fill.{Opened, hole_part, bits_at, renamed, eform_part, expr_step, field_step, expr_part, value_part, any_part, some_copies, all_copies, form_part, stmt_step, stmt_part}
 use Rattle.sk_holes.specs.declared.filler.Filler.{Filler}
 use Rattle.sk_holes.specs.Table.{numbered}
 
@@ -51,6 +52,9 @@ module _ (f : Filler) where
 
   abbrev pub stmt : PStmt → Part PStmt
   stmt = stmt_part f.values.now number
+
+  abbrev pub form : PForm → Part PForm
+  form = fold-PForm (Part PForm) (Part PStmt) (form_part f.values.now number) (stmt_step f.values.now number)
 
   abbrev pub stmts : List PStmt → Part (List PStmt)
   stmts ss = record { count = counts (map stmt ss); at = in_turn (map stmt ss) }

@@ -2,18 +2,17 @@
 ghost use Rattle.std.specs.Prelude.{◌≡◌, ◌+◌, ◌-◌, ◌≤◌, [], suc, IfOk, OnOk, length, take, option_map};
 ghost use Rattle.sk_prog.specs.declared.stmt.PForm.TheVariants as sform;
 ghost use Rattle.sk_model.specs.Fill.{digit, arrange};
-ghost use Rattle.sk_holes.specs.Filling.{Reaches, value_at, optional, stmt, stmts, branch, repeated};
+ghost use Rattle.sk_holes.specs.Filling.{Reaches, value_at, expr, optional, stmt, form, stmts, branch, repeated};
 
 use crate::filler::Filler;
 use sk_base::{Boxed, List, Name};
 use sk_prog::{PEForm, PExpr, PForm, PStmt, Ty};
 use std::alloc::AllocError;
 
-/// A statement with the span of another.
-fn like(s: &PStmt, form: PForm) -> PStmt
-    ensures { result ≡ record { span = s.now.span; form = form } }
+fn block(ss: Vec<PStmt>) -> PForm
+    ensures { result ≡ sform.Block ss.items }
 {
-    PStmt { span: s.span, form }
+    PForm::Block(List::from_vec(ss))
 }
 
 impl Filler<'_> {
@@ -163,6 +162,77 @@ impl Filler<'_> {
         Ok(placed)
     }
 
+    fn assigned(&self, at: &mut usize, target: &PExpr, value: &PExpr) -> Result<PForm, AllocError>
+        requires { Reaches self.now at.old ((expr self.now target.now).count + (expr self.now value.now).count) }
+        ensures filled { IfOk result (λ x. x ≡ sform.Assign ((expr self.now target.now).at at.old) ((expr self.now value.now).at (at.old + (expr self.now target.now).count))) }
+        ensures at { OnOk result (at.new ≡ at.old + ((expr self.now target.now).count + (expr self.now value.now).count)) }
+    {
+        let target = self.expr(at, target)?;
+        let value = self.expr(at, value)?;
+        Ok(PForm::Assign { target, value })
+    }
+
+    #[cycle(stmt)]
+    fn branched(
+        &self,
+        at: &mut usize,
+        cond: &PExpr,
+        then: &PStmt,
+        other: &Option<Boxed<PStmt>>,
+    ) -> Result<PForm, AllocError>
+        requires { Reaches self.now at.old ((expr self.now cond.now).count + ((stmt self.now then.now).count + (branch self.now other.now).count)) }
+        ensures filled { IfOk result (λ x. x ≡ sform.If ((expr self.now cond.now).at at.old) ((stmt self.now then.now).at (at.old + (expr self.now cond.now).count)) ((branch self.now other.now).at (at.old + (expr self.now cond.now).count + (stmt self.now then.now).count))) }
+        ensures at { OnOk result (at.new ≡ at.old + ((expr self.now cond.now).count + ((stmt self.now then.now).count + (branch self.now other.now).count))) }
+    {
+        let cond = self.expr(at, cond)?;
+        let then = self.boxed_stmt(at, then)?;
+        let other = self.other(at, other)?;
+        Ok(PForm::If { cond, then, other })
+    }
+
+    #[cycle(stmt)]
+    fn looped(&self, at: &mut usize, cond: &PExpr, body: &PStmt) -> Result<PForm, AllocError>
+        requires { Reaches self.now at.old ((expr self.now cond.now).count + (stmt self.now body.now).count) }
+        ensures filled { IfOk result (λ x. x ≡ sform.While ((expr self.now cond.now).at at.old) ((stmt self.now body.now).at (at.old + (expr self.now cond.now).count))) }
+        ensures at { OnOk result (at.new ≡ at.old + ((expr self.now cond.now).count + (stmt self.now body.now).count)) }
+    {
+        let cond = self.expr(at, cond)?;
+        let body = self.boxed_stmt(at, body)?;
+        Ok(PForm::While { cond, body })
+    }
+
+    /// A form whose first site has the place. Each arm is one call: the borrows of a long function take
+    /// minutes to check.
+    #[cycle(stmt)]
+    fn form(&self, at: &mut usize, of: &PForm) -> Result<PForm, AllocError>
+        requires { Reaches self.now at.old ((form self.now of.now).count) }
+        ensures filled { IfOk result (λ x. x ≡ (form self.now of.now).at at.old) }
+        ensures at { OnOk result (at.new ≡ at.old + ((form self.now of.now).count)) }
+    {
+        match of {
+            PForm::Block(ss) => Ok(block(self.stmts(at, ss.as_slice())?)),
+            PForm::Declare {
+                slot,
+                name,
+                ty,
+                value,
+            } => self.declared(at, *slot, name, *ty, value),
+            PForm::Assign { target, value } => self.assigned(at, target, value),
+            PForm::Call(e) => Ok(PForm::Call(self.expr(at, e)?)),
+            PForm::If { cond, then, other } => self.branched(at, cond, then.get(), other),
+            PForm::While { cond, body } => self.looped(at, cond, body.get()),
+            PForm::Return(e) => Ok(PForm::Return(self.optional(at, e)?)),
+            PForm::Assert(e) => Ok(PForm::Assert(self.expr(at, e)?)),
+            PForm::Assume(e) => Ok(PForm::Assume(self.expr(at, e)?)),
+            PForm::Minimize(e) => Ok(PForm::Minimize(self.expr(at, e)?)),
+            PForm::Repeat { count, copies } => {
+                Ok(block(self.repeated(at, count, copies.as_slice())?))
+            }
+            PForm::MinRepeat(copies) => Ok(block(self.kept(at, copies.as_slice())?)),
+            PForm::Reorder(ss) => Ok(block(self.reordered(at, ss.as_slice())?)),
+        }
+    }
+
     /// A statement whose first site has the place.
     #[cycle(stmt)]
     fn stmt(&self, at: &mut usize, s: &PStmt) -> Result<PStmt, AllocError>
@@ -170,50 +240,7 @@ impl Filler<'_> {
         ensures filled { IfOk result (λ x. x ≡ (stmt self.now s.now).at at.old) }
         ensures at { OnOk result (at.new ≡ at.old + ((stmt self.now s.now).count)) }
     {
-        match &s.form {
-            PForm::Block(ss) => {
-                let ss = List::from_vec(self.stmts(at, ss.as_slice())?);
-                Ok(like(s, PForm::Block(ss)))
-            }
-            PForm::Declare {
-                slot,
-                name,
-                ty,
-                value,
-            } => Ok(like(s, self.declared(at, *slot, name, *ty, value)?)),
-            PForm::Assign { target, value } => {
-                let target = self.expr(at, target)?;
-                let value = self.expr(at, value)?;
-                Ok(like(s, PForm::Assign { target, value }))
-            }
-            PForm::Call(e) => Ok(like(s, PForm::Call(self.expr(at, e)?))),
-            PForm::If { cond, then, other } => {
-                let cond = self.expr(at, cond)?;
-                let then = self.boxed_stmt(at, then.get())?;
-                let other = self.other(at, other)?;
-                Ok(like(s, PForm::If { cond, then, other }))
-            }
-            PForm::While { cond, body } => {
-                let cond = self.expr(at, cond)?;
-                let body = self.boxed_stmt(at, body.get())?;
-                Ok(like(s, PForm::While { cond, body }))
-            }
-            PForm::Return(e) => Ok(like(s, PForm::Return(self.optional(at, e)?))),
-            PForm::Assert(e) => Ok(like(s, PForm::Assert(self.expr(at, e)?))),
-            PForm::Assume(e) => Ok(like(s, PForm::Assume(self.expr(at, e)?))),
-            PForm::Minimize(e) => Ok(like(s, PForm::Minimize(self.expr(at, e)?))),
-            PForm::Repeat { count, copies } => {
-                let copies = List::from_vec(self.repeated(at, count, copies.as_slice())?);
-                Ok(like(s, PForm::Block(copies)))
-            }
-            PForm::MinRepeat(copies) => {
-                let copies = List::from_vec(self.kept(at, copies.as_slice())?);
-                Ok(like(s, PForm::Block(copies)))
-            }
-            PForm::Reorder(ss) => {
-                let ss = List::from_vec(self.reordered(at, ss.as_slice())?);
-                Ok(like(s, PForm::Block(ss)))
-            }
-        }
+        let form = self.form(at, &s.form)?;
+        Ok(PStmt { span: s.span, form })
     }
 }
