@@ -15,4 +15,5 @@ loop-i-preserved c =
 
 pub returns-in_err-encode_place-clause-refused : goal.returns-in_err-encode_place-clause-refused
 returns-in_err-encode_place-clause-refused c =
-    on_err _ (rw c.in_err-encode_place.ensures.refused (Shows-continues c.encode_place.ensures.behind (Shows-covers c.loop-i.invariant.covers)))
+    let shows = rw (← c.in_err-encode_place.ensures.refused) at (Shows-continues c.encode_place.ensures.behind (Shows-covers c.loop-i.invariant.covers)) in
+    on_err _ shows

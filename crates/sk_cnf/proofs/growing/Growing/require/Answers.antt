@@ -1,7 +1,7 @@
 use Rattle.std.proofs.Common.{◌∙◌, refl, arith}
 use Rattle.sk_dag.proofs.ReachLemmas.{IsClosed-reached}
-use Rattle.sk_gates.proofs.ExtensionLaws.{Continues-refl, Continues-adds, on_err}
-use Rattle.sk_cnf.proofs.CoverLaws.{Shows-covers}
+use Rattle.sk_gates.proofs.ExtensionLaws.{Continues-refl, Continues-same, Continues-trans, Continues-adds, on_err}
+use Rattle.sk_cnf.proofs.CoverLaws.{Shows-continues, Shows-covers}
 use Rattle.sk_cnf.proofs.StandingLaws.{grown_length, Begins-demanded, Covers-begun, Shows-grows, Shows-same, Stands-more, Stands-refused, Tight-stays}
 use Rattle.sk_cnf.proofs.growing.Growing.require.Goals as goal
 
@@ -47,9 +47,11 @@ pub returns-in_err-marks-clause-refused : goal.returns-in_err-marks-clause-refus
 returns-in_err-marks-clause-refused c = λ g roots h grows. on_err _ (Stands-refused c.args.self.now _ g c.args.dag.now roots h grows refl refl (Continues-refl _) (Shows-same grows h.codes))
 
 pub returns-in_err-lengthen-clause-refused : goal.returns-in_err-lengthen-clause-refused
-returns-in_err-lengthen-clause-refused c = λ g roots h grows.
+returns-in_err-lengthen-clause-refused c =
+    let short = rw c.len.ensures at c.lengthen.ensures.short in
+    λ g roots h grows.
     on_err _ (Stands-refused c.args.self.now _ g c.args.dag.now roots h grows refl refl (Continues-refl _)
-    (Shows-grows grows (omega (arith, c.lengthen.ensures.short, c.len.ensures)) c.lengthen.ensures.fits c.lengthen.ensures.codes h.codes))
+    (Shows-grows grows short c.lengthen.ensures.fits c.lengthen.ensures.codes h.codes))
 
 pub returns-in_err-encode_marked-clause-refused : goal.returns-in_err-encode_marked-clause-refused
 returns-in_err-encode_marked-clause-refused c =
@@ -59,5 +61,5 @@ returns-in_err-encode_marked-clause-refused c =
 pub returns-in_err-demand-clause-refused : goal.returns-in_err-demand-clause-refused
 returns-in_err-demand-clause-refused c =
     let covers = rw (c.as_slice.ensures, c.as_slice-2.ensures) at c.in_ok-encode_marked.ensures.covers in
-    let same = c.in_err-demand.ensures.err in
-    λ g roots h grows. on_err _ (Stands-refused c.args.self.now _ g c.args.dag.now roots h grows refl refl (rw same (Continues-adds covers.gate)) (rw same (Shows-covers covers)))
+    let none = Continues-same c.in_err-demand.ensures.err in
+    λ g roots h grows. on_err _ (Stands-refused c.args.self.now _ g c.args.dag.now roots h grows refl refl (Continues-trans (Continues-adds covers.gate) none) (Shows-continues none (Shows-covers covers)))
