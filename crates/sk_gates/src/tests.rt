@@ -286,7 +286,10 @@ fn answer_of(alloc: Global, gate: Gate, bits: usize) -> Result<Option<usize>, Al
 fn numbers_of_four_bits(rt: HostRuntime) -> Result<(), Fail> {
     let alloc = rt.alloc();
     assert_eq!(rt; answer_of(alloc, Gate::Product, 7 + 5 * 16)?, Some(3));
-    assert_eq!(rt; answer_of(alloc, Gate::Division, 13 + 4 * 16)?, Some(3 + 16));
+    assert_eq!(rt;
+        answer_of(alloc, Gate::Division, 13 + 4 * 16)?,
+        Some(3 + 16)
+    );
     assert_eq!(rt; answer_of(alloc, Gate::Division, 13)?, Some(0));
     Ok(())
 }
