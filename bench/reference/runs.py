@@ -3,6 +3,7 @@ read, its bounds and arguments, and how the reference says that the run ends.
 
     python3 runs.py > ../../crates/sk_run_rows/src/rows.rt
 """
+from examples import COMMANDS, FOLDER
 from sketch import *
 from sketch import BIT, INT
 
@@ -176,6 +177,23 @@ def table():
     yield row("int f(int x) { int[2][3] a; a[2][x] = 1; return 0; }", "f", [2])
     yield row("bit[3] f(bit x) { bit[3] a = x; return a; }", "f", [1])
     yield row("int[3] f() { int[3] a = 1; return a; }", "f", [])
+    # elements by what an index says
+    yield "ELEMENTS"
+    for i, j in ((0, 0), (2, 1), (3, 0), (0, 2), (-1, 0)):
+        yield row("int f(int i, int j) { int[2][3] m = {{1, 2}, {3, 4}, {5, 6}}; return m[i][j]; }", "f", [i, j])
+        yield row("int[2][3] f(int i, int j) { int[2][3] m = {{1, 2}, {3, 4}, {5, 6}}; m[i][j] = 9; return m; }", "f", [i, j])
+    for i in (0, 1, 2):
+        yield row("int f(int i) { int[3] a = {1, 4, 0}; int[5] b = {7, 8, 9, 10, 11}; return b[a[i] * 2 - a[a[2]]]; }", "f", [i])
+    yield row("int f(int i) { int[3] a = {1, 4, 0}; return a[6 / i]; }", "f", [0])
+    yield row("int t(ref int[2] a) { a[0] = 9; return 0; } int f() { int[2] a = {5, 6}; return a[t(a)]; }", "f", [])
+    yield row("int t(ref int[2] a) { a[0] = 9; return 1; } int[2] f() { int[2] a = {5, 6}; a[t(a)] = 7; return a; }", "f", [])
+    yield row("int t(ref int[2] a) { a[0] = 9; return 1; } int[2] f() { int[2] a = {5, 6}; a[1] = t(a); return a; }", "f", [])
+    yield row("struct R { int[3] a; } int f(int i) { R r = new R(a = {4, 5, 6}); return r.a[i]; }", "f", [2])
+    yield row("struct R { int[3] a; } int f(int i) { R r = new R(a = {4, 5, 6}); return r.a[i]; }", "f", [3])
+    yield row("struct R { int[3] a; } int f(int i) { R r; return r.a[i]; }", "f", [1])
+    yield row("struct R { int[3] a; R n; } int f(int i) { R r = new R(a = {1, 2, 0}, n = new R(a = {7, 8, 9})); return r.n.a[r.a[i]] + new R(a = {3}).a[0]; }", "f", [1])
+    yield row("struct R { int[3] a; } R g(R r) { r.a[0] = r.a[0] + 1; return r; } int f() { R r = new R(); return g(r).a[0] + 10 * g(r).a[r.a[0]] + 100 * r.a[0]; }", "f", [])
+    yield row("struct R { int[2][2] m; } int[2][2] f() { R r = new R(); R q = r; r.m[1][0] = 3; q.m[0] = {1, 2}; return r.m; }", "f", [])
     # references and records
     yield "RECORDS"
     yield row(LIST + "int f(int x) { L a = new L(v = x); L b = a; b.v = 5; return a.v + 10 * (a == b); }", "f", [4])
@@ -244,6 +262,10 @@ def table():
     yield "CONSTANTS"
     yield row("int C = 3 * 4; int f(int x) { return C + x + (x > 0); }", "f", [1])
     yield row("int f(bit b) { int[2] a = {b, b}; return a[0] + b; }", "f", [1])
+    # the programs of examples/
+    yield "EXAMPLES"
+    for name, fun, args, bounds, _ in COMMANDS:
+        yield "examples/%s.sk" % name, *row((FOLDER / (name + ".sk")).read_text(), fun, args, **bounds)[1:]
 
 
 def tables():
