@@ -31,6 +31,8 @@ use Rattle.sk_interp.specs.declared.activation.Activation.{Activation}
 use Rattle.sk_interp.specs.declared.stop.Stop.{Stop}
 use Rattle.sk_interp.specs.declared.stop.Stop.TheVariants.{Failed, Skipped, NoMemory}
 use Rattle.sk_interp.specs.Gives.{Stops}
+use Rattle.sk_interp.specs.Paths.{IsPath, load}
+use Rattle.sk_model.specs.Heap.{Location}
 use Rattle.sk_interp.specs.Calling.{calls_in, does_in, each_in, field_in, value_of_call, value_of_new, value_of_braces, callee, called_by, body_in}
 
 -- all operators but `&&` and `||` evaluate both parts
@@ -73,6 +75,13 @@ pub stops_on : {A B : Type 0} (e : Stop) (m : Step A) (k : A → Comp B) → Sto
 stops_on (Failed span) m k h = ap (λ n. and_then n k) h
 stops_on (Skipped span) m k h = ap (λ n. and_then n k) h
 stops_on NoMemory m k h = tt
+
+-- what a path gives, by the location that it names
+pub path_goes : (d : Does) (span : Span) (s t : State) (l : Location) → IsPath d → d.target span s ≡ Goes l t → d.value span s ≡ load span l t
+path_goes d span s t l h e = h span s ∙ ap (λ m. and_then m (load span)) e
+
+pub path_stops : (d : Does) (span : Span) (s : State) (stop : Stop) → IsPath d → Stops stop (d.target span s) → Stops stop (d.value span s)
+path_stops d span s stop h e = subst (Stops stop) (sym (h span s)) (stops_on stop (d.target span s) (load span) e)
 
 -- one more turn of a loop
 pub turn_on : (n k : ℕ) (span : Span) (cond : Does) (body : Comp Flow) (s : State) → k < n → turns (n - k) span cond body s ≡ and_then (cond.value span s) (choose span (body >>= unless_returned (turns (n - (k + 1)) span cond body)) (pure Onward))

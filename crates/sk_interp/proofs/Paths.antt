@@ -18,7 +18,8 @@ use Rattle.sk_model.specs.Operators.{Operand, Number, OneBit, Bits, Reference, o
 use Rattle.sk_model.specs.Heap.{Root, Variable, Field, Location, at_root, read_root, read_field}
 use Rattle.sk_model.specs.Eval.{Does, or_fail, indexed, binary, add_index}
 use Rattle.sk_interp.specs.declared.activation.Activation.{Activation}
-use Rattle.sk_interp.specs.Calling.{does_in}
+use Rattle.sk_model.proofs.Forms.{does_number, does_var, does_const, does_paren, does_member, does_index, does_binary, does_to_int}
+use Rattle.sk_interp.specs.Calling.{does_in, calls_in}
 use Rattle.sk_interp.specs.Paths.{part, load, Keeps, IsSteady, IsPath, is_arithmetic}
 
 no : {X : Type 0} → IsTrue false → X
@@ -122,32 +123,32 @@ module _ (a : Activation) (e : PExpr) where
   abbrev formed : PEForm → Does
   formed form = does_in a (record { span = e.span; ty = e.ty; form = form })
 
-  steady_as : (form : PEForm) → e.form ≡ form → IsSteady (formed form) → IsSteady (does_in a e)
-  steady_as form is h = subst (λ f. IsSteady (formed f)) (sym is) h
+  steady_as : (form : PEForm) (d : Does) → e.form ≡ form → formed form ≡ d → IsSteady d → IsSteady (does_in a e)
+  steady_as form d is does h = subst (λ f. IsSteady (formed f)) (sym is) (subst (λ x. IsSteady x) (sym does) h)
 
   pub steady_number : (n : ℕ) → e.form ≡ eform.Number n → IsSteady (does_in a e)
-  steady_number n is = steady_as (eform.Number n) is (λ span s. refl)
+  steady_number n is = steady_as (eform.Number n) _ is (does_number a.prog.now a.bounds.int_bits (calls_in a) e.span e.ty n) (λ span s. refl)
 
   pub steady_var : (slot : ℕ) (x : Name) → e.form ≡ eform.Var slot x → IsSteady (does_in a e)
-  steady_var slot x is = steady_as (eform.Var slot x) is (λ span s. refl)
+  steady_var slot x is = steady_as (eform.Var slot x) _ is (does_var a.prog.now a.bounds.int_bits (calls_in a) e.span e.ty slot x) (λ span s. refl)
 
   pub steady_const : (c : ConstId) → e.form ≡ eform.Const c → IsSteady (does_in a e)
-  steady_const c is = steady_as (eform.Const c) is (λ span s. refl)
+  steady_const c is = steady_as (eform.Const c) _ is (does_const a.prog.now a.bounds.int_bits (calls_in a) e.span e.ty c) (λ span s. refl)
 
   pub steady_paren : (x : PExpr) → e.form ≡ eform.Paren x → IsSteady (does_in a x) → IsSteady (does_in a e)
-  steady_paren x is h = steady_as (eform.Paren x) is (λ span s. h span s)
+  steady_paren x is h = steady_as (eform.Paren x) _ is (does_paren a.prog.now a.bounds.int_bits (calls_in a) e.span e.ty x) (λ span s. h span s)
 
   pub steady_member : (x : PExpr) (d : StructId) (field : ℕ) → e.form ≡ eform.Member x d field → IsSteady (does_in a x) → IsSteady (does_in a e)
-  steady_member x d field is h = steady_as (eform.Member x d field) is (λ span s. keeps_then span s ((does_in a x).value span s) (read_field span field) (h span s) (field_keeps span s field))
+  steady_member x d field is h = steady_as (eform.Member x d field) _ is (does_member a.prog.now a.bounds.int_bits (calls_in a) e.span e.ty x d field) (λ span s. keeps_then span s ((does_in a x).value span s) (read_field span field) (h span s) (field_keeps span s field))
 
   pub steady_index : (x i : PExpr) → e.form ≡ eform.Index x i → IsSteady (does_in a x) → IsSteady (does_in a i) → IsSteady (does_in a e)
-  steady_index x i is hx hi = steady_as (eform.Index x i) is (λ span s. both_keep span s ((does_in a x).value span) ((does_in a i).value span) (indexed span) (hx span s) (hi span s) (element_keeps span s))
+  steady_index x i is hx hi = steady_as (eform.Index x i) _ is (does_index a.prog.now a.bounds.int_bits (calls_in a) e.span e.ty x i) (λ span s. both_keep span s ((does_in a x).value span) ((does_in a i).value span) (indexed span) (hx span s) (hi span s) (element_keeps span s))
 
   pub steady_binary : (o : BinOp) (x y : PExpr) → e.form ≡ eform.Binary o x y → IsTrue (is_arithmetic o) → IsSteady (does_in a x) → IsSteady (does_in a y) → IsSteady (does_in a e)
-  steady_binary o x y is may hx hy = steady_as (eform.Binary o x y) is (λ span s. binary_keeps span s a.bounds.int_bits o ((does_in a x).value span) ((does_in a y).value span) may (hx span s) (hy span s))
+  steady_binary o x y is may hx hy = steady_as (eform.Binary o x y) _ is (does_binary a.prog.now a.bounds.int_bits (calls_in a) e.span e.ty o x y) (λ span s. binary_keeps span s a.bounds.int_bits o ((does_in a x).value span) ((does_in a y).value span) may (hx span s) (hy span s))
 
   pub steady_to_int : (x : PExpr) → e.form ≡ eform.ToInt x → IsSteady (does_in a x) → IsSteady (does_in a e)
-  steady_to_int x is h = steady_as (eform.ToInt x) is (λ span s. keeps_then span s ((does_in a x).value span s) (to_int span) (h span s) (to_int_keeps span s))
+  steady_to_int x is h = steady_as (eform.ToInt x) _ is (does_to_int a.prog.now a.bounds.int_bits (calls_in a) e.span e.ty x) (λ span s. keeps_then span s ((does_in a x).value span s) (to_int span) (h span s) (to_int_keeps span s))
 
 pub ruleset steady = (steady_member, steady_index, steady_binary, steady_to_int)
 
@@ -187,7 +188,7 @@ module _ (span : Span) where
   number_whole is z (Fails at) = refl
   number_whole is z (Skips at) = refl
 
-  all_fail : (t : State) (m : Step Value) → Keeps span t m → and_then m (λ v. fail span) ≡ Fails span
+  all_fail : (t : State) (m : Step Value) → Keeps span t m → and_then {B = Value} m (λ v. fail span) ≡ Fails span
   all_fail t (Goes v u) h = refl
   all_fail t (Fails at) h = ap (λ x. Fails x) h
   all_fail t (Skips at) h = absurd h
@@ -226,17 +227,17 @@ module _ (span : Span) where
   element_path k hk (Skips at) = refl
 
 module _ (a : Activation) (e : PExpr) where
-  path_as : (form : PEForm) → e.form ≡ form → IsPath (formed a e form) → IsPath (does_in a e)
-  path_as form is h = subst (λ f. IsPath (formed a e f)) (sym is) h
+  path_as : (form : PEForm) (d : Does) → e.form ≡ form → formed a e form ≡ d → IsPath d → IsPath (does_in a e)
+  path_as form d is does h = subst (λ f. IsPath (formed a e f)) (sym is) (subst (λ x. IsPath x) (sym does) h)
 
   pub path_var : (slot : ℕ) (x : Name) → e.form ≡ eform.Var slot x → IsPath (does_in a e)
-  path_var slot x is = path_as (eform.Var slot x) is (λ span s. refl)
+  path_var slot x is = path_as (eform.Var slot x) _ is (does_var a.prog.now a.bounds.int_bits (calls_in a) e.span e.ty slot x) (λ span s. refl)
 
   pub path_member : (x : PExpr) (d : StructId) (field : ℕ) → e.form ≡ eform.Member x d field → IsPath (does_in a e)
-  path_member x d field is = path_as (eform.Member x d field) is (λ span s. member_path span field ((does_in a x).value span s))
+  path_member x d field is = path_as (eform.Member x d field) _ is (does_member a.prog.now a.bounds.int_bits (calls_in a) e.span e.ty x d field) (λ span s. member_path span field ((does_in a x).value span s))
 
   pub path_index : (x i : PExpr) → e.form ≡ eform.Index x i → IsSteady (does_in a i) → IsPath (does_in a x) → IsPath (does_in a e)
-  path_index x i is hi hx = path_as (eform.Index x i) is (λ span s.
+  path_index x i is hi hx = path_as (eform.Index x i) _ is (does_index a.prog.now a.bounds.int_bits (calls_in a) e.span e.ty x i) (λ span s.
       ap (λ m. and_then m (λ v u. and_then ((does_in a i).value span u) (indexed span v))) (hx span s)
       ∙ element_path span ((does_in a i).value span) (hi span) ((does_in a x).target span s))
 

@@ -118,9 +118,10 @@ impl Activation<'_> {
                 self.is_steady(levels, base.get()) && self.is_steady(levels, index.get())
             }
             PEForm::Binary { op, left, right } => {
-                is_arithmetic(*op)
-                    && self.is_steady(levels, left.get())
-                    && self.is_steady(levels, right.get())
+                if !is_arithmetic(*op) {
+                    return false;
+                }
+                self.is_steady(levels, left.get()) && self.is_steady(levels, right.get())
             }
             PEForm::ToInt(a) => self.is_steady(levels, a.get()),
             _ => false,
