@@ -49,7 +49,7 @@ pub load-returns : goal.load-returns
 load-returns t c = subst (λ m. Gives c.load.result c.target.new.memory m) (sym (path_goes (does_in c.args.self.now c.args.e.now) c.args.span c.args.memory.now _ _ c.requires.path c.in_ok-location.ensures)) c.load.ensures
 
 pub eval-returns-else-is_path : goal.eval-returns-else-is_path
-eval-returns-else-is_path t c = index_gives c.args.self.now c.args.e.now c.args.span c.args.memory.now c.index.result c.index.new.memory c.in-Index.base c.in-Index.index _ _ c.in-Index.is c.get-else-is_path.ensures c.get-else-is_path-2.ensures c.index.ensures
+eval-returns-else-is_path t c = index_gives c.args.self.now c.args.e.now c.args.span c.args.memory.now c.index.result c.index.new.memory c.in-Index.base c.in-Index.index _ _ c.in-Index.is c.get-in-Index.ensures c.get-in-Index-2.ensures c.index.ensures
 
 pub eval-returns-in-Slice : goal.eval-returns-in-Slice
 eval-returns-in-Slice t c = slice_gives c.args.self.now c.args.e.now c.args.span c.args.memory.now c.slice.result c.slice.new.memory c.in-Slice.base c.in-Slice.from _ _ c.in-Slice.length c.in-Slice.is c.get-in-Slice.ensures c.get-in-Slice-2.ensures c.slice.ensures
