@@ -14,15 +14,15 @@ use Rattle.sk_dag.specs.Reach.{children, Each, IsMarked, IsClosed}
 use Rattle.sk_dag.proofs.EvalLemmas.{Grows-refl}
 use Rattle.sk_dag.proofs.ReachLemmas.{each_of, each_all, children_before}
 use Rattle.sk_gates.specs.Bits.{AreOver}
-use Rattle.sk_gates.specs.Extension.{Adds}
-use Rattle.sk_gates.proofs.ExtensionLaws.{Adds-none, Adds-then}
+use Rattle.sk_gates.specs.Extension.{Adds, Continues}
+use Rattle.sk_gates.proofs.ExtensionLaws.{Adds-none, Adds-then, Meets-left, Meets-right}
 use Rattle.sk_gates.proofs.BitLaws.{AreOver-later}
 use Rattle.sk_cnf.specs.declared.leaf.Leaf.{Leaf}
 use Rattle.sk_cnf.specs.declared.code.Code.{Code}
 use Rattle.sk_cnf.specs.declared.code.Code.TheVariants.{Truth, Word, Cost}
 use Rattle.sk_cnf.specs.Codes.{code_value, table_values, CodeFits, SlotFits, TableFits, IsCode, ShowsValues}
 use Rattle.sk_cnf.specs.Leaves.{Says}
-use Rattle.sk_cnf.specs.Standing.{IsCoded, Covers}
+use Rattle.sk_cnf.specs.Standing.{IsCoded, Covers, Shows}
 use Rattle.sk_cnf.proofs.CodeLaws.{value_of_slot, value_of_children}
 
 -- ---- tables in which one place is written
@@ -57,6 +57,25 @@ SlotFits-later w m n h (Some code) k = CodeFits-later w m n h code k
 
 pub TableFits-later : (w m n : ℕ) (codes : List (Option Code)) → m ≤ n → TableFits w m codes → TableFits w n codes
 TableFits-later w m n codes h k = All-weaker (SlotFits w m) (SlotFits w n) (SlotFits-later w m n h) codes k
+
+-- ---- what a table shows
+
+-- it shows it of more clauses
+pub Shows-continues : {g : Graph} {leaves : List Leaf} {names : List ℕ} {to new : Problem} {codes : List (Option Code)} → Continues to new → Shows g leaves names to codes → Shows g leaves names new codes
+Shows-continues {g} {leaves} {names} {to} {new} {codes} more h = record {
+  short = h.short;
+  fits = TableFits-later g.bits to.vars new.vars codes more.vars h.fits;
+  values = λ v m. h.values v (Meets-left v to.clauses more.added (subst (Meets v) more.clauses m));
+}
+
+pub Shows-covers : {old to : Problem} {g : Graph} {leaves : List Leaf} {names : List ℕ} {marks : List Bool} {codes : List (Option Code)} {i : ℕ} → Covers old g leaves names marks to codes i → Shows g leaves names to codes
+Shows-covers {old} {to} {g} {leaves} {names} {marks} {codes} {i} h = record {
+  short = omega (arith, h.long);
+  fits = h.fits;
+  values = λ v m.
+      let all = subst (Meets v) h.gate.clauses m in
+      h.gate.says v (Meets-right v old.clauses h.gate.added all) (Meets-left v old.clauses h.gate.added all);
+}
 
 -- ---- the steps
 

@@ -22,7 +22,7 @@ use Rattle.sk_cnf.specs.declared.leaf.Leaf.{Leaf}
 use Rattle.sk_cnf.specs.declared.code.Code.{Code}
 use Rattle.sk_cnf.specs.declared.growing.Encoded.{Encoded}
 use Rattle.sk_cnf.specs.Codes.{code_value, ShowsValues}
-use Rattle.sk_cnf.specs.Formula.{Extends, AreTrue, IsEncoding}
+use Rattle.sk_cnf.specs.Formula.{Extends, AreTrue, Means, Tight}
 use Rattle.sk_cnf.specs.Leaves.{Says, leaf_env}
 use Rattle.sk_cnf.specs.Standing.{Demands, IsNamed}
 
@@ -76,8 +76,8 @@ read_range bits = by bits 0 (λ i. get_or bits i false) (λ i. let e : 0 + i ≡
         let rest : map f (range_with_len (a + 1) (length xs)) ≡ xs = by xs (a + 1) f (λ i. let e : (a + 1) + i ≡ a + suc i = omega arith in ap f e ∙ h (suc i)) in
         λ i. here i ∷ rest i
 
-pub IsEncoding-named : (f : Encoded) (leaves : List Leaf) (w : ℕ) → IsNamed f leaves → IsEncoding f leaves (record { bits = w; nodes = [] }) []
-IsEncoding-named f leaves w h = record {
+pub Means-named : (f : Encoded) (leaves : List Leaf) (w : ℕ) → IsNamed f leaves → Means f leaves (record { bits = w; nodes = [] }) []
+Means-named f leaves w h = record {
   encodes = record {
     named = ap length h.names ∙ length-range_with_len 0 (length leaves);
     within = subst (All (λ x. x < f.clauses.vars)) (sym h.names) (all_range (λ x. x < f.clauses.vars) 0 (length leaves) (λ x l m. omega (arith, m, h.vars)));
@@ -88,15 +88,17 @@ IsEncoding-named f leaves w h = record {
     exact = λ bits long. (λ x. All-nil (λ r. bool_value (record { bits = w; nodes = [] }) (leaf_env leaves bits) r ≡ true), λ t. extends bits long);
   };
   said = λ bits e long said. (λ x. All-nil (λ r. bool_value (record { bits = w; nodes = [] }) e r ≡ true), λ t. extends bits long);
-  tight = λ u v same m n. record {
-    same = λ i l. agree_range u v 0 (length leaves) (ap (map u) (sym h.names) ∙ same ∙ ap (map v) h.names) i (omega arith) (omega (arith, l, h.vars));
-  };
 }
   where
     extends : (bits : List Bool) → length bits ≡ length leaves → Extends f bits
     extends bits long =
         let v : ℕ → Bool = λ i. get_or bits i false in
         (v, ap (map v) h.names ∙ ap (λ n. map v (range_with_len 0 n)) (sym long) ∙ read_range bits, subst (Meets v) (sym h.none) (Meets-nil v))
+
+pub Tight-named : (f : Encoded) (leaves : List Leaf) → IsNamed f leaves → Tight f
+Tight-named f leaves h u v same m n = record {
+  same = λ i l. agree_range u v 0 (length leaves) (ap (map u) (sym h.names) ∙ same ∙ ap (map v) h.names) i (omega arith) (omega (arith, l, h.vars));
+}
 
 pub ShowsValues-none : (g : Graph) (leaves : List Leaf) (names : List ℕ) (codes : List (Option Code)) (v : ℕ → Bool) → codes ≡ [] → ShowsValues g leaves names codes v
 ShowsValues-none g leaves names codes v e = record { each = λ i code there. absurd (none-some (Some code) (ap (λ l. slice_get l i) (sym e) ∙ there)) }

@@ -1,7 +1,7 @@
 -- A formula that grows stands for one root more.
 use Rattle.std.proofs.Common.{◌≡◌, ℕ, ◌+◌, ◌<◌, ◌≤◌, Bool, List, [], ◌∷◌, ◌++◌, Option, Some, length, map, slice_get, All, Contains, refl, sym, ap, subst, ◌∙◌, arith}
 use Rattle.std.proofs.lemmas.List.Elements.{All-nil, All-push, All-weaker}
-use Rattle.std.proofs.lemmas.List.{length-take}
+use Rattle.std.proofs.lemmas.List.{append-nil, append_assoc, length-take}
 use Rattle.std.proofs.lemmas.Option.{slice_get_within}
 use Rattle.sk_clause.specs.Meaning.{Meets}
 use Rattle.sk_clause.specs.Problem.{Problem, IsWithin, AreWithin}
@@ -14,33 +14,85 @@ use Rattle.sk_dag.proofs.EvalLemmas.{HasSort-grows}
 use Rattle.sk_dag.proofs.ReachLemmas.{root_marked}
 use Rattle.sk_gates.specs.declared.bit.Bit.{Bit}
 use Rattle.sk_gates.specs.Bits.{bit_true}
+use Rattle.sk_gates.specs.Extension.{Continues}
+use Rattle.sk_gates.proofs.ExtensionLaws.{Continues-refl}
 use Rattle.sk_cnf.specs.declared.leaf.Leaf.{Leaf}
 use Rattle.sk_cnf.specs.declared.code.Code.{Code}
 use Rattle.sk_cnf.specs.declared.growing.Encoded.{Encoded}
 use Rattle.sk_cnf.specs.declared.growing.Growing.{Growing}
 use Rattle.sk_cnf.specs.Codes.{table_values, SlotFits, TableFits, ShowsValues, IsLonger}
-use Rattle.sk_cnf.specs.Formula.{IsEncoding}
+use Rattle.sk_cnf.specs.Formula.{IsEncoding, Means, Tight}
 use Rattle.sk_cnf.specs.Leaves.{Says}
-use Rattle.sk_cnf.specs.Standing.{Covers, Demands, IsNamed, Stands, IsCoded}
+use Rattle.sk_cnf.specs.Standing.{Begins, Covers, Demands, IsNamed, Shows, Stands, IsCoded}
 use Rattle.sk_cnf.proofs.CodeLaws.{value_of_slot}
 use Rattle.sk_cnf.proofs.CoverLaws.{Covers-start}
-use Rattle.sk_cnf.proofs.FormulaLaws.{IsEncoding-more, IsEncoding-grows, AreWithin-more, met_old, met_added}
-use Rattle.sk_cnf.proofs.GrowingLaws.{IsEncoding-named, ShowsValues-none, ShowsValues-grows}
+use Rattle.sk_cnf.proofs.FormulaLaws.{Means-more, Means-grows, Means-continues, AreWithin-more, AreWithin-continues, Tight-more, met_old, met_added}
+use Rattle.sk_cnf.proofs.GrowingLaws.{Means-named, ShowsValues-none, ShowsValues-grows}
 
 pub grown_length : {a b : Graph} → Grows a b → length a.nodes ≤ length b.nodes
 grown_length {a} {b} h = omega (arith, ap length h.nodes, length-take (length a.nodes) b.nodes)
 
-pub IsEncoding-leaves : {f : Encoded} {old new : List Leaf} {g : Graph} {roots : List BoolId} → old ≡ new → IsEncoding f old g roots → IsEncoding f new g roots
-IsEncoding-leaves {f} {old} {new} {g} {roots} e h = subst (λ l. IsEncoding f l g roots) e h
+-- the formula is the encoding, where its leaves are these
+pub IsEncoding-from : (s : Growing) (leaves : List Leaf) (g : Graph) (roots : List BoolId) → s.leaves.keys ≡ leaves → Stands s g roots → Tight s.encoded → IsEncoding s.encoded leaves g roots
+IsEncoding-from s leaves g roots e h tight = record { means = subst (λ l. Means s.encoded l g roots) e h.means; tight = tight }
+
+-- ---- clauses behind others
+
+pub Begins-refl : (a : Problem) → Begins a a
+Begins-refl a = record { vars = omega arith; added = []; clauses = sym (append-nil a.clauses) }
+
+pub Begins-continues : {a b : Problem} → Continues a b → Begins a b
+Begins-continues h = record { vars = h.vars; added = h.added; clauses = h.clauses }
+
+pub Begins-demanded : {a b c : Problem} {bit : Bit} → Continues a b → Demands b c bit → Begins a c
+Begins-demanded {a} {b} {c} h d = record {
+  vars = omega (arith, h.vars, d.vars);
+  added = h.added ++ d.added;
+  clauses = d.clauses ∙ ap (λ x. x ++ d.added) h.clauses ∙ append_assoc a.clauses h.added d.added;
+}
+
+pub Begins-refused : {a b c : Problem} → Continues a b → c ≡ b → Begins a c
+Begins-refused {a} h e = subst (Begins a) (sym e) (Begins-continues h)
+
+pub ruleset beginning = (Begins-refl, Begins-continues, Begins-refused)
+
+-- ---- tables for a graph that has grown
+
+-- The table of the nodes of a smaller graph, maybe with more empty places.
+pub Shows-grows : {g dag : Graph} {leaves : List Leaf} {names : List ℕ} {to : Problem} {old codes : List (Option Code)} → Grows g dag → length codes ≤ length dag.nodes
+    → ((w vars : ℕ) → TableFits w vars old → TableFits w vars codes) → IsLonger old codes → Shows g leaves names to old → Shows dag leaves names to codes
+Shows-grows {g} {dag} {leaves} {names} {to} {old} {codes} grows short fits longer h = record {
+  short = short;
+  fits = subst (λ w. TableFits w to.vars codes) (sym grows.bits) (fits g.bits to.vars h.fits);
+  values = λ v m. ShowsValues-grows leaves names old codes v grows h.short longer.old_codes (h.values v m);
+}
+
+pub Shows-same : {g dag : Graph} {leaves : List Leaf} {names : List ℕ} {to : Problem} {codes : List (Option Code)} → Grows g dag → Shows g leaves names to codes → Shows dag leaves names to codes
+Shows-same grows h = Shows-grows grows (omega (arith, h.short, grown_length grows)) (λ w vars f. f) (record { old_codes = λ i code there. there }) h
 
 -- the table with which the next nodes are encoded
 pub Covers-begun : (s : Growing) (g dag : Graph) (roots : List BoolId) (marks : List Bool) (codes : List (Option Code)) → Stands s g roots → Grows g dag → length codes ≡ length dag.nodes
     → ((w vars : ℕ) → TableFits w vars s.codes → TableFits w vars codes) → IsLonger s.codes codes
     → Covers s.encoded.clauses dag s.leaves.keys s.encoded.names marks s.encoded.clauses codes 0
 Covers-begun s g dag roots marks codes h grows long fits longer =
-    Covers-start s.encoded.clauses dag s.leaves.keys s.encoded.names marks codes long
-    (subst (λ w. TableFits w s.encoded.clauses.vars codes) (sym grows.bits) (fits g.bits s.encoded.clauses.vars h.fits))
-    (λ v m. ShowsValues-grows s.leaves.keys s.encoded.names s.codes codes v grows h.short longer.old_codes (h.shows v m))
+    let begun : Shows dag s.leaves.keys s.encoded.names s.encoded.clauses codes = Shows-grows grows (omega (arith, long)) fits longer h.codes in
+    Covers-start s.encoded.clauses dag s.leaves.keys s.encoded.names marks codes long begun.fits begun.values
+
+-- ---- after a refusal
+
+-- what was added leaves the meaning as it was, and the table shows what it does
+pub Stands-refused : (s s' : Growing) (g dag : Graph) (roots : List BoolId) → Stands s g roots → Grows g dag → s'.leaves ≡ s.leaves → s'.encoded.names ≡ s.encoded.names → Continues s.encoded.clauses s'.encoded.clauses
+    → Shows dag s.leaves.keys s.encoded.names s'.encoded.clauses s'.codes → Stands s' dag roots
+Stands-refused s s' g dag roots h grows leaves names more shows = record {
+  means =
+      subst (λ l. Means s'.encoded l.keys dag roots) (sym leaves)
+      (Means-continues s.encoded s'.encoded s.leaves.keys dag roots (Means-grows grows h.there h.means) h.within names more);
+  there = All-weaker (HasBool g.nodes) (HasBool dag.nodes) (λ r k. HasSort-grows grows k) roots h.there;
+  within = AreWithin-continues s.encoded s'.encoded s.leaves.keys dag roots (Means-grows grows h.there h.means) h.within names more;
+  codes = subst (λ l. Shows dag l.keys s'.encoded.names s'.encoded.clauses s'.codes) (sym leaves) (subst (λ l. Shows dag s.leaves.keys l s'.encoded.clauses s'.codes) (sym names) shows);
+}
+
+-- ---- with one root more
 
 module _ (s s' : Growing) (g dag : Graph) (roots : List BoolId) (root : BoolId) (marks : List Bool) (mid : Problem) (bit : Bit)
     (h : Stands s g roots) (grows : Grows g dag) (leaves : s'.leaves ≡ s.leaves) (names : s'.encoded.names ≡ s.encoded.names)
@@ -57,29 +109,44 @@ module _ (s s' : Growing) (g dag : Graph) (roots : List BoolId) (root : BoolId) 
       is dag.bits v
       ∙ ap as_bool (value_of_slot dag.bits v s'.codes root.index coded.0 coded.1 ∙ (shows m).each root.index coded.0 coded.1 e said)
 
-  pub Stands-more : Stands s' dag (roots ++ root ∷ [])
-  Stands-more = record {
-    encoding =
-        subst (λ l. IsEncoding s'.encoded l.keys dag (roots ++ root ∷ [])) (sym leaves)
-        (IsEncoding-more s.encoded s'.encoded s.leaves.keys dag roots root mid _ bit (IsEncoding-grows grows h.there h.encoding) h.within names covers.gate demands says);
-    there = All-push (HasBool dag.nodes) roots root (All-weaker (HasBool g.nodes) (HasBool dag.nodes) (λ r k. HasSort-grows grows k) roots h.there) there;
+  grown : Means s.encoded s.leaves.keys dag roots
+  grown = Means-grows grows h.there h.means
+
+  values : (v : ℕ → Bool) → Meets v s'.encoded.clauses.clauses → ShowsValues dag s.leaves.keys s.encoded.names s'.codes v
+  values v m =
+      covers.gate.says v
+      (met_added s.encoded s'.encoded s.leaves.keys dag roots root mid _ bit grown h.within names covers.gate demands says v m)
+      (met_old s.encoded s'.encoded s.leaves.keys dag roots root mid _ bit grown h.within names covers.gate demands says v m)
+
+  shown : Shows dag s.leaves.keys s.encoded.names s'.encoded.clauses s'.codes
+  shown = record {
     short = omega (arith, covers.long);
     fits = subst (λ n. TableFits dag.bits n s'.codes) (sym demands.vars) covers.fits;
-    within = AreWithin-more s.encoded s'.encoded s.leaves.keys dag roots root mid _ bit (IsEncoding-grows grows h.there h.encoding) h.within names covers.gate demands says;
-    shows = λ v m.
-        let old = met_old s.encoded s'.encoded s.leaves.keys dag roots root mid _ bit (IsEncoding-grows grows h.there h.encoding) h.within names covers.gate demands says v m in
-        let added = met_added s.encoded s'.encoded s.leaves.keys dag roots root mid _ bit (IsEncoding-grows grows h.there h.encoding) h.within names covers.gate demands says v m in
-        subst (λ l. ShowsValues dag l.keys s'.encoded.names s'.codes v) (sym leaves)
-        (subst (λ l. ShowsValues dag s.leaves.keys l s'.codes v) (sym names) (covers.gate.says v added old));
+    values = values;
   }
+
+  pub Stands-more : Stands s' dag (roots ++ root ∷ [])
+  Stands-more = record {
+    means =
+        subst (λ l. Means s'.encoded l.keys dag (roots ++ root ∷ [])) (sym leaves)
+        (Means-more s.encoded s'.encoded s.leaves.keys dag roots root mid _ bit grown h.within names covers.gate demands says);
+    there = All-push (HasBool dag.nodes) roots root (All-weaker (HasBool g.nodes) (HasBool dag.nodes) (λ r k. HasSort-grows grows k) roots h.there) there;
+    within = AreWithin-more s.encoded s'.encoded s.leaves.keys dag roots root mid _ bit grown h.within names covers.gate demands says;
+    codes = subst (λ l. Shows dag l.keys s'.encoded.names s'.encoded.clauses s'.codes) (sym leaves) (subst (λ l. Shows dag s.leaves.keys l s'.encoded.clauses s'.codes) (sym names) shown);
+  }
+
+  pub Tight-stays : Tight s.encoded → Tight s'.encoded
+  Tight-stays = Tight-more s.encoded s'.encoded s.leaves.keys dag roots root mid _ bit grown h.within names covers.gate demands says
 
 -- a formula that only has names
 pub Stands-begun : (s : Growing) (leaves : List Leaf) (w : ℕ) → IsNamed s.encoded leaves → s.leaves.keys ≡ leaves → s.codes ≡ [] → Stands s (record { bits = w; nodes = [] }) []
 Stands-begun s leaves w h keys none = record {
-  encoding = subst (λ l. IsEncoding s.encoded l (record { bits = w; nodes = [] }) []) (sym keys) (IsEncoding-named s.encoded leaves w h);
+  means = subst (λ l. Means s.encoded l (record { bits = w; nodes = [] }) []) (sym keys) (Means-named s.encoded leaves w h);
   there = All-nil (HasBool []);
-  short = omega (arith, ap length none);
-  fits = subst (TableFits w s.encoded.clauses.vars) (sym none) (All-nil (SlotFits w s.encoded.clauses.vars));
   within = subst (AreWithin s.encoded.clauses.vars) (sym h.none) (All-nil (IsWithin s.encoded.clauses.vars));
-  shows = λ v m. ShowsValues-none (record { bits = w; nodes = [] }) s.leaves.keys s.encoded.names s.codes v none;
+  codes = record {
+    short = omega (arith, ap length none);
+    fits = subst (TableFits w s.encoded.clauses.vars) (sym none) (All-nil (SlotFits w s.encoded.clauses.vars));
+    values = λ v m. ShowsValues-none (record { bits = w; nodes = [] }) s.leaves.keys s.encoded.names s.codes v none;
+  };
 }

@@ -39,8 +39,12 @@ abbrev pub IsAbsent : List Leaf → Leaf → Type 0
 IsAbsent leaves x = (i : ℕ) → slice_get leaves i ≡ Some x → ⊥
 
 -- The formula has a name for each leaf, in order. Bits for the leaves extend exactly where the roots are true in the
--- environment that the leaves say (and so in each that has the values that they say), and in one way at most.
-pub record IsEncoding (f : Encoded) (leaves : List Leaf) (g : Graph) (roots : List BoolId) : Type 0 where
+-- environment that the leaves say, and so in each that has the values that they say.
+pub record Means (f : Encoded) (leaves : List Leaf) (g : Graph) (roots : List BoolId) : Type 0 where
   pub encodes : Encodes f (length leaves) (λ bits. AreTrue g roots (leaf_env leaves bits))
   pub said : (bits : List Bool) (e : Env) → length bits ≡ length leaves → Says leaves bits e → Extends f bits ↔ AreTrue g roots e
+
+-- The formula means that the roots are true, and no bits of the leaves extend in two ways.
+pub record IsEncoding (f : Encoded) (leaves : List Leaf) (g : Graph) (roots : List BoolId) : Type 0 where
+  pub means : Means f leaves g roots
   pub tight : Tight f

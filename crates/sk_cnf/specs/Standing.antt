@@ -15,7 +15,7 @@ use Rattle.sk_cnf.specs.declared.code.Code.{Code}
 use Rattle.sk_cnf.specs.declared.growing.Encoded.{Encoded}
 use Rattle.sk_cnf.specs.declared.growing.Growing.{Growing}
 use Rattle.sk_cnf.specs.Codes.{TableFits, ShowsValues}
-use Rattle.sk_cnf.specs.Formula.{IsEncoding}
+use Rattle.sk_cnf.specs.Formula.{Means}
 
 -- a code stands at this place of the table
 abbrev pub IsCoded : List (Option Code) → ℕ → Type 0
@@ -37,18 +37,28 @@ pub record Demands (old new : Problem) (bit : Bit) : Type 0 where
   pub within : AreWithin new.vars added
   pub met : (v : ℕ → Bool) → Meets v added ↔ (bit_true v bit ≡ true)
 
+-- new has the variables and the clauses of old, and maybe others behind them
+pub record Begins (old new : Problem) : Type 0 where
+  pub vars : old.vars ≤ new.vars
+  pub added : List (List Lit)
+  pub clauses : new.clauses ≡ old.clauses ++ added
+
 -- the formula has a variable for each leaf, which is its name, and nothing else
 pub record IsNamed (f : Encoded) (leaves : List Leaf) : Type 0 where
   pub names : f.names ≡ range_with_len 0 (length leaves)
   pub vars : f.clauses.vars ≡ length leaves
   pub none : f.clauses.clauses ≡ []
 
--- The formula encodes that these roots of the graph are true, and where its clauses are met each code that it keeps
--- stands for the value of its node.
+-- Where the clauses are met, each code in the table stands for the value of its node.
+pub record Shows (g : Graph) (leaves : List Leaf) (names : List ℕ) (to : Problem) (codes : List (Option Code)) : Type 0 where
+  pub short : length codes ≤ length g.nodes
+  pub fits : TableFits g.bits to.vars codes
+  pub values : (v : ℕ → Bool) → Meets v to.clauses → ShowsValues g leaves names codes v
+
+-- The formula means that these roots of the graph are true, and where its clauses are met each code that it keeps stands
+-- for the value of its node.
 pub record Stands (s : Growing) (g : Graph) (roots : List BoolId) : Type 0 where
-  pub encoding : IsEncoding s.encoded s.leaves.keys g roots
+  pub means : Means s.encoded s.leaves.keys g roots
   pub there : All (HasBool g.nodes) roots
-  pub short : length s.codes ≤ length g.nodes
-  pub fits : TableFits g.bits s.encoded.clauses.vars s.codes
   pub within : AreWithin s.encoded.clauses.vars s.encoded.clauses.clauses
-  pub shows : (v : ℕ → Bool) → Meets v s.encoded.clauses.clauses → ShowsValues g s.leaves.keys s.encoded.names s.codes v
+  pub codes : Shows g s.leaves.keys s.encoded.names s.encoded.clauses s.codes

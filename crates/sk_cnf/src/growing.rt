@@ -8,8 +8,8 @@ ghost use Rattle.sk_dag.specs.Reach.{IsClosed, IsMarked};
 ghost use Rattle.sk_gates.specs.Bits.{reach};
 ghost use Rattle.sk_gates.specs.Extension.{Continues};
 ghost use Rattle.sk_cnf.specs.Codes.{TableFits, IsLonger};
-ghost use Rattle.sk_cnf.specs.Formula.{AreLeaves, IsAbsent, IsEncoding};
-ghost use Rattle.sk_cnf.specs.Standing.{Covers, Demands, IsCoded, IsNamed, Stands};
+ghost use Rattle.sk_cnf.specs.Formula.{AreLeaves, IsAbsent, IsEncoding, Tight};
+ghost use Rattle.sk_cnf.specs.Standing.{Begins, Covers, Demands, IsCoded, IsNamed, Shows, Stands};
 
 use crate::code::{Code, code_at, truth_of};
 use crate::encoder::encode_node;
@@ -79,6 +79,7 @@ fn lengthen(codes: &mut List<Option<Code>>, len: usize) -> Result<(), AllocError
     ensures length { OnOk result (length codes.new ≡ len) }
     ensures fits { (w vars : ℕ) → TableFits w vars codes.old → TableFits w vars codes.new }
     ensures codes { IsLonger codes.old codes.new }
+    ensures short { length codes.new ≤ len }
 {
     for _ in codes.len()..len {
         codes.push(None)?;
@@ -117,6 +118,7 @@ fn encode_place(
     requires covers { (old : Problem) × Covers old dag.now leaves.now.keys names.now marks.now to.old codes.old i }
     ensures covers { (old : Problem) → Covers old dag.now leaves.now.keys names.now marks.now to.old codes.old i
         → OnOk result (Covers old dag.now leaves.now.keys names.now marks.now to.new codes.new (i + 1)) }
+    ensures refused { OnErr result (codes.new ≡ codes.old) }
     ensures behind { Continues to.old to.new }
 {
     let wanted = is_wanted(marks, codes, i);
@@ -146,6 +148,7 @@ fn encode_marked(
     requires within { All (λ x. x < to.old.vars) names.now }
     requires covers { Covers to.old dag.now leaves.now.keys names.now marks.now to.old codes.old 0 }
     ensures covers { OnOk result (Covers to.old dag.now leaves.now.keys names.now marks.now to.new codes.new (length dag.now.nodes)) }
+    ensures refused { OnErr result (Shows dag.now leaves.now.keys names.now to.new codes.new) }
     ensures behind { Continues to.old to.new }
 {
     for i in 0..dag.len() {
@@ -167,6 +170,7 @@ fn demand(to: &mut Clauses, bit: Bit) -> Result<(), AllocError>
     }
 }
 
+#[tactic(auto, using(crate::proofs::StandingLaws::beginning))]
 impl Growing {
     /// A formula over names for the leaves, in order, that says nothing of them.
     ///
@@ -175,6 +179,7 @@ impl Growing {
         requires { AreLeaves leaves.now }
         ensures leaves { IfOk result (λ r. r.leaves.keys ≡ leaves.now) }
         ensures stands { IfOk result (λ r. (w : ℕ) → Stands r (record { bits = w; nodes = [] }) []) }
+        ensures tight { IfOk result (λ r. Tight r.encoded) }
     {
         let (encoded, leaves) = named(alloc, leaves)?;
         Ok(Growing {
@@ -188,14 +193,18 @@ impl Growing {
     /// Adds that a root of the graph is true. The graph has all nodes that it had at the calls before, maybe with others
     /// behind them, and the same width. Names and clauses stay, and new clauses stand behind the old ones.
     ///
-    /// After a refusal the formula may lack what it stands for: it is not to be used again.
+    /// After a refusal the formula may hold further variables and clauses. They leave the meaning of its names as it was,
+    /// but bits of the names may extend in more than one way. It can be called again, with a graph that has the nodes of
+    /// the refused call too.
     pub fn require(&mut self, dag: &Dag, root: BoolId) -> Result<(), AllocError>
         requires root { HasBool dag.now.nodes root }
         requires begun { (g : Graph) × (roots : List BoolIdOf) × Stands self.old g roots × Grows g dag.now }
         ensures stands { (g : Graph) (roots : List BoolIdOf) → Stands self.old g roots → Grows g dag.now → OnOk result (Stands self.new dag.now (roots ++ root ∷ [])) }
+        ensures tight { Tight self.old.encoded → OnOk result (Tight self.new.encoded) }
+        ensures refused { (g : Graph) (roots : List BoolIdOf) → Stands self.old g roots → Grows g dag.now → OnErr result (Stands self.new dag.now roots) }
         ensures leaves { self.new.leaves ≡ self.old.leaves }
         ensures names { self.new.encoded.names ≡ self.old.encoded.names }
-        ensures behind { Continues self.old.encoded.clauses self.new.encoded.clauses }
+        ensures behind { Begins self.old.encoded.clauses self.new.encoded.clauses }
     {
         let marks = dag.reached(&[root])?;
         lengthen(&mut self.codes, dag.len())?;

@@ -1,14 +1,20 @@
 -- How additions are put one after another, and the addition of one variable that clauses define.
-use Rattle.std.proofs.Common.{◌≡◌, inl, inr, ⊎_elim, ℕ, ◌+◌, ◌<◌, ◌≤◌, Bool, true, false, not, ◌&&◌, List, [], ◌∷◌, ◌++◌, refl, sym, ap, subst, ◌∙◌, arith, if◌then◌else◌, eqb, true≢false}
+use Rattle.std.proofs.Common.{◌≡◌, inl, inr, ⊎_elim, ℕ, ◌+◌, ◌<◌, ◌≤◌, Bool, true, false, not, ◌&&◌, List, [], ◌∷◌, ◌++◌, take, drop, refl, sym, ap, subst, ◌∙◌, arith, if◌then◌else◌, eqb, true≢false, Result, Ok, Err}
+use Rattle.std.specs.Result.{OnErr}
 use Rattle.std.proofs.lemmas.Bool.{cases_lt}
 use Rattle.std.proofs.lemmas.Bool.Decides.{nat_tests}
-use Rattle.std.proofs.lemmas.List.{append_assoc}
-use Rattle.std.proofs.lemmas.List.Elements.{All-nil, All-head, All-tail, All-append, All-weaker, Contains-append_left, Contains-append_right, Contains-append_cases, Contains-push_cases}
+use Rattle.std.proofs.lemmas.List.{append-nil, append_assoc, append_cancel_left, take-append-drop}
+use Rattle.std.proofs.lemmas.List.Elements.{All-nil, All-head, All-tail, All-append, All-take, All-weaker, Contains-append_left, Contains-append_right, Contains-append_cases, Contains-push_cases}
 use Rattle.std.specs.List.{list_all}
 use Rattle.sk_clause.specs.declared.lit.Lit.{Lit}
 use Rattle.sk_clause.specs.Meaning.{lit_true, clause_true, Meets}
 use Rattle.sk_clause.specs.Problem.{Problem, IsWithin, AreWithin}
 use Rattle.sk_gates.specs.Extension.{AgreeBelow, Continues, Adds}
+
+-- what holds anyhow holds after a refusal
+pub on_err : {T E P : Type 0} (r : Result T E) → P → OnErr r P
+on_err (Ok x) p = tt
+on_err (Err e) p = p
 
 -- each clause is true, as one test
 abbrev pub all_true : (ℕ → Bool) → List (List Lit) → Bool
@@ -64,7 +70,13 @@ pub AreWithin-later : (m n : ℕ) (cs : List (List Lit)) → m ≤ n → AreWith
 AreWithin-later m n cs h w = All-weaker (IsWithin m) (IsWithin n) (λ c k. All-weaker (λ l. l.var < m) (λ l. l.var < n) (λ l j. omega arith) c k) cs w
 
 pub Continues-refl : (a : Problem) → Continues a a
-Continues-refl a = record { vars = omega arith; added = []; clauses = sym (Rattle.std.proofs.lemmas.List.append-nil a.clauses) }
+Continues-refl a = record {
+  vars = omega arith;
+  added = [];
+  clauses = sym (append-nil a.clauses);
+  within = All-nil (IsWithin a.vars);
+  total = λ v. (v, record { same = λ i l. refl }, Meets-nil v);
+}
 
 pub Continues-same : {a b : Problem} → b ≡ a → Continues a b
 Continues-same {a} {b} e = subst (λ x. Continues a x) (sym e) (Continues-refl a)
@@ -74,17 +86,35 @@ Continues-trans {a} {b} {c} h k = record {
   vars = omega (arith, h.vars, k.vars);
   added = h.added ++ k.added;
   clauses = k.clauses ∙ ap (λ x. x ++ k.added) h.clauses ∙ append_assoc a.clauses h.added k.added;
+  within = All-append (IsWithin c.vars) h.added k.added (AreWithin-later b.vars c.vars h.added k.vars h.within) k.within;
+  total = λ v.
+      let u = h.total v in
+      let w = k.total u.0 in
+      (w.0, record { same = λ i l. u.1.same i l ∙ w.1.same i (omega (arith, h.vars)) }, Meets-append w.0 h.added k.added (Meets-same b.vars u.0 w.0 h.added w.1 h.within u.2) w.2);
 }
 
 pub Continues-adds : {a b : Problem} {P : (ℕ → Bool) → Type 0} → Adds a b P → Continues a b
-Continues-adds h = record { vars = h.vars; added = h.added; clauses = h.clauses }
+Continues-adds h = record { vars = h.vars; added = h.added; clauses = h.clauses; within = h.within; total = h.total }
+
+-- of the clauses that an addition would add, the first k are there
+pub Continues-part : {old new whole : Problem} {P : (ℕ → Bool) → Type 0} (k : ℕ) (all : List (List Lit)) → Adds old whole P → whole.vars ≡ new.vars → whole.clauses ≡ old.clauses ++ all → new.clauses ≡ old.clauses ++ take k all → Continues old new
+Continues-part {old} {new} {whole} k all h vars clauses some = record {
+  vars = omega (arith, h.vars, vars);
+  added = take k all;
+  clauses = some;
+  within = All-take (IsWithin new.vars) k all (subst (AreWithin new.vars) same (subst (λ n. AreWithin n h.added) vars h.within));
+  total = λ v. let u = h.total v in (u.0, u.1, Meets-left u.0 (take k all) (drop k all) (subst (Meets u.0) (same ∙ sym (take-append-drop k all)) u.2));
+}
+  where
+    same : h.added ≡ all
+    same = append_cancel_left old.clauses h.added all (sym h.clauses ∙ clauses)
 
 -- nothing is added
 pub Adds-none : (a : Problem) (P : (ℕ → Bool) → Type 0) → ((v : ℕ → Bool) → P v) → Adds a a P
 Adds-none a P p = record {
   vars = omega arith;
   added = [];
-  clauses = sym (Rattle.std.proofs.lemmas.List.append-nil a.clauses);
+  clauses = sym (append-nil a.clauses);
   within = All-nil (IsWithin a.vars);
   total = λ v. (v, record { same = λ i l. refl }, Meets-nil v);
   unique = λ u v h m n. h;

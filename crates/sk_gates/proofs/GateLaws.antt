@@ -1,13 +1,13 @@
 -- The tables of the base gates: what their clauses say.
-use Rattle.std.proofs.Common.{◌≡◌, ℕ, ◌+◌, ◌<◌, Bool, true, false, not, ◌&&◌, ◌||◌, List, [], ◌∷◌, ◌++◌, refl, sym, ap, ◌∙◌, arith, if◌then◌else◌}
+use Rattle.std.proofs.Common.{◌≡◌, ℕ, ◌+◌, ◌<◌, Bool, true, false, not, ◌&&◌, ◌||◌, List, [], ◌∷◌, ◌++◌, take, refl, sym, ap, ◌∙◌, arith, if◌then◌else◌}
 use Rattle.std.proofs.lemmas.List.{append-nil, append_assoc}
 use Rattle.std.proofs.lemmas.List.Elements.{All-nil, All-cons}
 use Rattle.sk_clause.specs.declared.lit.Lit.{Lit}
 use Rattle.sk_clause.specs.Meaning.{lit_true, negated}
 use Rattle.sk_clause.specs.Problem.{Problem, IsWithin, AreWithin}
-use Rattle.sk_gates.specs.Extension.{Adds}
+use Rattle.sk_gates.specs.Extension.{Adds, Continues}
 use Rattle.sk_gates.specs.Bits.{differ, choose}
-use Rattle.sk_gates.proofs.ExtensionLaws.{Adds-define, lit_true-same, same_truth, positive, all_true}
+use Rattle.sk_gates.proofs.ExtensionLaws.{Adds-define, Continues-part, Continues-trans, Continues-same, lit_true-same, same_truth, positive, all_true}
 
 -- one variable more, and these clauses more
 pub record Defining (old new : Problem) (added : List (List Lit)) : Type 0 where
@@ -171,3 +171,24 @@ module _ (old new : Problem) (r nr a na b nb : Lit) (at : r ≡ positive old.var
       (rw d.one (clauses4 n _ _ _ _ (three n nr nc a nr_in nc_in a_in) (three n r nc na r_in nc_in na_in) (three n nr c b nr_in c_in b_in) (three n r c nb r_in c_in nb_in)))
       (λ u v h. rw (lit_true-same old.vars u v c h hc, lit_true-same old.vars u v a h ha, lit_true-same old.vars u v b h hb))
       (λ v. mux_by (v old.vars) (lit_true v r) (lit_true v nr) (lit_true v c) (lit_true v nc) (lit_true v a) (lit_true v na) (lit_true v b) (lit_true v nb) (ap (lit_true v) at) (is_negated v nr r er) (is_negated v nc c ec) (is_negated v na a ea) (is_negated v nb b eb))
+
+-- ---- gates of which only the first clauses are there, since a call was refused
+
+-- The call left all as it was where k of the clauses were there that make a gate of a new variable.
+pub Defining-refused : {old mid new : Problem} {P : (ℕ → Bool) → Type 0} (k : ℕ) (all : List (List Lit)) → new ≡ mid → Defining old mid (take k all) → ((whole : Problem) → Defining old whole all → Adds old whole P) → Continues old new
+Defining-refused {old} {mid} {new} k all same d made =
+    let whole : Problem = record { vars = old.vars + 1; clauses = old.clauses ++ all } in
+    Continues-trans (Continues-part {old = old} {new = mid} {whole = whole} k all (made whole (record { one = refl; more = refl })) (sym d.one) refl d.more) (Continues-same same)
+
+pub known_refused : {old mid new : Problem} (r fact : Lit) (b : Bool) → r ≡ positive old.vars → fact ≡ (if b then r else negated r) → new ≡ mid → Defining old mid [] → Continues old new
+known_refused {old} r fact b at is same d = Defining-refused 0 ((fact ∷ []) ∷ []) same d (λ whole w. known_made old whole r fact b at is w)
+
+module _ {old mid new : Problem} (k : ℕ) (r nr a na b nb : Lit) (at : r ≡ positive old.vars) (er : nr ≡ negated r) (ea : na ≡ negated a) (eb : nb ≡ negated b) (ha : a.var < old.vars) (hb : b.var < old.vars) (same : new ≡ mid) where
+  pub and_refused : Defining old mid (take k ((nr ∷ a ∷ []) ∷ (nr ∷ b ∷ []) ∷ (r ∷ na ∷ nb ∷ []) ∷ [])) → Continues old new
+  and_refused d = Defining-refused k _ same d (λ whole w. and_made old whole r nr a na b nb at er ea eb ha hb w)
+
+  pub xor_refused : Defining old mid (take k ((nr ∷ a ∷ b ∷ []) ∷ (nr ∷ na ∷ nb ∷ []) ∷ (r ∷ na ∷ b ∷ []) ∷ (r ∷ a ∷ nb ∷ []) ∷ [])) → Continues old new
+  xor_refused d = Defining-refused k _ same d (λ whole w. xor_made old whole r nr a na b nb at er ea eb ha hb w)
+
+  pub mux_refused : (c nc : Lit) → nc ≡ negated c → c.var < old.vars → Defining old mid (take k ((nr ∷ nc ∷ a ∷ []) ∷ (r ∷ nc ∷ na ∷ []) ∷ (nr ∷ c ∷ b ∷ []) ∷ (r ∷ c ∷ nb ∷ []) ∷ [])) → Continues old new
+  mux_refused c nc ec hc d = Defining-refused k _ same d (λ whole w. mux_made old whole r nr a na b nb at er ea eb ha hb c nc ec hc w)

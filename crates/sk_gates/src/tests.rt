@@ -273,6 +273,27 @@ fn gates_of_words(rt: HostRuntime) -> Result<(), Fail> {
     Ok(())
 }
 
+// What a gate of two words of four bits answers in its only extension.
+fn answer_of(alloc: Global, gate: Gate, bits: usize) -> Result<Option<usize>, AllocError> {
+    let mut to = eleven(alloc)?;
+    let answer = made(alloc, &mut to, gate, &[A, B, C, D], &[E, F, G, H])?;
+    let value = only(alloc, &to, bits, answer.as_slice())?;
+    Ok(value)
+}
+
+// 7 times 5 is 35, whose four lowest bits are 3. 13 is 3 times 4 and 1 more. Divided by 0 it gives 0 and 0.
+#[test]
+fn numbers_of_four_bits(rt: HostRuntime) -> Result<(), Fail> {
+    let alloc = rt.alloc();
+    assert_eq!(rt; answer_of(alloc, Gate::Product, 7 + 5 * 16)?, Some(3));
+    assert_eq!(rt;
+        answer_of(alloc, Gate::Division, 13 + 4 * 16)?,
+        Some(3 + 16)
+    );
+    assert_eq!(rt; answer_of(alloc, Gate::Division, 13)?, Some(0));
+    Ok(())
+}
+
 // A word of 16 bits that are false from the sixth on.
 fn first_word(alloc: Global) -> Result<List<Bit>, AllocError>
     ensures length { IfOk result (λ r. length r ≡ 16) }

@@ -1,7 +1,7 @@
 use Rattle.std.proofs.Common.{arith, ◌∙◌, nat_eq, not}
 use Rattle.std.proofs.lemmas.List.{take_all}
 use Rattle.sk_gates.specs.Words.{bits_word}
-use Rattle.sk_gates.proofs.ExtensionLaws.{Adds-none, Adds-then, Adds-both, Adds-weaker, Continues-refl, Continues-trans, Continues-adds}
+use Rattle.sk_gates.proofs.ExtensionLaws.{Adds-none, Adds-then, Adds-both, Adds-weaker, Continues-refl, Continues-trans, Continues-adds, on_err}
 use Rattle.sk_gates.proofs.BitLaws.{AreOver-later}
 use Rattle.sk_cnf.proofs.StepLaws.{apart_step, none_apart}
 use Rattle.sk_cnf.proofs.signed.apart.Goals as goal
@@ -34,3 +34,9 @@ returns-clause-gate c =
     let left = take_all c.loop-i.i c.args.a.now (omega arith) in
     let right = take_all c.loop-i.i c.args.b.now (omega arith) in
     Adds-weaker _ _ c.loop-i.invariant.gate (λ v h. h ∙ (λ j. not (nat_eq (bits_word v (left j)) (bits_word v (right j)))))
+
+pub returns-in_err-here-clause-err : goal.returns-in_err-here-clause-err
+returns-in_err-here-clause-err c = on_err _ (Continues-trans c.loop-i.invariant.behind c.in_err-here.ensures.err)
+
+pub returns-in_err-some-clause-err : goal.returns-in_err-some-clause-err
+returns-in_err-some-clause-err c = on_err _ (Continues-trans c.loop-i.invariant.behind (Continues-trans (Continues-adds c.in_ok-here.ensures.gate) c.in_err-some.ensures.err))

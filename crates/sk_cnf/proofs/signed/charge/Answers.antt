@@ -1,7 +1,7 @@
 use Rattle.std.proofs.Common.{◌≡◌, ◌<◌, ◌+◌, ◌*◌, ◌%◌, ◌^◌, ◌∙◌, arith, ap, sym, length, refl}
 use Rattle.sk_gates.specs.Words.{bits_word, digit}
 use Rattle.sk_gates.specs.Bits.{bit_true}
-use Rattle.sk_gates.proofs.ExtensionLaws.{Adds-then, Adds-both, Adds-weaker}
+use Rattle.sk_gates.proofs.ExtensionLaws.{Adds-then, Adds-both, Adds-weaker, Continues-trans, Continues-adds, on_err}
 use Rattle.sk_gates.proofs.WordLaws.{bits_below}
 use Rattle.std.proofs.Common.{not, ◌&&◌}
 use Rattle.sk_cnf.proofs.SignedLaws.{charged}
@@ -21,3 +21,9 @@ returns-clause-gate c =
     let r = rw (c.as_slice-2.ensures, c.as_slice-3.ensures, c.in_ok-most.ensures.value v) at q in
     charged w (bits_word v c.args.amount.now) (bits_word v c.args.cost.now) (bits_word v c.in_ok-sum.sum) (bits_word v c.in_ok-r.r) (bit_true v c.args.when) (bit_true v c.sign.result) (bit_true v c.in_ok-counts.counts) (bit_true v c.in_ok-sum.over)
     (bits_below v c.args.amount.now) c.requires.some top counts cost_below sum_below sum r)
+
+pub returns-in_err-most-clause-err : goal.returns-in_err-most-clause-err
+returns-in_err-most-clause-err c = on_err _ (Continues-trans (Continues-adds c.in_ok-counts.ensures.gate) (Continues-trans (Continues-adds c.in_ok-more.ensures.gate) (Continues-adds c.in_ok-sum.ensures.gate)))
+
+pub returns-in_err-r-clause-err : goal.returns-in_err-r-clause-err
+returns-in_err-r-clause-err c = on_err _ (Continues-trans (Continues-adds c.in_ok-counts.ensures.gate) (Continues-trans (Continues-adds c.in_ok-more.ensures.gate) (Continues-trans (Continues-adds c.in_ok-sum.ensures.gate) c.in_err-r.ensures.err)))

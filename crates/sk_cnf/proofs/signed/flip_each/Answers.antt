@@ -2,7 +2,7 @@ use Rattle.std.proofs.Common.{◌≡◌, ◌+◌, ◌-◌, ◌^◌, arith, lengt
 use Rattle.std.proofs.lemmas.List.{length_push, take_all}
 use Rattle.sk_gates.specs.Bits.{bit_true}
 use Rattle.sk_gates.specs.Words.{bits_word}
-use Rattle.sk_gates.proofs.ExtensionLaws.{Adds-none, Adds-then, Adds-weaker, Continues-refl, Continues-trans, Continues-adds}
+use Rattle.sk_gates.proofs.ExtensionLaws.{Adds-none, Adds-then, Adds-weaker, Continues-refl, Continues-trans, Continues-adds, on_err}
 use Rattle.sk_gates.proofs.BitLaws.{AreOver-later, AreOver-push}
 use Rattle.sk_cnf.proofs.StepLaws.{flip_none, flip_step}
 use Rattle.sk_cnf.proofs.signed.flip_each.Goals as goal
@@ -36,3 +36,9 @@ returns-clause-gate c =
     let e : c.loop-i.i ≡ length c.args.bits.now = omega arith in
     let all = take_all c.loop-i.i c.args.bits.now (omega arith) in
     Adds-weaker _ _ c.loop-i.invariant.gate (λ v h. rw (← e) (h ∙ (λ j. if bit_true v c.args.when then 2 ^ c.loop-i.i - 1 - bits_word v (all j) else bits_word v (all j))))
+
+pub returns-in_err-either-clause-err : goal.returns-in_err-either-clause-err
+returns-in_err-either-clause-err c = on_err _ (Continues-trans c.loop-i.invariant.behind c.in_err-either.ensures.err)
+
+pub returns-in_err-push-clause-err : goal.returns-in_err-push-clause-err
+returns-in_err-push-clause-err c = on_err _ (Continues-trans c.loop-i.invariant.behind (Continues-adds c.in_ok-either.ensures.gate))

@@ -1,7 +1,7 @@
 use Rattle.std.proofs.Common.{◌≡◌, ◌<◌, ◌+◌, ◌*◌, ◌%◌, ◌^◌, ◌∙◌, arith, ap, sym, length, refl}
 use Rattle.sk_gates.specs.Words.{bits_word, digit}
 use Rattle.sk_gates.specs.Bits.{bit_true}
-use Rattle.sk_gates.proofs.ExtensionLaws.{Adds-then, Adds-both, Adds-weaker}
+use Rattle.sk_gates.proofs.ExtensionLaws.{Adds-then, Adds-both, Adds-weaker, Continues-trans, Continues-adds, on_err}
 use Rattle.sk_gates.proofs.WordLaws.{bits_below}
 use Rattle.sk_base.specs.Word.{signed}
 use Rattle.sk_cnf.specs.Signed.{HasSign}
@@ -21,3 +21,6 @@ returns-clause-gate c =
     let below = rw long at (bits_below v c.in_ok-left.left) in
     let r = rw (c.as_slice-3.ensures, long) at q in
     left_over w c.requires.some _ _ _ _ _ _ x y (bits_word v c.in_ok-left.left) (bits_word v c.in_ok-r.r) below d r)
+
+pub returns-in_err-r-clause-err : goal.returns-in_err-r-clause-err
+returns-in_err-r-clause-err c = on_err _ (Continues-trans (Continues-adds c.in_ok-dividend.ensures.gate) (Continues-trans (Continues-adds c.in_ok-divisor.ensures.gate) (Continues-trans (Continues-adds c.in_ok-left.ensures.gate) c.in_err-r.ensures.err)))

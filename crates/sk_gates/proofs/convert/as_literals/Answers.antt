@@ -6,7 +6,7 @@ use Rattle.sk_clause.specs.Meaning.{lit_true}
 use Rattle.sk_gates.specs.declared.bit.Bit.TheVariants.{Constant}
 use Rattle.sk_gates.specs.Bits.{bit_true}
 use Rattle.sk_gates.specs.Words.{number}
-use Rattle.sk_gates.proofs.ExtensionLaws.{Adds-none, Adds-then, Adds-weaker, Continues-refl, Continues-trans, Continues-adds}
+use Rattle.sk_gates.proofs.ExtensionLaws.{Adds-none, Adds-then, Adds-weaker, Continues-refl, Continues-trans, Continues-adds, on_err}
 use Rattle.sk_gates.proofs.BitLaws.{AreOver-later}
 use Rattle.sk_gates.proofs.convert.as_literals.Goals as goal
 
@@ -37,3 +37,9 @@ pub returns-clause-gate : goal.returns-clause-gate
 returns-clause-gate c =
     let all = take_all c.loop-i.i c.args.bits.now (omega arith) in
     Adds-weaker _ _ c.loop-i.invariant.gate (λ v h. ap number (h ∙ ap (map (bit_true v)) all))
+
+pub returns-in_err-lit-clause-err : goal.returns-in_err-lit-clause-err
+returns-in_err-lit-clause-err c = on_err _ (Continues-trans c.loop-i.invariant.behind c.in_err-lit.ensures.err)
+
+pub returns-in_err-push-clause-err : goal.returns-in_err-push-clause-err
+returns-in_err-push-clause-err c = on_err _ (Continues-trans c.loop-i.invariant.behind (Continues-adds c.in_ok-lit.ensures.gate))

@@ -2,7 +2,7 @@ use Rattle.std.proofs.Common.{◌+◌, ◌*◌, arith, length, ap, ◌∙◌}
 use Rattle.std.proofs.lemmas.List.{length_push, take_all}
 use Rattle.sk_gates.specs.Bits.{bit_true}
 use Rattle.sk_gates.specs.Words.{digit, bits_word}
-use Rattle.sk_gates.proofs.ExtensionLaws.{Adds-none, Adds-then, Adds-weaker, Continues-refl, Continues-trans, Continues-adds}
+use Rattle.sk_gates.proofs.ExtensionLaws.{Adds-none, Adds-then, Adds-weaker, Continues-refl, Continues-trans, Continues-adds, on_err}
 use Rattle.sk_gates.proofs.BitLaws.{AreOver-later, AreOver-push}
 use Rattle.sk_gates.proofs.EachLaws.{kept_none, kept_step}
 use Rattle.sk_gates.proofs.each.and_each.Goals as goal
@@ -34,3 +34,9 @@ loop-i-preserved c =
 pub returns-clause-gate : goal.returns-clause-gate
 returns-clause-gate c =
     Adds-weaker _ _ c.loop-i.invariant.gate (λ v h. h ∙ ap (λ bs. digit (bit_true v c.args.bit) * bits_word v bs) (take_all c.loop-i.i c.args.bits.now (omega arith)))
+
+pub returns-in_err-both-clause-err : goal.returns-in_err-both-clause-err
+returns-in_err-both-clause-err c = on_err _ (Continues-trans c.loop-i.invariant.behind c.in_err-both.ensures.err)
+
+pub returns-in_err-push-clause-err : goal.returns-in_err-push-clause-err
+returns-in_err-push-clause-err c = on_err _ (Continues-trans c.loop-i.invariant.behind (Continues-adds c.in_ok-both.ensures.gate))

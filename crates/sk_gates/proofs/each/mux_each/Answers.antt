@@ -2,7 +2,7 @@ use Rattle.std.proofs.Common.{◌+◌, arith, length, ap, ◌∙◌, if◌then�
 use Rattle.std.proofs.lemmas.List.{length_push, take_all}
 use Rattle.sk_gates.specs.Bits.{bit_true}
 use Rattle.sk_gates.specs.Words.{bits_word}
-use Rattle.sk_gates.proofs.ExtensionLaws.{Adds-none, Adds-then, Adds-weaker, Continues-refl, Continues-trans, Continues-adds}
+use Rattle.sk_gates.proofs.ExtensionLaws.{Adds-none, Adds-then, Adds-weaker, Continues-refl, Continues-trans, Continues-adds, on_err}
 use Rattle.sk_gates.proofs.BitLaws.{AreOver-later, AreOver-push}
 use Rattle.sk_gates.proofs.EachLaws.{chosen_none, chosen_step}
 use Rattle.sk_gates.proofs.each.mux_each.Goals as goal
@@ -38,3 +38,9 @@ returns-clause-gate c =
     let left = take_all c.loop-i.i c.args.a.now (omega arith) in
     let right = take_all c.loop-i.i c.args.b.now (omega arith) in
     Adds-weaker _ _ c.loop-i.invariant.gate (λ v h. h ∙ (λ j. if bit_true v c.args.condition then bits_word v (left j) else bits_word v (right j)))
+
+pub returns-in_err-either-clause-err : goal.returns-in_err-either-clause-err
+returns-in_err-either-clause-err c = on_err _ (Continues-trans c.loop-i.invariant.behind c.in_err-either.ensures.err)
+
+pub returns-in_err-push-clause-err : goal.returns-in_err-push-clause-err
+returns-in_err-push-clause-err c = on_err _ (Continues-trans c.loop-i.invariant.behind (Continues-adds c.in_ok-either.ensures.gate))

@@ -1,4 +1,7 @@
-use Rattle.sk_gates.proofs.GateLaws.{Defining-start, Defining-more, and_made}
+use Rattle.std.proofs.Common.{refl}
+use Rattle.sk_clause.specs.Meaning.{negated}
+use Rattle.sk_gates.proofs.ExtensionLaws.{on_err}
+use Rattle.sk_gates.proofs.GateLaws.{Defining-start, Defining-more, and_made, and_refused}
 use Rattle.sk_gates.proofs.gate.and_gate.Goals as goal
 
 pub returns-clause-gate : goal.returns-clause-gate
@@ -8,3 +11,21 @@ returns-clause-gate c =
     let d2 = Defining-more _ _ d1 c.in_ok-push-2.ensures.ok in
     let d3 = Defining-more _ _ d2 c.in_ok-push-3.ensures.ok in
     and_made _ _ _ _ _ _ _ _ c.in_ok-r.ensures.made c.negate-not_r.ensures c.negate.ensures c.negate-2.ensures c.requires.a c.requires.b d3
+
+pub returns-in_err-push-clause-err : goal.returns-in_err-push-clause-err
+returns-in_err-push-clause-err c =
+    let d0 = Defining-start c.in_ok-r.ensures.ok in
+    on_err _ (and_refused 0 c.in_ok-r.r _ c.args.a (negated c.args.a) c.args.b (negated c.args.b) c.in_ok-r.ensures.made c.negate-not_r.ensures refl refl c.requires.a c.requires.b c.in_err-push.ensures.err d0)
+
+pub returns-in_err-push-2-clause-err : goal.returns-in_err-push-2-clause-err
+returns-in_err-push-2-clause-err c =
+    let d0 = Defining-start c.in_ok-r.ensures.ok in
+    let d1 = Defining-more _ _ d0 c.in_ok-push.ensures.ok in
+    on_err _ (and_refused 1 c.in_ok-r.r _ c.args.a (negated c.args.a) c.args.b (negated c.args.b) c.in_ok-r.ensures.made c.negate-not_r.ensures refl refl c.requires.a c.requires.b c.in_err-push-2.ensures.err d1)
+
+pub returns-in_err-push-3-clause-err : goal.returns-in_err-push-3-clause-err
+returns-in_err-push-3-clause-err c =
+    let d0 = Defining-start c.in_ok-r.ensures.ok in
+    let d1 = Defining-more _ _ d0 c.in_ok-push.ensures.ok in
+    let d2 = Defining-more _ _ d1 c.in_ok-push-2.ensures.ok in
+    on_err _ (and_refused 2 c.in_ok-r.r _ c.args.a _ c.args.b _ c.in_ok-r.ensures.made c.negate-not_r.ensures c.negate.ensures c.negate-2.ensures c.requires.a c.requires.b c.in_err-push-3.ensures.err d2)

@@ -1,4 +1,6 @@
-use Rattle.sk_gates.proofs.GateLaws.{Defining-start, Defining-more, known_made}
+use Rattle.std.proofs.Common.{true, refl}
+use Rattle.sk_gates.proofs.ExtensionLaws.{on_err}
+use Rattle.sk_gates.proofs.GateLaws.{Defining-start, Defining-more, known_made, known_refused}
 use Rattle.sk_gates.proofs.gate.known_gate.Goals.{then-value, else-value}
 use Rattle.sk_gates.proofs.gate.known_gate.Goals as goal
 
@@ -10,3 +12,8 @@ returns-clause-gate c =
       | then-value w ↦ (cc)
       | else-value w ↦ (cc)
     ]) d1
+
+pub returns-in_err-push-clause-err : goal.returns-in_err-push-clause-err
+returns-in_err-push-clause-err c =
+    let d0 = Defining-start c.in_ok-r.ensures.ok in
+    on_err _ (known_refused c.in_ok-r.r c.in_ok-r.r true c.in_ok-r.ensures.made refl c.in_err-push.ensures.err d0)

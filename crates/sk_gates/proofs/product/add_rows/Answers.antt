@@ -1,7 +1,7 @@
 use Rattle.std.proofs.Common.{◌*◌, ◌%◌, ◌^◌, arith, length, ap, ◌∙◌}
 use Rattle.std.proofs.lemmas.List.{take_all}
 use Rattle.sk_gates.specs.Words.{bits_word}
-use Rattle.sk_gates.proofs.ExtensionLaws.{Adds-none, Adds-then, Adds-both, Adds-weaker, Continues-refl, Continues-trans, Continues-adds}
+use Rattle.sk_gates.proofs.ExtensionLaws.{Adds-none, Adds-then, Adds-both, Adds-weaker, Continues-refl, Continues-trans, Continues-adds, on_err}
 use Rattle.sk_gates.proofs.BitLaws.{AreOver-later}
 use Rattle.sk_gates.proofs.ProductLaws.{product_none, product_step}
 use Rattle.sk_gates.proofs.product.add_rows.Goals as goal
@@ -35,3 +35,9 @@ pub returns-clause-gate : goal.returns-clause-gate
 returns-clause-gate c =
     let right = take_all c.loop-i.i c.args.b.now (omega arith) in
     Adds-weaker _ _ c.loop-i.invariant.gate (λ v h. h ∙ ap (λ bs. (bits_word v c.args.a.now * bits_word v bs) % 2 ^ length c.args.a.now) right)
+
+pub returns-in_err-more-clause-err : goal.returns-in_err-more-clause-err
+returns-in_err-more-clause-err c = on_err _ (Continues-trans c.loop-i.invariant.behind c.in_err-more.ensures.err)
+
+pub returns-in_err-next-clause-err : goal.returns-in_err-next-clause-err
+returns-in_err-next-clause-err c = on_err _ (Continues-trans c.loop-i.invariant.behind (Continues-trans (Continues-adds c.in_ok-more.ensures.gate) c.in_err-next.ensures.err))

@@ -1,7 +1,7 @@
 use Rattle.std.proofs.Common.{◌≡◌, ◌+◌, ◌-◌, ◌^◌, arith, length, ap, ◌∙◌}
 use Rattle.std.proofs.lemmas.List.{length_push}
 use Rattle.std.proofs.lemmas.Nat.{pow-add}
-use Rattle.sk_gates.proofs.ExtensionLaws.{Adds-none, Adds-then, Continues-refl, Continues-trans, Continues-adds}
+use Rattle.sk_gates.proofs.ExtensionLaws.{Adds-none, Adds-then, Continues-refl, Continues-trans, Continues-adds, on_err}
 use Rattle.sk_gates.proofs.BitLaws.{AreOver-later, AreOver-push}
 use Rattle.sk_gates.proofs.EachLaws.{kept_step}
 use Rattle.sk_gates.proofs.ProductLaws.{row_none}
@@ -35,3 +35,9 @@ pub returns-clause-gate : goal.returns-clause-gate
 returns-clause-gate c =
     let e : c.loop-i.i ≡ length c.args.a.now - c.args.shift = omega arith in
     rw (← e) c.loop-i.invariant.gate
+
+pub returns-in_err-both-clause-err : goal.returns-in_err-both-clause-err
+returns-in_err-both-clause-err c = on_err _ (Continues-trans c.loop-i.invariant.behind c.in_err-both.ensures.err)
+
+pub returns-in_err-push-clause-err : goal.returns-in_err-push-clause-err
+returns-in_err-push-clause-err c = on_err _ (Continues-trans c.loop-i.invariant.behind (Continues-adds c.in_ok-both.ensures.gate))

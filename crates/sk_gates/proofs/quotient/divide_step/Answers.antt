@@ -2,7 +2,7 @@ use Rattle.std.proofs.Common.{◌+◌, ◌*◌, ◌<◌, length, ap, ◌∙◌, 
 use Rattle.sk_gates.specs.Bits.{bit_true}
 use Rattle.sk_gates.specs.Words.{digit, bits_word}
 use Rattle.sk_gates.specs.Division.{AreTops, IsDivided}
-use Rattle.sk_gates.proofs.ExtensionLaws.{Adds-none, Adds-then, Adds-both}
+use Rattle.sk_gates.proofs.ExtensionLaws.{Adds-none, Adds-then, Adds-both, Continues-trans, Continues-adds, on_err}
 use Rattle.sk_gates.proofs.BitLaws.{AreOver-later}
 use Rattle.sk_gates.proofs.DivisionLaws.{divided_step, divided_shut, AreOver-same}
 use Rattle.sk_gates.proofs.quotient.divide_step.Goals as goal
@@ -34,3 +34,6 @@ returns-then-is_false-clause-gate c =
     divided_shut v c.args.left.now c.args.divisor.now c.args.tops.now c.in_ok-taken.taken _ c.lowest-from.result.now c.in_ok-unchanged.unchanged c.args.next c.bit_at-clear.result c.lesser-low.result
     c.requires.short c.in_ok-taken.ensures.length (c.lesser-low.ensures ∙ ap (λ k. min k (length c.args.divisor.now)) c.len.ensures) (c.in_ok-taken.ensures.value v)
     c.as_slice.ensures c.lowest-from.ensures.bits c.in_ok-unchanged.ensures c.bit_at-clear.ensures.bit (c.is_false.ensures c.if-is_false.true) tops)
+
+pub returns-in_err-rest-clause-err : goal.returns-in_err-rest-clause-err
+returns-in_err-rest-clause-err c = on_err _ (Continues-trans (Continues-adds c.in_ok-difference.ensures.gate) (Continues-trans (Continues-adds c.in_ok-enough.ensures.gate) (Continues-trans (Continues-adds c.in_ok-digit.ensures.gate) c.in_err-rest.ensures.err)))

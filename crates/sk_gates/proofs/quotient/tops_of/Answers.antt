@@ -1,7 +1,7 @@
 use Rattle.std.proofs.Common.{◌+◌, arith, length, ap, ◌∙◌, false}
 use Rattle.std.proofs.lemmas.List.{length_push, get_or_push}
 use Rattle.sk_gates.specs.declared.bit.Bit.TheVariants.{Constant}
-use Rattle.sk_gates.proofs.ExtensionLaws.{Adds-none, Adds-then, Continues-refl, Continues-trans, Continues-adds}
+use Rattle.sk_gates.proofs.ExtensionLaws.{Adds-none, Adds-then, Continues-refl, Continues-trans, Continues-adds, on_err}
 use Rattle.sk_gates.proofs.BitLaws.{AreOver-later, AreOver-push}
 use Rattle.sk_gates.proofs.WordLaws.{at}
 use Rattle.sk_gates.proofs.DivisionLaws.{tops_none, tops_step}
@@ -34,3 +34,9 @@ loop-k-preserved c =
       clear_within = c.in_ok-more.ensures.within;
       tops_within = rw pushed (AreOver-push _ _ _ (AreOver-later _ _ _ step.vars inv.tops_within) c.in_ok-more.ensures.within);
     }
+
+pub returns-in_err-more-clause-err : goal.returns-in_err-more-clause-err
+returns-in_err-more-clause-err c = on_err _ (Continues-trans c.loop-k.invariant.behind c.in_err-more.ensures.err)
+
+pub returns-in_err-push-2-clause-err : goal.returns-in_err-push-2-clause-err
+returns-in_err-push-2-clause-err c = on_err _ (Continues-trans c.loop-k.invariant.behind (Continues-adds c.in_ok-more.ensures.gate))

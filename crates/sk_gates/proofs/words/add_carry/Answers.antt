@@ -2,7 +2,7 @@ use Rattle.std.proofs.Common.{◌≡◌, ◌+◌, ◌^◌, arith, length, ap, ta
 use Rattle.std.proofs.lemmas.List.{length_push, take_all}
 use Rattle.sk_gates.specs.Bits.{bit_true}
 use Rattle.sk_gates.specs.Words.{digit, bits_word}
-use Rattle.sk_gates.proofs.ExtensionLaws.{Adds-none, Adds-then, Adds-weaker, Continues-refl, Continues-trans, Continues-adds}
+use Rattle.sk_gates.proofs.ExtensionLaws.{Adds-none, Adds-then, Adds-weaker, Continues-refl, Continues-trans, Continues-adds, on_err}
 use Rattle.sk_gates.proofs.BitLaws.{AreOver-later, AreOver-push}
 use Rattle.sk_gates.proofs.WordLaws.{bits_push, bits_more, sum_step, power_more, at, nothing_summed}
 use Rattle.sk_gates.proofs.words.add_carry.Goals as goal
@@ -43,3 +43,9 @@ returns-clause-gate c =
     let left = take_all c.loop-i.i c.args.a.now (omega arith) in
     let right = take_all c.loop-i.i c.args.b.now (omega arith) in
     Adds-weaker _ _ c.loop-i.invariant.gate (λ v h. rw (← e) (h ∙ (λ j. bits_word v (left j) + bits_word v (right j) + digit (bit_true v c.args.carry))))
+
+pub returns-in_err-digit-clause-err : goal.returns-in_err-digit-clause-err
+returns-in_err-digit-clause-err c = on_err _ (Continues-trans c.loop-i.invariant.behind c.in_err-digit.ensures.err)
+
+pub returns-in_err-push-clause-err : goal.returns-in_err-push-clause-err
+returns-in_err-push-clause-err c = on_err _ (Continues-trans c.loop-i.invariant.behind (Continues-adds c.in_ok-digit.ensures.gate))

@@ -1,7 +1,7 @@
 use Rattle.std.proofs.Common.{arith, ◌∙◌, nat_lt}
 use Rattle.std.proofs.lemmas.List.{take_all}
 use Rattle.sk_gates.specs.Words.{bits_word}
-use Rattle.sk_gates.proofs.ExtensionLaws.{Adds-none, Adds-then, Adds-both, Adds-weaker, Continues-refl, Continues-trans, Continues-adds}
+use Rattle.sk_gates.proofs.ExtensionLaws.{Adds-none, Adds-then, Adds-both, Adds-weaker, Continues-refl, Continues-trans, Continues-adds, on_err}
 use Rattle.sk_gates.proofs.BitLaws.{AreOver-later}
 use Rattle.sk_gates.proofs.WordLaws.{less_step, nothing_below}
 use Rattle.sk_gates.proofs.words.less_low.Goals as goal
@@ -34,3 +34,9 @@ returns-clause-gate c =
     let left = take_all c.loop-i.i c.args.a.now (omega arith) in
     let right = take_all c.loop-i.i c.args.b.now (omega arith) in
     Adds-weaker _ _ c.loop-i.invariant.gate (λ v h. h ∙ (λ j. nat_lt (bits_word v (left j)) (bits_word v (right j))))
+
+pub returns-in_err-apart-clause-err : goal.returns-in_err-apart-clause-err
+returns-in_err-apart-clause-err c = on_err _ (Continues-trans c.loop-i.invariant.behind c.in_err-apart.ensures.err)
+
+pub returns-in_err-below-clause-err : goal.returns-in_err-below-clause-err
+returns-in_err-below-clause-err c = on_err _ (Continues-trans c.loop-i.invariant.behind (Continues-trans (Continues-adds c.in_ok-apart.ensures.gate) c.in_err-below.ensures.err))
