@@ -1,6 +1,6 @@
 -- How the meaning goes on.
 use Rattle.std.proofs.Common.{◌≡◌, ℕ, zero, ◌+◌, ◌-◌, ◌<◌, List, [], ◌∷◌, ◌++◌, ◌==◌, length, drop, get_or, refl, sym, ap, ◌∙◌, suc, add-one, sub-one, append_assoc, arith, subst, ◌≤◌, map, Option, Some, None, Bool, true, false, ◌&&◌}
-use Rattle.std.specs.Prelude.{slice_get, count_by, nat_lt, if◌then◌else◌}
+use Rattle.std.specs.Prelude.{slice_get, count_by, nat_lt, if◌then◌else◌, Result}
 use Rattle.std.proofs.Math.Seq.{drop-cons}
 use Rattle.sk_base.specs.declared.span.Span.{Span}
 use Rattle.sk_prog.specs.declared.value.Value.{Value}
@@ -18,8 +18,8 @@ use Rattle.sk_prog.specs.declared.expr.PExpr.{PExpr}
 use Rattle.sk_prog.specs.declared.expr.PField.{PField}
 use Rattle.sk_prog.specs.declared.expr.PEForm.TheVariants as eform
 use Rattle.sk_model.specs.Heap.{allocate}
-use Rattle.sk_model.proofs.Forms.{does_call, does_new, does_braces, field_does, field_does_is}
-use Rattle.sk_model.specs.Eval.{binary, Does, Called, choose, copy_back, ref_args, fields_in_order}
+use Rattle.sk_model.proofs.Forms.{does_index, does_slice, does_call, does_new, does_braces, field_does, field_does_is}
+use Rattle.sk_model.specs.Eval.{binary, indexed, sliced, Does, Called, choose, copy_back, ref_args, fields_in_order}
 use Rattle.sk_model.specs.Exec.{Flow, Onward, Returns, turns, unless_returned, exec_all}
 use Rattle.sk_model.specs.Run.{calls, Bodies, filled_bodies, body_of, in_frame, first_slots, result_of, refs_from}
 use Rattle.sk_model.specs.Step.{◌>>=◌, pure, fail}
@@ -30,8 +30,10 @@ use Rattle.sk_base.specs.declared.bounds.Bounds.{Bounds}
 use Rattle.sk_interp.specs.declared.activation.Activation.{Activation}
 use Rattle.sk_interp.specs.declared.stop.Stop.{Stop}
 use Rattle.sk_interp.specs.declared.stop.Stop.TheVariants.{Failed, Skipped, NoMemory}
-use Rattle.sk_interp.specs.Gives.{Stops}
-use Rattle.sk_interp.specs.Calling.{calls_in, does_in, each_in, field_in, value_of_call, value_of_new, value_of_braces, callee, called_by, body_in}
+use Rattle.sk_interp.specs.Gives.{Stops, Gives}
+use Rattle.sk_interp.specs.Paths.{IsPath, load}
+use Rattle.sk_model.specs.Heap.{Location}
+use Rattle.sk_interp.specs.Calling.{followed, calls_in, does_in, each_in, field_in, value_of_call, value_of_new, value_of_braces, callee, called_by, body_in}
 
 -- all operators but `&&` and `||` evaluate both parts
 pub eager : (width : ℕ) (span : Span) (o : BinOp) (a b : Comp Value) (s : State) → o ≢ op.AndThen → o ≢ op.OrElse → binary width span o a b s ≡ and_then (a s) (λ v t. and_then (b t) (operator width span o v))
@@ -73,6 +75,13 @@ pub stops_on : {A B : Type 0} (e : Stop) (m : Step A) (k : A → Comp B) → Sto
 stops_on (Failed span) m k h = ap (λ n. and_then n k) h
 stops_on (Skipped span) m k h = ap (λ n. and_then n k) h
 stops_on NoMemory m k h = tt
+
+-- what a path gives, by the location that it names
+pub path_goes : (d : Does) (span : Span) (s t : State) (l : Location) → IsPath d → d.target span s ≡ Goes l t → d.value span s ≡ load span l t
+path_goes d span s t l h e = h span s ∙ ap (λ m. and_then m (load span)) e
+
+pub path_stops : (d : Does) (span : Span) (s : State) (stop : Stop) → IsPath d → Stops stop (d.target span s) → Stops stop (d.value span s)
+path_stops d span s stop h e = subst (Stops stop) (sym (h span s)) (stops_on stop (d.target span s) (load span) e)
 
 -- one more turn of a loop
 pub turn_on : (n k : ℕ) (span : Span) (cond : Does) (body : Comp Flow) (s : State) → k < n → turns (n - k) span cond body s ≡ and_then (cond.value span s) (choose span (body >>= unless_returned (turns (n - (k + 1)) span cond body)) (pure Onward))
@@ -182,6 +191,29 @@ module _ (a : Activation) (e : PExpr) (span : Span) (s : State) where
   call_does f args is =
       ap (λ form. (does_in a (record { span = e.span; ty = e.ty; form = form })).value span s) is
       ∙ ap (λ (d : Does). d.value span s) (does_call a.prog.now a.bounds.int_bits (calls_in a) e.span e.ty f args)
+
+  -- what the forms with two parts do, the one after the other
+  index_does : (x i : PExpr) → e.form ≡ eform.Index x i → (does_in a e).value span s ≡ followed ((does_in a x).value span) (λ v. followed ((does_in a i).value span) (indexed span v)) s
+  index_does x i is =
+      ap (λ form. (does_in a (record { span = e.span; ty = e.ty; form = form })).value span s) is
+      ∙ ap (λ (d : Does). d.value span s) (does_index a.prog.now a.bounds.int_bits (calls_in a) e.span e.ty x i)
+
+  pub index_gives : (r : Result Value Stop) (t : State) (x i y j : PExpr) → e.form ≡ eform.Index x i → y ≡ x → j ≡ i → Gives r t (followed ((does_in a y).value span) (λ v. followed ((does_in a j).value span) (indexed span v)) s) → Gives r t ((does_in a e).value span s)
+  index_gives r t x i y j is ey ej h =
+      let first = subst (λ z. Gives r t (followed ((does_in a z).value span) (λ v. followed ((does_in a j).value span) (indexed span v)) s)) ey h in
+      let both = subst (λ z. Gives r t (followed ((does_in a x).value span) (λ v. followed ((does_in a z).value span) (indexed span v)) s)) ej first in
+      subst (λ m. Gives r t m) (sym (index_does x i is)) both
+
+  slice_does : (x i : PExpr) (n : ℕ) → e.form ≡ eform.Slice x i n → (does_in a e).value span s ≡ followed ((does_in a x).value span) (λ v. followed ((does_in a i).value span) (sliced span n v)) s
+  slice_does x i n is =
+      ap (λ form. (does_in a (record { span = e.span; ty = e.ty; form = form })).value span s) is
+      ∙ ap (λ (d : Does). d.value span s) (does_slice a.prog.now a.bounds.int_bits (calls_in a) e.span e.ty x i n)
+
+  pub slice_gives : (r : Result Value Stop) (t : State) (x i y j : PExpr) (n : ℕ) → e.form ≡ eform.Slice x i n → y ≡ x → j ≡ i → Gives r t (followed ((does_in a y).value span) (λ v. followed ((does_in a j).value span) (sliced span n v)) s) → Gives r t ((does_in a e).value span s)
+  slice_gives r t x i y j n is ey ej h =
+      let first = subst (λ z. Gives r t (followed ((does_in a z).value span) (λ v. followed ((does_in a j).value span) (sliced span n v)) s)) ey h in
+      let both = subst (λ z. Gives r t (followed ((does_in a x).value span) (λ v. followed ((does_in a z).value span) (sliced span n v)) s)) ej first in
+      subst (λ m. Gives r t m) (sym (slice_does x i n is)) both
 
 -- where no argument is left
 pub back_over : (x : Step (Unit {0})) (a : Activation) (span : Span) (params : List ParamDef) (args : List PExpr) (i : ℕ) (refs : List Value) (t : State) → length args ≤ i → x ≡ copy_back span (ref_args params (each_in a (drop i args))) refs t → x ≡ Goes tt t

@@ -20,6 +20,10 @@ use Rattle.sk_model.specs.Eval as model
 use Rattle.sk_model.specs.Exec as steps
 use Rattle.sk_model.specs.Run.{calls, filled_bodies, in_frame}
 
+-- one after the other
+abbrev pub followed : {A B : Type 0} → Comp A → (A → Comp B) → Comp B
+followed m k = m >>= k
+
 abbrev pub called_of : Called → model.Called
 called_of c = record { result = c.result; refs = c.refs }
 
@@ -47,12 +51,15 @@ field_in a f = (f.field, does_in a f.value)
 abbrev pub value_of_new : Activation → Span → StructId → List PField → Comp Value
 value_of_new a span d fields = model.fields_in_order span (map (field_in a) fields) >>= allocate a.prog.now d
 
-abbrev pub value_of_call : Activation → Span → FunId → List PExpr → Comp Value
-value_of_call a span f args =
-    model.in_order span (each_in a args) >>= (λ vs.
+-- a call whose arguments have these values
+abbrev pub value_of_called : Activation → Span → FunId → List PExpr → List Value → Comp Value
+value_of_called a span f args vs =
     calls_in a span f.index vs >>= (λ called.
     model.copy_back span (model.ref_args (model.params_of (slice_get a.prog.now.funs f.index)) (each_in a args)) called.refs >>= (λ done.
-    pure (model.result_value called.result))))
+    pure (model.result_value called.result)))
+
+abbrev pub value_of_call : Activation → Span → FunId → List PExpr → Comp Value
+value_of_call a span f args = model.in_order span (each_in a args) >>= value_of_called a span f args
 
 -- and statements
 abbrev pub exec_in : Activation → PStmt → Comp steps.Flow

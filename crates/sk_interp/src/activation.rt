@@ -1,13 +1,17 @@
 //! What an active call does: its expressions, its statements, and the calls that it makes.
 
-ghost use Rattle.std.specs.Prelude.{◌≡◌, ◌≤◌, map, nat_le, length};
+ghost use Rattle.std.specs.Prelude.{◌≡◌, ◌≤◌, map, nat_le, length, Some, None, IsTrue};
 ghost use Rattle.std.specs.Option.{option_copied};
-ghost use Rattle.sk_model.specs.Eval.{in_order, fields_in_order, const_value, binary, copy_back, ref_args};
-ghost use Rattle.sk_model.specs.Exec.{turns};
+ghost use Rattle.sk_model.specs.Step.{pure};
+ghost use Rattle.sk_model.specs.Eval.{in_order, fields_in_order, const_value, choose, indexed, sliced, padded_at, binary, copy_back, ref_args};
+ghost use Rattle.sk_model.specs.Heap.{read_field, write};
+ghost use Rattle.sk_model.specs.Operators.{unary_operator, to_int};
+ghost use Rattle.sk_model.specs.Exec.{onward, assign, drop_value, branch, Returns, assert, assume, minimize, turns};
 ghost use Rattle.sk_model.specs.Sites.{is_hole};
 ghost use Rattle.sk_interp.specs.Gives.{Gives, GivesAs};
+ghost use Rattle.sk_interp.specs.Paths.{IsSteady, IsPath, is_arithmetic};
 ghost use Rattle.sk_interp.specs.Places.{location_of};
-ghost use Rattle.sk_interp.specs.Calling.{called_of, callee, value_of_call, value_of_new, value_of_braces, flow_of, calls_in, does_in, each_in, field_in, exec_in, exec_all_in};
+ghost use Rattle.sk_interp.specs.Calling.{followed, called_of, callee, value_of_call, value_of_called, value_of_new, value_of_braces, flow_of, calls_in, does_in, each_in, field_in, exec_in, exec_all_in};
 
 use crate::call::{
     Called, Flow, count_of, declare, finished, first_slots, params_of, pay, result_value,
@@ -16,14 +20,15 @@ use crate::call::{
 use crate::location::{Location, Root};
 use crate::memory::Memory;
 use crate::operator::{operator, to_int, unary_operator};
-use crate::part::{indexed, literal, padded_at, sliced, unfilled};
+use crate::part::{indexed, literal_value, padded_at, sliced, unfilled};
 use crate::record::allocate;
+use crate::row::Row;
 use crate::stop::Stop;
 use crate::value::copy;
 use sk_base::{Bounds, List, Span};
 use sk_prog::{
     BinOp, ConstDef, Fun, FunId, PEForm, PExpr, PField, PForm, PStmt, ParamDef, Prog, StructId, Ty,
-    Value,
+    UnOp, Value,
 };
 use std::alloc::Global;
 
@@ -38,6 +43,9 @@ pub struct Activation<'a> {
     /// The functions of the active calls, this one's the last.
     pub active: &'a [u32],
 }
+
+/// How deep an index is looked through for whether it is steady.
+const STEADY_LEVELS: u32 = 4;
 
 fn const_value(found: Option<&ConstDef>) -> Value
     ensures { result ≡ const_value (option_copied found.entry) }
@@ -54,6 +62,20 @@ fn is_hole(count: &PExpr) -> bool
 {
     match &count.form {
         PEForm::Hole(_) => true,
+        _ => false,
+    }
+}
+
+// Whether an operator is one of arithmetic.
+fn is_arithmetic(op: BinOp) -> bool
+    ensures { result ≡ is_arithmetic op }
+{
+    match op {
+        BinOp::Mul => true,
+        BinOp::Div => true,
+        BinOp::Rem => true,
+        BinOp::Add => true,
+        BinOp::Sub => true,
         _ => false,
     }
 }
@@ -76,6 +98,51 @@ impl Activation<'_> {
         None
     }
 
+    /// Whether an expression is steady, as far as so many levels show: no call and no `new` stands in it, and no form that
+    /// indexes seldom have.
+    #[tactic(auto, using(crate::proofs::Paths::steady))]
+    fn is_steady(&self, levels: u32, e: &PExpr) -> bool
+        ensures { IsTrue result → IsSteady (does_in self.now e.now) }
+    {
+        if levels == 0 {
+            return false;
+        }
+        let levels = levels - 1;
+        match &e.form {
+            PEForm::Number(_) => true,
+            PEForm::Var { .. } => true,
+            PEForm::Const(_) => true,
+            PEForm::Paren(a) => self.is_steady(levels, a.get()),
+            PEForm::Member { base, .. } => self.is_steady(levels, base.get()),
+            PEForm::Index { base, index } => {
+                self.is_steady(levels, base.get()) && self.is_steady(levels, index.get())
+            }
+            PEForm::Binary { op, left, right } => {
+                if !is_arithmetic(*op) {
+                    return false;
+                }
+                self.is_steady(levels, left.get()) && self.is_steady(levels, right.get())
+            }
+            PEForm::ToInt(a) => self.is_steady(levels, a.get()),
+            _ => false,
+        }
+    }
+
+    /// Whether an expression is a path: what it gives stands where it names a location.
+    #[tactic(auto, using(crate::proofs::Paths::paths))]
+    fn is_path(&self, e: &PExpr) -> bool
+        ensures { IsTrue result → IsPath (does_in self.now e.now) }
+    {
+        match &e.form {
+            PEForm::Var { .. } => true,
+            PEForm::Member { .. } => true,
+            PEForm::Index { base, index } => {
+                self.is_steady(STEADY_LEVELS, index.get()) && self.is_path(base.get())
+            }
+            _ => false,
+        }
+    }
+
     /// The value of an expression.
     #[cycle(run)]
     fn eval(&self, room: u32, memory: &mut Memory, span: Span, e: &PExpr) -> Result<Value, Stop>
@@ -88,17 +155,11 @@ impl Activation<'_> {
         }
         let room = room - 1;
         match &e.form {
-            PEForm::Number(n) => {
-                let v = literal(self.alloc, self.bounds.int_bits, e.ty, *n)?;
-                Ok(v)
-            }
+            PEForm::Number(n) => literal_value(self.alloc, self.bounds.int_bits, e.ty, *n),
             PEForm::True => Ok(Value::Bit(true)),
             PEForm::False => Ok(Value::Bit(false)),
             PEForm::Null => Ok(Value::Null),
-            PEForm::Var { slot, .. } => {
-                let v = memory.read(self.alloc, *slot)?;
-                Ok(v)
-            }
+            PEForm::Var { slot, .. } => memory.variable(self.alloc, *slot),
             PEForm::Const(c) => Ok(const_value(self.prog.consts.get(c.index as usize))),
             PEForm::Hole(_) => unfilled(self.alloc, span, e.ty),
             PEForm::Pattern(_) => Err(Stop::Failed { span }),
@@ -107,47 +168,184 @@ impl Activation<'_> {
             PEForm::New { s, fields } => self.new_record(room, memory, span, *s, fields),
             PEForm::Braces(parts) => self.braces(room, memory, span, e.ty, parts),
             PEForm::Member { base, field, .. } => {
-                let v = self.eval(room, memory, span, base.get())?;
-                memory.read_field(self.alloc, span, *field, &v)
+                self.member(room, memory, span, *field, base.get())
             }
             PEForm::Index { base, index } => {
-                let v = self.eval(room, memory, span, base.get())?;
-                let i = self.eval(room, memory, span, index.get())?;
-                indexed(self.alloc, span, &v, &i)
+                if self.is_path(e) {
+                    return self.load(room, memory, span, e);
+                }
+                self.index(room, memory, span, base.get(), index.get())
             }
             PEForm::Slice { base, from, length } => {
-                let v = self.eval(room, memory, span, base.get())?;
-                let i = self.eval(room, memory, span, from.get())?;
-                sliced(self.alloc, span, *length, &v, &i)
+                self.slice(room, memory, span, *length, base.get(), from.get())
             }
-            PEForm::Unary { op, of } => {
-                let v = self.eval(room, memory, span, of.get())?;
-                unary_operator(self.alloc, self.bounds.int_bits, span, *op, &v)
-            }
+            PEForm::Unary { op, of } => self.unary(room, memory, span, *op, of.get()),
             PEForm::Binary { op, left, right } => {
                 self.binary(room, memory, span, *op, left.get(), right.get())
             }
             PEForm::Cond { cond, then, other } => {
-                match self.eval(room, memory, span, cond.get())? {
-                    Value::Bit(true) => self.eval(room, memory, span, then.get()),
-                    Value::Bit(false) => self.eval(room, memory, span, other.get()),
-                    _ => Err(Stop::Failed { span }),
-                }
+                self.cond(room, memory, span, cond.get(), then.get(), other.get())
             }
-            PEForm::ToInt(a) => {
-                let v = self.eval(room, memory, span, a.get())?;
-                to_int(span, &v)
-            }
-            PEForm::Pad(a) => {
-                let v = self.eval(room, memory, span, a.get())?;
-                let v = padded_at(self.alloc, e.ty, v)?;
-                Ok(v)
-            }
+            PEForm::ToInt(a) => self.number_of(room, memory, span, a.get()),
+            PEForm::Pad(a) => self.pad(room, memory, span, e.ty, a.get()),
         }
+    }
+
+    /// A field of the record that an expression stands for.
+    #[cycle(run)]
+    #[inline(never)]
+    fn member(
+        &self,
+        room: u32,
+        memory: &mut Memory,
+        span: Span,
+        field: u32,
+        base: &PExpr,
+    ) -> Result<Value, Stop>
+        requires bits_low { 2 ≤ self.now.bounds.int_bits }
+        requires bits_high { self.now.bounds.int_bits ≤ 32 }
+        ensures { Gives result memory.new (followed ((does_in self.now base.now).value span) (read_field span field) memory.old) }
+    {
+        let v = self.eval(room, memory, span, base)?;
+        memory.read_field(self.alloc, span, field, &v)
+    }
+
+    /// What stands at a path.
+    #[cycle(run)]
+    #[inline(never)]
+    fn load(&self, room: u32, memory: &mut Memory, span: Span, e: &PExpr) -> Result<Value, Stop>
+        requires bits_low { 2 ≤ self.now.bounds.int_bits }
+        requires bits_high { self.now.bounds.int_bits ≤ 32 }
+        requires path { IsPath (does_in self.now e.now) }
+        ensures { Gives result memory.new ((does_in self.now e.now).value span memory.old) }
+    {
+        let location = self.target(room, memory, span, e)?;
+        location.load(self.alloc, memory, span)
+    }
+
+    /// An element of an array.
+    #[cycle(run)]
+    #[inline(never)]
+    fn index(
+        &self,
+        room: u32,
+        memory: &mut Memory,
+        span: Span,
+        base: &PExpr,
+        index: &PExpr,
+    ) -> Result<Value, Stop>
+        requires bits_low { 2 ≤ self.now.bounds.int_bits }
+        requires bits_high { self.now.bounds.int_bits ≤ 32 }
+        ensures { Gives result memory.new (followed ((does_in self.now base.now).value span) (λ v. followed ((does_in self.now index.now).value span) (indexed span v)) memory.old) }
+    {
+        let v = self.eval(room, memory, span, base)?;
+        let i = self.eval(room, memory, span, index)?;
+        indexed(self.alloc, span, &v, &i)
+    }
+
+    /// Elements of an array, from an index on.
+    #[cycle(run)]
+    #[inline(never)]
+    fn slice(
+        &self,
+        room: u32,
+        memory: &mut Memory,
+        span: Span,
+        length: u32,
+        base: &PExpr,
+        from: &PExpr,
+    ) -> Result<Value, Stop>
+        requires bits_low { 2 ≤ self.now.bounds.int_bits }
+        requires bits_high { self.now.bounds.int_bits ≤ 32 }
+        ensures { Gives result memory.new (followed ((does_in self.now base.now).value span) (λ v. followed ((does_in self.now from.now).value span) (sliced span length v)) memory.old) }
+    {
+        let v = self.eval(room, memory, span, base)?;
+        let i = self.eval(room, memory, span, from)?;
+        sliced(self.alloc, span, length, &v, &i)
+    }
+
+    #[cycle(run)]
+    #[inline(never)]
+    fn unary(
+        &self,
+        room: u32,
+        memory: &mut Memory,
+        span: Span,
+        op: UnOp,
+        of: &PExpr,
+    ) -> Result<Value, Stop>
+        requires bits_low { 2 ≤ self.now.bounds.int_bits }
+        requires bits_high { self.now.bounds.int_bits ≤ 32 }
+        ensures { Gives result memory.new (followed ((does_in self.now of.now).value span) (unary_operator self.now.bounds.int_bits span op) memory.old) }
+    {
+        let v = self.eval(room, memory, span, of)?;
+        unary_operator(self.alloc, self.bounds.int_bits, span, op, &v)
+    }
+
+    /// The one or the other by a bit.
+    #[cycle(run)]
+    #[inline(never)]
+    fn cond(
+        &self,
+        room: u32,
+        memory: &mut Memory,
+        span: Span,
+        cond: &PExpr,
+        a: &PExpr,
+        b: &PExpr,
+    ) -> Result<Value, Stop>
+        requires bits_low { 2 ≤ self.now.bounds.int_bits }
+        requires bits_high { self.now.bounds.int_bits ≤ 32 }
+        ensures { Gives result memory.new (followed ((does_in self.now cond.now).value span) (choose span ((does_in self.now a.now).value span) ((does_in self.now b.now).value span)) memory.old) }
+    {
+        match self.eval(room, memory, span, cond)? {
+            Value::Bit(true) => self.eval(room, memory, span, a),
+            Value::Bit(false) => self.eval(room, memory, span, b),
+            _ => Err(Stop::Failed { span }),
+        }
+    }
+
+    /// A bit as a number.
+    #[cycle(run)]
+    #[inline(never)]
+    fn number_of(
+        &self,
+        room: u32,
+        memory: &mut Memory,
+        span: Span,
+        of: &PExpr,
+    ) -> Result<Value, Stop>
+        requires bits_low { 2 ≤ self.now.bounds.int_bits }
+        requires bits_high { self.now.bounds.int_bits ≤ 32 }
+        ensures { Gives result memory.new (followed ((does_in self.now of.now).value span) (to_int span) memory.old) }
+    {
+        let v = self.eval(room, memory, span, of)?;
+        to_int(span, &v)
+    }
+
+    /// A value as one of a longer type.
+    #[cycle(run)]
+    #[inline(never)]
+    fn pad(
+        &self,
+        room: u32,
+        memory: &mut Memory,
+        span: Span,
+        ty: Option<Ty>,
+        of: &PExpr,
+    ) -> Result<Value, Stop>
+        requires bits_low { 2 ≤ self.now.bounds.int_bits }
+        requires bits_high { self.now.bounds.int_bits ≤ 32 }
+        ensures { Gives result memory.new (followed ((does_in self.now of.now).value span) (λ v. pure (padded_at ty v)) memory.old) }
+    {
+        let v = self.eval(room, memory, span, of)?;
+        let v = padded_at(self.alloc, ty, v)?;
+        Ok(v)
     }
 
     /// The value of a call.
     #[cycle(run)]
+    #[inline(never)]
     fn call_value(
         &self,
         room: u32,
@@ -160,8 +358,28 @@ impl Activation<'_> {
         requires bits_high { self.now.bounds.int_bits ≤ 32 }
         ensures { Gives result memory.new (value_of_call self.now span f args.now memory.old) }
     {
+        let room = room.saturating_sub(1);
         let args = args.as_slice();
         let values = self.eval_all(room, memory, span, args)?;
+        self.call_with(room, memory, span, f, args, values)
+    }
+
+    /// The value of a call whose arguments have these values.
+    #[cycle(run)]
+    #[inline(never)]
+    fn call_with(
+        &self,
+        room: u32,
+        memory: &mut Memory,
+        span: Span,
+        f: FunId,
+        args: &[PExpr],
+        values: Row<Value>,
+    ) -> Result<Value, Stop>
+        requires bits_low { 2 ≤ self.now.bounds.int_bits }
+        requires bits_high { self.now.bounds.int_bits ≤ 32 }
+        ensures { Gives result memory.new (value_of_called self.now span f args.now values memory.old) }
+    {
         let called = self.call(room, memory, span, f.index, values)?;
         let params = params_of(self.prog.funs.get(f.index as usize));
         self.copy_back(room, memory, span, params, args, called.refs.as_slice())?;
@@ -170,6 +388,7 @@ impl Activation<'_> {
 
     /// A new record, with its fields set.
     #[cycle(run)]
+    #[inline(never)]
     fn new_record(
         &self,
         room: u32,
@@ -182,12 +401,14 @@ impl Activation<'_> {
         requires bits_high { self.now.bounds.int_bits ≤ 32 }
         ensures { Gives result memory.new (value_of_new self.now span s fields.now memory.old) }
     {
+        let room = room.saturating_sub(1);
         let set = self.eval_fields(room, memory, span, fields.as_slice())?;
         allocate(self.alloc, memory, self.prog, s, set)
     }
 
     /// An array of elements that are written out, at its type.
     #[cycle(run)]
+    #[inline(never)]
     fn braces(
         &self,
         room: u32,
@@ -200,12 +421,14 @@ impl Activation<'_> {
         requires bits_high { self.now.bounds.int_bits ≤ 32 }
         ensures { Gives result memory.new (value_of_braces self.now span ty parts.now memory.old) }
     {
+        let room = room.saturating_sub(1);
         let vs = self.eval_all(room, memory, span, parts.as_slice())?;
-        let v = padded_at(self.alloc, ty, Value::Array(vs))?;
+        let v = padded_at(self.alloc, ty, Value::Array(vs.into_list()))?;
         Ok(v)
     }
 
     #[cycle(run)]
+    #[inline(never)]
     #[tactic(auto, using(crate::proofs::Activations::eager))]
     fn binary(
         &self,
@@ -241,6 +464,7 @@ impl Activation<'_> {
 
     /// The values of expressions, from the first to the last.
     #[cycle(run)]
+    #[inline(never)]
     #[tactic(auto, using(crate::proofs::Activations::split_at))]
     fn eval_all(
         &self,
@@ -248,12 +472,12 @@ impl Activation<'_> {
         memory: &mut Memory,
         span: Span,
         es: &[PExpr],
-    ) -> Result<List<Value>, Stop>
+    ) -> Result<Row<Value>, Stop>
         requires bits_low { 2 ≤ self.now.bounds.int_bits }
         requires bits_high { self.now.bounds.int_bits ≤ 32 }
         ensures { Gives result memory.new (in_order span (each_in self.now es.now) memory.old) }
     {
-        let mut values = List::new(self.alloc);
+        let mut values = Row::new(self.alloc);
         for e in es {
             let value = self.eval(room, memory, span, e)?;
             values.push(value)?;
@@ -263,6 +487,7 @@ impl Activation<'_> {
 
     /// The fields that `new` sets, from the first to the last.
     #[cycle(run)]
+    #[inline(never)]
     #[tactic(auto, using(crate::proofs::Activations::split_at))]
     fn eval_fields(
         &self,
@@ -285,6 +510,7 @@ impl Activation<'_> {
 
     /// What an expression names as a target.
     #[cycle(run)]
+    #[inline(never)]
     fn target(
         &self,
         room: u32,
@@ -337,13 +563,14 @@ impl Activation<'_> {
 
     /// A call of a function with these arguments.
     #[cycle(run)]
+    #[inline(never)]
     pub fn call(
         &self,
         room: u32,
         memory: &mut Memory,
         span: Span,
         f: u32,
-        args: List<Value>,
+        args: Row<Value>,
     ) -> Result<Called, Stop>
         requires bits_low { 2 ≤ self.now.bounds.int_bits }
         requires bits_high { self.now.bounds.int_bits ≤ 32 }
@@ -370,6 +597,7 @@ impl Activation<'_> {
 
     /// Copies the final values of `ref` parameters back to the variables that were passed, in order.
     #[cycle(run)]
+    #[inline(never)]
     #[tactic(auto, using(crate::proofs::Activations::back))]
     fn copy_back(
         &self,
@@ -407,6 +635,7 @@ impl Activation<'_> {
 
     /// Statements one after another, until one returns.
     #[cycle(run)]
+    #[inline(never)]
     #[tactic(auto, using(crate::proofs::Activations::split_at))]
     fn exec_all(&self, room: u32, memory: &mut Memory, stmts: &[PStmt]) -> Result<Flow, Stop>
         requires bits_low { 2 ≤ self.now.bounds.int_bits }
@@ -442,55 +671,22 @@ impl Activation<'_> {
                 ..
             } => match value {
                 None => declare(self.alloc, memory, *slot, *ty),
-                Some(e) => {
-                    let v = self.eval(room, memory, span, e)?;
-                    memory.write(*slot, v)?;
-                    Ok(Flow::Onward)
-                }
+                Some(e) => self.set(room, memory, span, *slot, e),
             },
-            PForm::Assign { target, value } => {
-                let location = self.target(room, memory, span, target)?;
-                let v = self.eval(room, memory, span, value)?;
-                location.assign(self.alloc, memory, span, v)
-            }
-            PForm::Call(e) => {
-                self.eval(room, memory, span, e)?;
-                Ok(Flow::Onward)
-            }
+            PForm::Assign { target, value } => self.assign(room, memory, span, target, value),
+            PForm::Call(e) => self.drop_value(room, memory, span, e),
             PForm::If { cond, then, other } => match other {
-                None => match self.eval(room, memory, span, cond)? {
-                    Value::Bit(true) => self.exec(room, memory, then.get()),
-                    Value::Bit(false) => Ok(Flow::Onward),
-                    _ => Err(Stop::Failed { span }),
-                },
-                Some(other) => match self.eval(room, memory, span, cond)? {
-                    Value::Bit(true) => self.exec(room, memory, then.get()),
-                    Value::Bit(false) => self.exec(room, memory, other.get()),
-                    _ => Err(Stop::Failed { span }),
-                },
+                None => self.branch(room, memory, span, cond, then.get()),
+                Some(other) => self.branches(room, memory, span, cond, then.get(), other.get()),
             },
             PForm::While { cond, body } => self.turns(room, memory, span, cond, body.get()),
             PForm::Return(value) => match value {
                 None => Ok(Flow::Returns(None)),
-                Some(e) => {
-                    let v = self.eval(room, memory, span, e)?;
-                    Ok(Flow::Returns(Some(v)))
-                }
+                Some(e) => self.give(room, memory, span, e),
             },
-            PForm::Assert(e) => match self.eval(room, memory, span, e)? {
-                Value::Bit(true) => Ok(Flow::Onward),
-                Value::Bit(false) => Err(Stop::Failed { span }),
-                _ => Err(Stop::Failed { span }),
-            },
-            PForm::Assume(e) => match self.eval(room, memory, span, e)? {
-                Value::Bit(true) => Ok(Flow::Onward),
-                Value::Bit(false) => Err(Stop::Skipped { span }),
-                _ => Err(Stop::Failed { span }),
-            },
-            PForm::Minimize(e) => {
-                let v = self.eval(room, memory, span, e)?;
-                pay(memory, span, &v)
-            }
+            PForm::Assert(e) => self.assert(room, memory, span, e),
+            PForm::Assume(e) => self.assume(room, memory, span, e),
+            PForm::Minimize(e) => self.minimize(room, memory, span, e),
             PForm::Repeat { count, copies } => {
                 if is_hole(count) {
                     return Err(Stop::Failed { span });
@@ -507,8 +703,166 @@ impl Activation<'_> {
         }
     }
 
+    /// Gives a variable its first value.
+    #[cycle(run)]
+    #[inline(never)]
+    fn set(
+        &self,
+        room: u32,
+        memory: &mut Memory,
+        span: Span,
+        slot: u32,
+        e: &PExpr,
+    ) -> Result<Flow, Stop>
+        requires bits_low { 2 ≤ self.now.bounds.int_bits }
+        requires bits_high { self.now.bounds.int_bits ≤ 32 }
+        ensures { GivesAs flow_of result memory.new (onward (followed ((does_in self.now e.now).value span) (write slot)) memory.old) }
+    {
+        let v = self.eval(room, memory, span, e)?;
+        memory.write(slot, v)?;
+        Ok(Flow::Onward)
+    }
+
+    /// Puts a value into what a target names.
+    #[cycle(run)]
+    #[inline(never)]
+    fn assign(
+        &self,
+        room: u32,
+        memory: &mut Memory,
+        span: Span,
+        target: &PExpr,
+        value: &PExpr,
+    ) -> Result<Flow, Stop>
+        requires bits_low { 2 ≤ self.now.bounds.int_bits }
+        requires bits_high { self.now.bounds.int_bits ≤ 32 }
+        ensures { GivesAs flow_of result memory.new (assign span (does_in self.now target.now) (does_in self.now value.now) memory.old) }
+    {
+        let location = self.target(room, memory, span, target)?;
+        let v = self.eval(room, memory, span, value)?;
+        location.assign(self.alloc, memory, span, v)
+    }
+
+    /// A call whose value is dropped.
+    #[cycle(run)]
+    #[inline(never)]
+    fn drop_value(
+        &self,
+        room: u32,
+        memory: &mut Memory,
+        span: Span,
+        e: &PExpr,
+    ) -> Result<Flow, Stop>
+        requires bits_low { 2 ≤ self.now.bounds.int_bits }
+        requires bits_high { self.now.bounds.int_bits ≤ 32 }
+        ensures { GivesAs flow_of result memory.new (drop_value span (does_in self.now e.now) memory.old) }
+    {
+        self.eval(room, memory, span, e)?;
+        Ok(Flow::Onward)
+    }
+
+    /// A statement, where a condition is true.
+    #[cycle(run)]
+    #[inline(never)]
+    fn branch(
+        &self,
+        room: u32,
+        memory: &mut Memory,
+        span: Span,
+        cond: &PExpr,
+        a: &PStmt,
+    ) -> Result<Flow, Stop>
+        requires bits_low { 2 ≤ self.now.bounds.int_bits }
+        requires bits_high { self.now.bounds.int_bits ≤ 32 }
+        ensures { GivesAs flow_of result memory.new (branch span (does_in self.now cond.now) (exec_in self.now a.now) None memory.old) }
+    {
+        match self.eval(room, memory, span, cond)? {
+            Value::Bit(true) => self.exec(room, memory, a),
+            Value::Bit(false) => Ok(Flow::Onward),
+            _ => Err(Stop::Failed { span }),
+        }
+    }
+
+    /// The one statement or the other by a condition.
+    #[cycle(run)]
+    #[inline(never)]
+    fn branches(
+        &self,
+        room: u32,
+        memory: &mut Memory,
+        span: Span,
+        cond: &PExpr,
+        a: &PStmt,
+        b: &PStmt,
+    ) -> Result<Flow, Stop>
+        requires bits_low { 2 ≤ self.now.bounds.int_bits }
+        requires bits_high { self.now.bounds.int_bits ≤ 32 }
+        ensures { GivesAs flow_of result memory.new (branch span (does_in self.now cond.now) (exec_in self.now a.now) (Some (exec_in self.now b.now)) memory.old) }
+    {
+        match self.eval(room, memory, span, cond)? {
+            Value::Bit(true) => self.exec(room, memory, a),
+            Value::Bit(false) => self.exec(room, memory, b),
+            _ => Err(Stop::Failed { span }),
+        }
+    }
+
+    /// Returns with a value.
+    #[cycle(run)]
+    #[inline(never)]
+    fn give(&self, room: u32, memory: &mut Memory, span: Span, e: &PExpr) -> Result<Flow, Stop>
+        requires bits_low { 2 ≤ self.now.bounds.int_bits }
+        requires bits_high { self.now.bounds.int_bits ≤ 32 }
+        ensures { GivesAs flow_of result memory.new (followed ((does_in self.now e.now).value span) (λ v. pure (Returns (Some v))) memory.old) }
+    {
+        let v = self.eval(room, memory, span, e)?;
+        Ok(Flow::Returns(Some(v)))
+    }
+
+    /// Fails where a condition is false.
+    #[cycle(run)]
+    #[inline(never)]
+    fn assert(&self, room: u32, memory: &mut Memory, span: Span, e: &PExpr) -> Result<Flow, Stop>
+        requires bits_low { 2 ≤ self.now.bounds.int_bits }
+        requires bits_high { self.now.bounds.int_bits ≤ 32 }
+        ensures { GivesAs flow_of result memory.new (assert span (does_in self.now e.now) memory.old) }
+    {
+        match self.eval(room, memory, span, e)? {
+            Value::Bit(true) => Ok(Flow::Onward),
+            Value::Bit(false) => Err(Stop::Failed { span }),
+            _ => Err(Stop::Failed { span }),
+        }
+    }
+
+    /// Skips the run where a condition is false.
+    #[cycle(run)]
+    #[inline(never)]
+    fn assume(&self, room: u32, memory: &mut Memory, span: Span, e: &PExpr) -> Result<Flow, Stop>
+        requires bits_low { 2 ≤ self.now.bounds.int_bits }
+        requires bits_high { self.now.bounds.int_bits ≤ 32 }
+        ensures { GivesAs flow_of result memory.new (assume span (does_in self.now e.now) memory.old) }
+    {
+        match self.eval(room, memory, span, e)? {
+            Value::Bit(true) => Ok(Flow::Onward),
+            Value::Bit(false) => Err(Stop::Skipped { span }),
+            _ => Err(Stop::Failed { span }),
+        }
+    }
+
+    /// Adds a number to the cost.
+    #[cycle(run)]
+    #[inline(never)]
+    fn minimize(&self, room: u32, memory: &mut Memory, span: Span, e: &PExpr) -> Result<Flow, Stop>
+        requires bits_low { 2 ≤ self.now.bounds.int_bits }
+        requires bits_high { self.now.bounds.int_bits ≤ 32 }
+        ensures { GivesAs flow_of result memory.new (minimize span (does_in self.now e.now) memory.old) }
+    {
+        let v = self.eval(room, memory, span, e)?;
+        pay(memory, span, &v)
+    }
+
     /// The turns of a loop.
     #[cycle(run)]
+    #[inline(never)]
     #[tactic(auto, using(crate::proofs::Activations::turn_on))]
     fn turns(
         &self,

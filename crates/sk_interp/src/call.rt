@@ -11,6 +11,7 @@ ghost use Rattle.sk_model.specs.Run.{first_slots, refs_from, result_of};
 ghost use Rattle.sk_interp.specs.Calling.{called_of, flow_of};
 
 use crate::memory::{Memory, add_blanks, copy_at};
+use crate::row::Row;
 use crate::stop::Stop;
 use crate::value::zero_of;
 use sk_base::{List, Span};
@@ -32,6 +33,7 @@ pub struct Called {
 }
 
 /// These functions and one more.
+#[inline(never)]
 pub fn with_function(alloc: Global, active: &[u32], f: u32) -> Result<Vec<u32>, AllocError>
     ensures { IfOk result (λ all. all.items ≡ active.now ++ f ∷ []) }
 {
@@ -48,7 +50,8 @@ pub fn count_of(active: &[u32], f: u32) -> usize
 }
 
 /// The variables at the start of a call: the arguments, and those that are not declared yet.
-pub fn first_slots(fun: &Fun, args: List<Value>) -> Result<List<Value>, AllocError>
+#[inline(never)]
+pub fn first_slots(fun: &Fun, args: Row<Value>) -> Result<Row<Value>, AllocError>
     ensures { IfOk result (λ slots. slots ≡ first_slots fun.now args) }
 {
     let count = (fun.slots as usize).saturating_sub(args.len());
@@ -92,6 +95,7 @@ pub fn refs_of(
 }
 
 /// What a call gives whose body ended so, with these values in its variables.
+#[inline(never)]
 pub fn finished(alloc: Global, fun: &Fun, flow: Flow, slots: &[Value]) -> Result<Called, AllocError>
     ensures { IfOk result (λ made. called_of made ≡ record { result = result_of fun.now.result (flow_of flow); refs = refs_from 0 fun.now.params slots.now }) }
 {
@@ -111,6 +115,7 @@ pub fn result_value(found: Option<Value>) -> Value
 }
 
 /// Adds a number to the cost.
+#[inline(never)]
 pub fn pay(memory: &mut Memory, span: Span, v: &Value) -> Result<Flow, Stop>
     ensures { GivesAs flow_of result memory.new (pay span v.now memory.old) }
 {
@@ -125,6 +130,7 @@ pub fn pay(memory: &mut Memory, span: Span, v: &Value) -> Result<Flow, Stop>
 }
 
 /// Gives a variable the value of its type that is unset.
+#[inline(never)]
 pub fn declare(alloc: Global, memory: &mut Memory, slot: u32, ty: Ty) -> Result<Flow, Stop>
     ensures { GivesAs flow_of result memory.new (onward (write slot (zero_of ty)) memory.old) }
 {

@@ -4,9 +4,8 @@ ghost use Rattle.std.specs.Prelude.{◌≡◌, ◌≤◌, IfOk};
 ghost use Rattle.sk_model.specs.Run.{run};
 
 use crate::activation::Activation;
-use crate::memory::Memory;
+use crate::memory::{Memory, copy_row};
 use crate::stop::Stop;
-use crate::value::copy_all;
 use sk_base::{Bounds, Span};
 use sk_model::Outcome;
 use sk_prog::{FunId, Prog, Value};
@@ -37,7 +36,7 @@ pub fn exec(
     requires bits_high { bounds.now.int_bits ≤ 32 }
     ensures ok { IfOk result (λ outcome. outcome ≡ run prog.now f args.now bounds.now) }
 {
-    let given = copy_all(alloc, args)?;
+    let given = copy_row(alloc, args)?;
     let first = Activation {
         alloc,
         prog,

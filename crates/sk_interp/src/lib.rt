@@ -11,6 +11,7 @@ mod number;
 mod operator;
 mod part;
 mod record;
+mod row;
 mod stop;
 #[cfg(test)]
 mod tests;

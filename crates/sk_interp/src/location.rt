@@ -4,6 +4,7 @@ ghost use Rattle.std.specs.Prelude.{◌≡◌, ◌++◌, ◌∷◌, [], IfOk};
 ghost use Rattle.sk_model.specs.Heap.{store};
 ghost use Rattle.sk_model.specs.Eval.{add_index};
 ghost use Rattle.sk_interp.specs.Gives.{Gives, GivesAs, ComputesAs};
+ghost use Rattle.sk_interp.specs.Paths.{load};
 ghost use Rattle.sk_model.specs.Exec.{onward};
 ghost use Rattle.sk_interp.specs.Calling.{flow_of};
 ghost use Rattle.sk_interp.specs.Places.{location_of, root_of};
@@ -48,6 +49,7 @@ impl Location {
     }
 
     /// The element with this index of what is named.
+    #[inline(never)]
     pub fn with_index(self, span: Span, i: &Value) -> Result<Location, Stop>
         ensures { ComputesAs location_of result (add_index span (location_of self) i.now) }
     {
@@ -58,7 +60,22 @@ impl Location {
         Ok(made)
     }
 
+    /// A copy of what stands there.
+    #[inline(never)]
+    pub fn load(&self, alloc: Global, memory: &Memory, span: Span) -> Result<Value, Stop>
+        ensures { Gives result memory.now (load span (location_of self.now) memory.now) }
+    {
+        let indexes = self.indexes.as_slice();
+        match &self.root {
+            Root::Variable { slot } => memory.load_variable(alloc, span, *slot, indexes),
+            Root::Field { reference, field } => {
+                memory.load_field(alloc, span, reference, *field, indexes)
+            }
+        }
+    }
+
     /// Puts a value there.
+    #[inline(never)]
     pub fn store(
         &self,
         alloc: Global,
@@ -78,6 +95,7 @@ impl Location {
     }
 
     /// Puts a value there, and goes on.
+    #[inline(never)]
     pub fn assign(
         &self,
         alloc: Global,

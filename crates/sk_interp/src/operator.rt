@@ -188,6 +188,7 @@ fn on_operands(
 }
 
 /// A binary operator.
+#[inline(never)]
 pub fn operator(
     alloc: Global,
     bits: u32,
@@ -217,6 +218,7 @@ fn flipped_array(alloc: Global, v: &Value) -> Result<Value, AllocError>
 }
 
 /// A unary operator.
+#[inline(never)]
 pub fn unary_operator(
     alloc: Global,
     bits: u32,

@@ -2,6 +2,7 @@
 
 ghost use Rattle.std.specs.Prelude.{◌≡◌, ◌≤◌, IfOk};
 ghost use Rattle.sk_model.specs.Eval.{number_at, literal, padded_at, unfilled, indexed, sliced};
+ghost use Rattle.sk_model.specs.Step.{pure};
 ghost use Rattle.sk_interp.specs.Gives.{Computes};
 
 use crate::stop::Stop;
@@ -43,7 +44,19 @@ pub fn literal(alloc: Global, bits: u32, ty: Option<Ty>, n: u32) -> Result<Value
     }
 }
 
+/// The same, as what an expression does.
+#[inline(never)]
+pub fn literal_value(alloc: Global, bits: u32, ty: Option<Ty>, n: u32) -> Result<Value, Stop>
+    requires bits_low { 2 ≤ bits }
+    requires bits_high { bits ≤ 32 }
+    ensures { Computes result (pure (literal bits ty n)) }
+{
+    let v = literal(alloc, bits, ty, n)?;
+    Ok(v)
+}
+
 /// A value as one of a longer type.
+#[inline(never)]
 pub fn padded_at(alloc: Global, ty: Option<Ty>, v: Value) -> Result<Value, AllocError>
     ensures { IfOk result (λ made. made ≡ padded_at ty v) }
 {
@@ -57,6 +70,7 @@ pub fn padded_at(alloc: Global, ty: Option<Ty>, v: Value) -> Result<Value, Alloc
 }
 
 /// The value of a hole that was not filled: a hole of no bits has no bits, and no other has one.
+#[inline(never)]
 #[tactic(auto, using(crate::proofs::Operating::some_bits))]
 pub fn unfilled(alloc: Global, span: Span, ty: Option<Ty>) -> Result<Value, Stop>
     ensures { Computes result (unfilled ty span) }
@@ -77,6 +91,7 @@ pub fn unfilled(alloc: Global, span: Span, ty: Option<Ty>) -> Result<Value, Stop
 }
 
 /// The element that an index names.
+#[inline(never)]
 pub fn indexed(alloc: Global, span: Span, v: &Value, i: &Value) -> Result<Value, Stop>
     ensures { Computes result (indexed span v.now i.now) }
 {
@@ -91,6 +106,7 @@ pub fn indexed(alloc: Global, span: Span, v: &Value, i: &Value) -> Result<Value,
 }
 
 /// So many elements from an index on.
+#[inline(never)]
 pub fn sliced(alloc: Global, span: Span, n: u32, v: &Value, from: &Value) -> Result<Value, Stop>
     ensures { Computes result (sliced span n v.now from.now) }
 {

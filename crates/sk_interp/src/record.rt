@@ -6,17 +6,17 @@ ghost use Rattle.sk_model.specs.Heap.{zeros_of, with_fields, allocate};
 ghost use Rattle.sk_interp.specs.Gives.{Gives};
 
 use crate::memory::{Memory, set_field, zeros};
+use crate::row::Row;
 use crate::stop::Stop;
-use sk_base::List;
 use sk_prog::{Prog, StructDef, StructId, Value};
 use std::alloc::{AllocError, Global};
 
 /// A record of this struct in which each field is unset.
-fn zeros_of(alloc: Global, found: Option<&StructDef>) -> Result<List<Value>, AllocError>
+fn zeros_of(alloc: Global, found: Option<&StructDef>) -> Result<Row<Value>, AllocError>
     ensures { IfOk result (λ made. made ≡ zeros_of (option_copied found.entry)) }
 {
     match found {
-        None => Ok(List::new(alloc)),
+        None => Ok(Row::new(alloc)),
         Some(d) => {
             let made = zeros(alloc, d.fields.as_slice())?;
             Ok(made)
@@ -25,7 +25,7 @@ fn zeros_of(alloc: Global, found: Option<&StructDef>) -> Result<List<Value>, All
 }
 
 /// The record with these fields set, one after another.
-fn with_fields(fields: List<Value>, set: Vec<(u32, Value)>) -> List<Value>
+fn with_fields(fields: Row<Value>, set: Vec<(u32, Value)>) -> Row<Value>
     ensures { result ≡ with_fields fields set.items }
 {
     let mut made = fields;
@@ -36,6 +36,7 @@ fn with_fields(fields: List<Value>, set: Vec<(u32, Value)>) -> List<Value>
 }
 
 /// Makes a record with these fields set.
+#[inline(never)]
 pub fn allocate(
     alloc: Global,
     memory: &mut Memory,

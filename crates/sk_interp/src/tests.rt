@@ -3,7 +3,7 @@ use crate::bits::{moved_down, moved_up, sum_of};
 use crate::exec;
 use crate::memory::Memory;
 use crate::number::{add, divide, multiply, negate, remainder, subtract};
-use crate::value::{equal, replaced, zero_of};
+use crate::value::{equal, part, replaced, zero_of};
 use sk_base::{Bounds, List, Name, Span};
 use sk_model::Outcome;
 use sk_prog::{Elem, Fun, FunId, FunKind, PEForm, PExpr, PForm, PStmt, Prog, Ty, Value};
@@ -46,14 +46,33 @@ fn slots(rt: HostRuntime) -> Result<(), AllocError> {
 }
 
 #[test]
-fn parts(rt: HostRuntime) -> Result<(), AllocError> {
+fn parts(rt: HostRuntime) -> Result<(), Fail> {
     let zero = zero_of(rt.alloc(), Ty::Array(Elem::Int, 2))?;
-    let Some(made) = replaced(rt.alloc(), [1].as_slice(), &zero, Value::Int(7))? else {
+    let other = zero_of(rt.alloc(), Ty::Array(Elem::Int, 2))?;
+    let Some(made) = replaced(rt.alloc(), [1].as_slice(), other, Value::Int(7))? else {
         panic!(rt; "the element is there");
     };
     assert!(rt; !equal(&zero, &made));
-    let none = replaced(rt.alloc(), [2].as_slice(), &zero, Value::Int(7))?;
+    let none = replaced(rt.alloc(), [2].as_slice(), zero, Value::Int(7))?;
     assert!(rt; none.is_none());
+    Ok(())
+}
+
+#[test]
+fn parts_of_parts(rt: HostRuntime) -> Result<(), Fail> {
+    let grid = zero_of(rt.alloc(), Ty::Grid(Elem::Int, 2, 3))?;
+    let Some(made) = replaced(rt.alloc(), [2, 1].as_slice(), grid, Value::Int(7))? else {
+        panic!(rt; "the element is there");
+    };
+    let Some(found) = part(&made, [2, 1].as_slice()) else {
+        panic!(rt; "the element is there");
+    };
+    assert!(rt; equal(found, &Value::Int(7)));
+    let Some(before) = part(&made, [2, 0].as_slice()) else {
+        panic!(rt; "the element is there");
+    };
+    assert!(rt; equal(before, &Value::Int(0)));
+    assert!(rt; part(&made, [3, 0].as_slice()).is_none());
     Ok(())
 }
 

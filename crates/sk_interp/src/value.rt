@@ -1,10 +1,11 @@
 //! Values: copies, equality, zeros, elements and replaced parts.
 
-ghost use Rattle.std.specs.Prelude.{◌≡◌, IfOk, [], ◌∷◌, ◌++◌, ◌-◌, length, replicate, if◌then◌else◌};
+ghost use Rattle.std.specs.Prelude.{◌≡◌, IfOk, [], ◌∷◌, ◌++◌, ◌-◌, length, replicate, slice_set, if◌then◌else◌};
 ghost use Rattle.std.specs.Ordering.{int_eq};
 ghost use Rattle.sk_prog.specs.declared.value.Value.TheVariants as value;
 ghost use Rattle.std.specs.Option.{option_copied};
 ghost use Rattle.sk_model.specs.Values.{zero_of_elem, zero_of, equal, elements, element, lengthened, padded, is_array, first_is_array, replaced, same_bit};
+ghost use Rattle.sk_interp.specs.Paths.{part};
 
 use sk_base::List;
 use sk_prog::{Elem, Ty, Value};
@@ -184,8 +185,39 @@ pub fn padded(alloc: Global, ty: Ty, v: Value) -> Result<Value, AllocError>
     }
 }
 
-/// The value with the part that the indexes name replaced.
-pub fn replaced(
+/// The part of a value that the indexes name, from the outside in.
+pub fn part<'a>(v: &'a Value, indexes: &[i64]) -> Option<&'a Value>
+    ensures { option_copied result ≡ part indexes.now v.now }
+{
+    let [i, rest @ ..] = indexes else {
+        return Some(v);
+    };
+    let Some(found) = element(v, *i) else {
+        return None;
+    };
+    part(found, rest)
+}
+
+/// The array with one element set.
+#[tactic(auto, using(crate::proofs::Memories::set_past))]
+fn with_element(alloc: Global, whole: Value, i: usize, new: Value) -> Value
+    ensures { result ≡ value.Array (slice_set (elements whole) i new) }
+{
+    match whole {
+        Value::Array(vs) => {
+            let mut made = vs;
+            if i < made.len() {
+                made.set(i, new);
+            }
+            Value::Array(made)
+        }
+        _ => Value::Array(List::new(alloc)),
+    }
+}
+
+/// What `replaced` gives, of a value that is lent: where no index is left it is not looked at.
+#[cycle(replaced)]
+fn replaced_within(
     alloc: Global,
     indexes: &[i64],
     v: &Value,
@@ -193,18 +225,34 @@ pub fn replaced(
 ) -> Result<Option<Value>, AllocError>
     ensures { IfOk result (λ made. made ≡ replaced indexes.now v.now part) }
 {
+    if indexes.is_empty() {
+        return Ok(Some(part));
+    }
+    let whole = copy(alloc, v)?;
+    let made = replaced(alloc, indexes, whole, part)?;
+    Ok(made)
+}
+
+/// The value with the part that the indexes name replaced. Its array is changed in place; an array in that is copied.
+#[cycle(replaced)]
+pub fn replaced(
+    alloc: Global,
+    indexes: &[i64],
+    whole: Value,
+    part: Value,
+) -> Result<Option<Value>, AllocError>
+    ensures { IfOk result (λ made. made ≡ replaced indexes.now whole part) }
+{
     let [i, rest @ ..] = indexes else {
         return Ok(Some(part));
     };
-    let Some(old) = element(v, *i) else {
+    let Some(old) = element(&whole, *i) else {
         return Ok(None);
     };
-    let Some(new) = replaced(alloc, rest, old, part)? else {
+    let Some(new) = replaced_within(alloc, rest, old, part)? else {
         return Ok(None);
     };
-    let mut made = copy_all(alloc, elements(v))?;
-    made.set(*i as usize, new);
-    Ok(Some(Value::Array(made)))
+    Ok(Some(with_element(alloc, whole, *i as usize, new)))
 }
 
 fn same_bit(a: bool, b: bool) -> bool

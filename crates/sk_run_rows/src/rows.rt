@@ -381,6 +381,124 @@ pub const ARRAYS: [(&str, &str); 18] = [
     ),
 ];
 
+pub const ELEMENTS: [(&str, &str); 23] = [
+    // int f(int i, int j) { int[2][3] m = {{1, 2}, {3, 4}, {5, 6}}; return m[i][j]; }
+    (
+        "16 8 5 0 2 n 0 n 0 0 0 1 i 2 0 i 0 i 40 2 22 61 d 2 g 2 3 i + g 2 3 i b 3 a 2 i b 2 i n 1 i n 2 a 2 i b 2 i n 3 i n 4 a 2 i b 2 i n 5 i n 6 62 77 r + i i a 2 i i g 2 3 i v 2 i v 0 i v 1",
+        "done + n 1 0 0",
+    ),
+    // int[2][3] f(int i, int j) { int[2][3] m = {{1, 2}, {3, 4}, {5, 6}}; m[i][j] = 9; return m; }
+    (
+        "16 8 5 0 2 n 0 n 0 0 0 1 g 2 3 i 2 0 i 0 i 40 3 28 67 d 2 g 2 3 i + g 2 3 i b 3 a 2 i b 2 i n 1 i n 2 a 2 i b 2 i n 3 i n 4 a 2 i b 2 i n 5 i n 6 68 80 a i i a 2 i i g 2 3 i v 2 i v 0 i v 1 i n 9 81 90 r + g 2 3 i v 2",
+        "done + a 3 a 2 n 9 n 2 a 2 n 3 n 4 a 2 n 5 n 6 0 0",
+    ),
+    // int f(int i, int j) { int[2][3] m = {{1, 2}, {3, 4}, {5, 6}}; return m[i][j]; }
+    (
+        "16 8 5 0 2 n 2 n 1 0 0 1 i 2 0 i 0 i 40 2 22 61 d 2 g 2 3 i + g 2 3 i b 3 a 2 i b 2 i n 1 i n 2 a 2 i b 2 i n 3 i n 4 a 2 i b 2 i n 5 i n 6 62 77 r + i i a 2 i i g 2 3 i v 2 i v 0 i v 1",
+        "done + n 6 0 0",
+    ),
+    // int[2][3] f(int i, int j) { int[2][3] m = {{1, 2}, {3, 4}, {5, 6}}; m[i][j] = 9; return m; }
+    (
+        "16 8 5 0 2 n 2 n 1 0 0 1 g 2 3 i 2 0 i 0 i 40 3 28 67 d 2 g 2 3 i + g 2 3 i b 3 a 2 i b 2 i n 1 i n 2 a 2 i b 2 i n 3 i n 4 a 2 i b 2 i n 5 i n 6 68 80 a i i a 2 i i g 2 3 i v 2 i v 0 i v 1 i n 9 81 90 r + g 2 3 i v 2",
+        "done + a 3 a 2 n 1 n 2 a 2 n 3 n 4 a 2 n 5 n 9 0 0",
+    ),
+    // int f(int i, int j) { int[2][3] m = {{1, 2}, {3, 4}, {5, 6}}; return m[i][j]; }
+    (
+        "16 8 5 0 2 n 3 n 0 0 0 1 i 2 0 i 0 i 40 2 22 61 d 2 g 2 3 i + g 2 3 i b 3 a 2 i b 2 i n 1 i n 2 a 2 i b 2 i n 3 i n 4 a 2 i b 2 i n 5 i n 6 62 77 r + i i a 2 i i g 2 3 i v 2 i v 0 i v 1",
+        "failed 62 77",
+    ),
+    // int[2][3] f(int i, int j) { int[2][3] m = {{1, 2}, {3, 4}, {5, 6}}; m[i][j] = 9; return m; }
+    (
+        "16 8 5 0 2 n 3 n 0 0 0 1 g 2 3 i 2 0 i 0 i 40 3 28 67 d 2 g 2 3 i + g 2 3 i b 3 a 2 i b 2 i n 1 i n 2 a 2 i b 2 i n 3 i n 4 a 2 i b 2 i n 5 i n 6 68 80 a i i a 2 i i g 2 3 i v 2 i v 0 i v 1 i n 9 81 90 r + g 2 3 i v 2",
+        "failed 68 80",
+    ),
+    // int f(int i, int j) { int[2][3] m = {{1, 2}, {3, 4}, {5, 6}}; return m[i][j]; }
+    (
+        "16 8 5 0 2 n 0 n 2 0 0 1 i 2 0 i 0 i 40 2 22 61 d 2 g 2 3 i + g 2 3 i b 3 a 2 i b 2 i n 1 i n 2 a 2 i b 2 i n 3 i n 4 a 2 i b 2 i n 5 i n 6 62 77 r + i i a 2 i i g 2 3 i v 2 i v 0 i v 1",
+        "failed 62 77",
+    ),
+    // int[2][3] f(int i, int j) { int[2][3] m = {{1, 2}, {3, 4}, {5, 6}}; m[i][j] = 9; return m; }
+    (
+        "16 8 5 0 2 n 0 n 2 0 0 1 g 2 3 i 2 0 i 0 i 40 3 28 67 d 2 g 2 3 i + g 2 3 i b 3 a 2 i b 2 i n 1 i n 2 a 2 i b 2 i n 3 i n 4 a 2 i b 2 i n 5 i n 6 68 80 a i i a 2 i i g 2 3 i v 2 i v 0 i v 1 i n 9 81 90 r + g 2 3 i v 2",
+        "failed 68 80",
+    ),
+    // int f(int i, int j) { int[2][3] m = {{1, 2}, {3, 4}, {5, 6}}; return m[i][j]; }
+    (
+        "16 8 5 0 2 n -1 n 0 0 0 1 i 2 0 i 0 i 40 2 22 61 d 2 g 2 3 i + g 2 3 i b 3 a 2 i b 2 i n 1 i n 2 a 2 i b 2 i n 3 i n 4 a 2 i b 2 i n 5 i n 6 62 77 r + i i a 2 i i g 2 3 i v 2 i v 0 i v 1",
+        "failed 62 77",
+    ),
+    // int[2][3] f(int i, int j) { int[2][3] m = {{1, 2}, {3, 4}, {5, 6}}; m[i][j] = 9; return m; }
+    (
+        "16 8 5 0 2 n -1 n 0 0 0 1 g 2 3 i 2 0 i 0 i 40 3 28 67 d 2 g 2 3 i + g 2 3 i b 3 a 2 i b 2 i n 1 i n 2 a 2 i b 2 i n 3 i n 4 a 2 i b 2 i n 5 i n 6 68 80 a i i a 2 i i g 2 3 i v 2 i v 0 i v 1 i n 9 81 90 r + g 2 3 i v 2",
+        "failed 68 80",
+    ),
+    // int f(int i) { int[3] a = {1, 4, 0}; int[5] b = {7, 8, 9, 10, 11}; return b[a[i] * 2 - a[a[2]]]; }
+    (
+        "16 8 5 0 1 n 0 0 0 1 i 1 0 i 40 3 15 36 d 1 a 3 i + a 3 i b 3 i n 1 i n 4 i n 0 37 66 d 2 a 5 i + a 5 i b 5 i n 7 i n 8 i n 9 i n 10 i n 11 67 96 r + i i a 5 i v 2 i o 4 i o 0 i i a 3 i v 1 i v 0 i n 2 i i a 3 i v 1 i i a 3 i v 1 i n 2",
+        "done + n 8 0 0",
+    ),
+    // int f(int i) { int[3] a = {1, 4, 0}; int[5] b = {7, 8, 9, 10, 11}; return b[a[i] * 2 - a[a[2]]]; }
+    (
+        "16 8 5 0 1 n 1 0 0 1 i 1 0 i 40 3 15 36 d 1 a 3 i + a 3 i b 3 i n 1 i n 4 i n 0 37 66 d 2 a 5 i + a 5 i b 5 i n 7 i n 8 i n 9 i n 10 i n 11 67 96 r + i i a 5 i v 2 i o 4 i o 0 i i a 3 i v 1 i v 0 i n 2 i i a 3 i v 1 i i a 3 i v 1 i n 2",
+        "failed 67 96",
+    ),
+    // int f(int i) { int[3] a = {1, 4, 0}; int[5] b = {7, 8, 9, 10, 11}; return b[a[i] * 2 - a[a[2]]]; }
+    (
+        "16 8 5 0 1 n 2 0 0 1 i 1 0 i 40 3 15 36 d 1 a 3 i + a 3 i b 3 i n 1 i n 4 i n 0 37 66 d 2 a 5 i + a 5 i b 5 i n 7 i n 8 i n 9 i n 10 i n 11 67 96 r + i i a 5 i v 2 i o 4 i o 0 i i a 3 i v 1 i v 0 i n 2 i i a 3 i v 1 i i a 3 i v 1 i n 2",
+        "failed 67 96",
+    ),
+    // int f(int i) { int[3] a = {1, 4, 0}; return a[6 / i]; }
+    (
+        "16 8 5 0 1 n 0 0 0 1 i 1 0 i 40 2 15 36 d 1 a 3 i + a 3 i b 3 i n 1 i n 4 i n 0 37 53 r + i i a 3 i v 1 i o 1 i n 6 i v 0",
+        "failed 37 53",
+    ),
+    // int t(ref int[2] a) { a[0] = 9; return 0; } int f() { int[2] a = {5, 6}; return a[t(a)]; }
+    (
+        "16 8 5 1 0 0 0 2 i 1 1 a 2 i 40 2 22 31 a i i a 2 i v 0 i n 0 i n 9 32 41 r + i n 0 i 0 40 2 54 72 d 0 a 2 i + a 2 i b 2 i n 5 i n 6 73 88 r + i i a 2 i v 0 i c 0 1 a 2 i v 0",
+        "done + n 5 0 0",
+    ),
+    // int t(ref int[2] a) { a[0] = 9; return 1; } int[2] f() { int[2] a = {5, 6}; a[t(a)] = 7; return a; }
+    (
+        "16 8 5 1 0 0 0 2 i 1 1 a 2 i 40 2 22 31 a i i a 2 i v 0 i n 0 i n 9 32 41 r + i n 1 a 2 i 0 40 3 57 75 d 0 a 2 i + a 2 i b 2 i n 5 i n 6 76 88 a i i a 2 i v 0 i c 0 1 a 2 i v 0 i n 7 89 98 r + a 2 i v 0",
+        "done + a 2 n 9 n 7 0 0",
+    ),
+    // int t(ref int[2] a) { a[0] = 9; return 1; } int[2] f() { int[2] a = {5, 6}; a[1] = t(a); return a; }
+    (
+        "16 8 5 1 0 0 0 2 i 1 1 a 2 i 40 2 22 31 a i i a 2 i v 0 i n 0 i n 9 32 41 r + i n 1 a 2 i 0 40 3 57 75 d 0 a 2 i + a 2 i b 2 i n 5 i n 6 76 88 a i i a 2 i v 0 i n 1 i c 0 1 a 2 i v 0 89 98 r + a 2 i v 0",
+        "done + a 2 n 9 n 1 0 0",
+    ),
+    // struct R { int[3] a; } int f(int i) { R r = new R(a = {4, 5, 6}); return r.a[i]; }
+    (
+        "16 8 5 0 1 n 2 1 1 a 3 i 0 1 i 1 0 i 40 2 38 65 d 1 r 0 + r 0 w 0 1 0 a 3 i b 3 i n 4 i n 5 i n 6 66 80 r + i i a 3 i m 0 0 r 0 v 1 i v 0",
+        "done + n 6 0 0",
+    ),
+    // struct R { int[3] a; } int f(int i) { R r = new R(a = {4, 5, 6}); return r.a[i]; }
+    (
+        "16 8 5 0 1 n 3 1 1 a 3 i 0 1 i 1 0 i 40 2 38 65 d 1 r 0 + r 0 w 0 1 0 a 3 i b 3 i n 4 i n 5 i n 6 66 80 r + i i a 3 i m 0 0 r 0 v 1 i v 0",
+        "failed 66 80",
+    ),
+    // struct R { int[3] a; } int f(int i) { R r; return r.a[i]; }
+    (
+        "16 8 5 0 1 n 1 1 1 a 3 i 0 1 i 1 0 i 40 2 38 42 d 1 r 0 - 43 57 r + i i a 3 i m 0 0 r 0 v 1 i v 0",
+        "failed 43 57",
+    ),
+    // struct R { int[3] a; R n; } int f(int i) { R r = new R(a = {1, 2, 0}, n = new R(a = {7, 8, 9})); return r.n.a[r.a[i]] + new R(a = {3}).a[0]; }
+    (
+        "16 8 5 0 1 n 1 1 2 a 3 i r 0 0 1 i 1 0 i 40 2 43 96 d 1 r 0 + r 0 w 0 2 0 a 3 i b 3 i n 1 i n 2 i n 0 1 r 0 w 0 1 0 a 3 i b 3 i n 7 i n 8 i n 9 97 140 r + i o 3 i i a 3 i m 0 0 r 0 m 0 1 r 0 v 1 i i a 3 i m 0 0 r 0 v 1 i v 0 i i a 3 i m 0 0 r 0 w 0 1 0 a 3 i b 1 i n 3 i n 0",
+        "done + n 12 0 0",
+    ),
+    // struct R { int[3] a; } R g(R r) { r.a[0] = r.a[0] + 1; return r; } int f() { R r = new R(); return g(r).a[0] + 10 * g(r).a[r.a[0]] + 100 * r.a[0]; }
+    (
+        "16 8 5 1 0 1 1 a 3 i 0 2 r 0 1 0 r 0 40 2 34 54 a i i a 3 i m 0 0 r 0 v 0 i n 0 i o 3 i i a 3 i m 0 0 r 0 v 0 i n 0 i n 1 55 64 r + r 0 v 0 i 0 40 2 77 91 d 0 r 0 + r 0 w 0 0 92 146 r + i o 3 i o 3 i i a 3 i m 0 0 r 0 c 0 1 r 0 v 0 i n 0 i o 0 i n 10 i i a 3 i m 0 0 r 0 c 0 1 r 0 v 0 i i a 3 i m 0 0 r 0 v 0 i n 0 i o 0 i n 100 i i a 3 i m 0 0 r 0 v 0 i n 0",
+        "done + n 201 0 0",
+    ),
+    // struct R { int[2][2] m; } int[2][2] f() { R r = new R(); R q = r; r.m[1][0] = 3; q.m[0] = {1, 2}; return r.m; }
+    (
+        "16 8 5 0 0 1 1 g 2 2 i 0 1 g 2 2 i 0 40 5 42 56 d 0 r 0 + r 0 w 0 0 57 65 d 1 r 0 + r 0 v 0 66 80 a i i a 2 i i g 2 2 i m 0 0 r 0 v 0 i n 1 i n 0 i n 3 81 97 a a 2 i i g 2 2 i m 0 0 r 0 v 1 i n 0 a 2 i b 2 i n 1 i n 2 98 109 r + g 2 2 i m 0 0 r 0 v 0",
+        "done + a 2 a 2 n 1 n 2 a 2 n 3 n 0 0 0",
+    ),
+];
+
 pub const RECORDS: [(&str, &str); 8] = [
     // struct L { int v; L next; } int f(int x) { L a = new L(v = x); L b = a; b.v = 5; return a.v + 10 * (a == b); }
     (
@@ -654,5 +772,83 @@ pub const CONSTANTS: [(&str, &str); 2] = [
     (
         "16 8 5 0 1 t 0 0 1 i 1 0 b 40 2 15 33 d 1 a 2 i + a 2 i b 2 i j b v 0 i j b v 0 34 50 r + i o 3 i i a 2 i v 1 i n 0 i j b v 0",
         "done + n 2 0 0",
+    ),
+];
+
+pub const EXAMPLES: [(&str, &str); 15] = [
+    // examples/greatest_divisor.sk
+    (
+        "16 8 5 0 2 n 84 n 36 0 0 1 i 2 0 i 0 i 40 2 88 169 w b o 12 i v 1 i n 0 103 169 b 3 113 130 d 2 i + i o 2 i v 0 i v 1 139 145 a i v 0 i v 1 154 163 a i v 1 i v 2 174 183 r + i v 0",
+        "done + n 12 0 0",
+    ),
+    // examples/reversal.sk
+    (
+        "16 8 5 2 1 a 4 n 1 n 2 n 3 n 4 1 2 i r 0 0 3 r 0 1 0 a 4 i 40 3 138 155 d 1 r 0 + r 0 z 160 236 b 2 165 174 d 2 i + i n 0 160 236 w b o 7 i v 2 i n 4 160 236 b 2 188 236 b 1 188 236 a r 0 v 1 r 0 w 0 2 0 i i a 4 i v 0 i o 4 i n 3 i v 2 1 r 0 v 1 183 186 a i v 2 i o 3 i v 2 i n 1 241 253 r + r 0 v 1 r 0 1 0 r 0 40 3 286 303 d 1 r 0 + r 0 z 308 435 w b o 12 r 0 v 0 r 0 z 329 435 b 4 339 361 d 2 r 0 + r 0 m 0 1 r 0 v 0 370 387 a r 0 m 0 1 r 0 v 0 r 0 v 1 396 408 a r 0 v 1 r 0 v 0 417 429 a r 0 v 0 r 0 v 2 440 452 r + r 0 v 1 a 4 i 1 0 a 4 i 40 4 489 519 d 1 r 0 + r 0 c 1 1 r 0 c 0 1 a 4 i v 0 524 613 b 2 529 538 d 2 i + i n 0 524 613 w b o 7 i v 2 i n 4 524 613 b 2 552 613 b 2 562 581 a i i a 4 i v 0 i v 2 i m 0 0 r 0 v 1 590 607 a r 0 v 1 r 0 m 0 1 r 0 v 1 547 550 a i v 2 i o 3 i v 2 i n 1 618 638 t b o 11 r 0 v 1 r 0 z 643 653 r + a 4 i v 0",
+        "done + a 4 n 4 n 3 n 2 n 1 0 0",
+    ),
+    // examples/ones.sk
+    (
+        "16 8 5 0 1 a 8 t f t t f f f t 0 0 1 i 1 0 a 8 b 40 3 64 74 d 1 i + i n 0 79 120 b 2 84 93 d 2 i + i n 0 79 120 w b o 7 i v 2 i n 8 79 120 b 2 107 120 b 1 107 120 a i v 1 i o 3 i v 1 i p i j b i a 8 b v 0 i v 2 102 105 a i v 2 i o 3 i v 2 i n 1 125 134 r + i v 1",
+        "done + n 4 0 0",
+    ),
+    // examples/sorted.sk
+    (
+        "16 8 5 1 1 a 4 n 3 n 1 n 4 n 2 0 0 2 - 2 1 i 1 i 40 1 86 153 i b o 7 i v 1 i v 0 97 153 b 3 107 117 d 2 i + i v 0 126 132 a i v 0 i v 1 141 147 a i v 1 i v 2 - a 4 i 1 0 a 4 i 40 10 188 202 d 1 i + i i a 4 i v 0 i n 0 207 221 d 2 i + i i a 4 i v 0 i n 1 226 240 d 3 i + i i a 4 i v 0 i n 2 245 259 d 4 i + i i a 4 i v 0 i n 3 264 276 c - c 0 2 i v 1 i v 2 281 293 c - c 0 2 i v 3 i v 4 298 310 c - c 0 2 i v 1 i v 3 315 327 c - c 0 2 i v 2 i v 4 332 344 c - c 0 2 i v 2 i v 3 349 369 r + a 4 i b 4 i v 1 i v 2 i v 3 i v 4",
+        "done + a 4 n 1 n 2 n 3 n 4 0 0",
+    ),
+    // examples/transposed.sk
+    (
+        "16 8 5 0 1 a 3 a 3 n 1 n 2 n 3 a 3 n 4 n 5 n 6 a 3 n 7 n 8 n 9 0 0 1 g 3 3 i 1 0 g 3 3 i 40 2 85 253 b 2 90 99 d 1 i + i n 0 85 253 w b o 7 i v 1 i n 3 85 253 b 2 113 253 b 1 123 247 b 2 128 137 d 2 i + i n 0 123 247 w b o 7 i v 2 i v 1 123 247 b 2 151 247 b 3 165 181 d 3 i + i i a 3 i i g 3 3 i v 0 i v 1 i v 2 194 212 a i i a 3 i i g 3 3 i v 0 i v 1 i v 2 i i a 3 i i g 3 3 i v 0 i v 2 i v 1 225 237 a i i a 3 i i g 3 3 i v 0 i v 2 i v 1 i v 3 146 149 a i v 2 i o 3 i v 2 i n 1 108 111 a i v 1 i o 3 i v 1 i n 1 258 267 r + g 3 3 i v 0",
+        "done + a 3 a 3 n 1 n 4 n 7 a 3 n 2 n 5 n 8 a 3 n 3 n 6 n 9 0 0",
+    ),
+    // examples/power.sk
+    (
+        "16 8 5 0 2 n 3 n 9 0 0 1 i 2 0 i 0 i 40 3 99 109 d 2 i + i n 1 114 208 w b o 9 i v 1 i n 0 128 208 b 3 138 164 i b o 11 i o 2 i v 1 i n 2 i n 1 154 164 b 1 154 164 a i v 2 i o 0 i v 2 i v 0 - 173 183 a i v 0 i o 0 i v 0 i v 0 192 202 a i v 1 i o 1 i v 1 i n 2 213 222 r + i v 2",
+        "done + n 19683 0 0",
+    ),
+    // examples/power.sk
+    (
+        "16 8 5 0 2 n 3 n 11 0 0 1 i 2 0 i 0 i 40 3 99 109 d 2 i + i n 1 114 208 w b o 9 i v 1 i n 0 128 208 b 3 138 164 i b o 11 i o 2 i v 1 i n 2 i n 1 154 164 b 1 154 164 a i v 2 i o 0 i v 2 i v 0 - 173 183 a i v 0 i o 0 i v 0 i v 0 192 202 a i v 1 i o 1 i v 1 i n 2 213 222 r + i v 2",
+        "done + n -19461 0 0",
+    ),
+    // examples/power.sk
+    (
+        "32 8 5 0 2 n 3 n 11 0 0 1 i 2 0 i 0 i 40 3 99 109 d 2 i + i n 1 114 208 w b o 9 i v 1 i n 0 128 208 b 3 138 164 i b o 11 i o 2 i v 1 i n 2 i n 1 154 164 b 1 154 164 a i v 2 i o 0 i v 2 i v 0 - 173 183 a i v 0 i o 0 i v 0 i v 0 192 202 a i v 1 i o 1 i v 1 i n 2 213 222 r + i v 2",
+        "done + n 177147 0 0",
+    ),
+    // examples/factorial.sk
+    (
+        "16 8 8 0 1 n 7 0 0 1 i 1 0 i 40 1 105 146 r + i q b o 11 i v 0 i n 0 i n 1 i o 0 i v 0 i c 0 1 i o 4 i v 0 i n 1",
+        "done + n 5040 0 0",
+    ),
+    // examples/factorial.sk
+    (
+        "16 8 5 0 1 n 7 0 0 1 i 1 0 i 40 1 105 146 r + i q b o 11 i v 0 i n 0 i n 1 i o 0 i v 0 i c 0 1 i o 4 i v 0 i n 1",
+        "failed 105 146",
+    ),
+    // examples/gray.sk
+    (
+        "16 8 5 0 1 a 8 t t f t f f f f 0 0 2 a 8 b 1 0 a 8 b 40 1 133 153 r + a 8 b o 14 a 8 b v 0 a 8 b p a 8 b o 6 a 8 b v 0 i n 1 a 8 b 1 0 a 8 b 40 6 193 209 d 1 a 8 b + a 8 b v 0 214 231 a a 8 b v 1 a 8 b o 14 a 8 b v 1 a 8 b p a 8 b o 6 a 8 b v 1 i n 1 236 253 a a 8 b v 1 a 8 b o 14 a 8 b v 1 a 8 b p a 8 b o 6 a 8 b v 1 i n 2 258 275 a a 8 b v 1 a 8 b o 14 a 8 b v 1 a 8 b p a 8 b o 6 a 8 b v 1 i n 4 280 303 t b o 11 a 8 b c 0 1 a 8 b v 1 a 8 b v 0 308 317 r + a 8 b v 1",
+        "done + a 8 f t t t f f f f 0 0",
+    ),
+    // examples/gray.sk
+    (
+        "16 8 5 1 1 a 8 f t t t f f f f 0 0 2 a 8 b 1 0 a 8 b 40 1 133 153 r + a 8 b o 14 a 8 b v 0 a 8 b p a 8 b o 6 a 8 b v 0 i n 1 a 8 b 1 0 a 8 b 40 6 193 209 d 1 a 8 b + a 8 b v 0 214 231 a a 8 b v 1 a 8 b o 14 a 8 b v 1 a 8 b p a 8 b o 6 a 8 b v 1 i n 1 236 253 a a 8 b v 1 a 8 b o 14 a 8 b v 1 a 8 b p a 8 b o 6 a 8 b v 1 i n 2 258 275 a a 8 b v 1 a 8 b o 14 a 8 b v 1 a 8 b p a 8 b o 6 a 8 b v 1 i n 4 280 303 t b o 11 a 8 b c 0 1 a 8 b v 1 a 8 b v 0 308 317 r + a 8 b v 1",
+        "done + a 8 t t f t f f f f 0 0",
+    ),
+    // examples/root.sk
+    (
+        "16 8 5 0 1 n 1000 0 0 1 i 1 0 i 40 6 111 125 u b o 10 i v 0 i n 0 130 142 d 1 i + i n 0 147 162 d 2 i + i n 182 167 304 w b o 9 i o 4 i v 2 i v 1 i n 1 190 304 b 2 200 230 d 3 i + i o 1 i p i o 3 i v 1 i v 2 i n 2 239 298 i b o 8 i o 0 i v 3 i v 3 i v 0 265 278 b 1 265 278 a i v 1 i v 3 + 284 298 b 1 284 298 a i v 2 i v 3 309 331 t b o 8 i o 0 i v 1 i v 1 i v 0 336 347 r + i v 1",
+        "done + n 31 0 0",
+    ),
+    // examples/root.sk
+    (
+        "16 8 5 0 1 n -1 0 0 1 i 1 0 i 40 6 111 125 u b o 10 i v 0 i n 0 130 142 d 1 i + i n 0 147 162 d 2 i + i n 182 167 304 w b o 9 i o 4 i v 2 i v 1 i n 1 190 304 b 2 200 230 d 3 i + i o 1 i p i o 3 i v 1 i v 2 i n 2 239 298 i b o 8 i o 0 i v 3 i v 3 i v 0 265 278 b 1 265 278 a i v 1 i v 3 + 284 298 b 1 284 298 a i v 2 i v 3 309 331 t b o 8 i o 0 i v 1 i v 1 i v 0 336 347 r + i v 1",
+        "skipped 111 125",
+    ),
+    // examples/coins.sk
+    (
+        "16 8 5 0 2 n 91 a 4 n 0 n 0 n 0 n 0 0 0 1 - 2 0 i 1 a 4 i 40 2 132 162 d 2 a 4 i + a 4 i b 4 i n 25 i n 10 i n 5 i n 1 167 306 b 2 172 181 d 3 i + i n 0 167 306 w b o 7 i v 3 i n 4 167 306 b 2 195 306 b 3 205 235 a i i a 4 i v 1 i v 3 i o 1 i v 0 i i a 4 i v 2 i v 3 244 271 a i v 0 i o 2 i v 0 i i a 4 i v 2 i v 3 280 300 m i i a 4 i v 1 i v 3 190 193 a i v 3 i o 3 i v 3 i n 1",
+        "done - 1 a 4 n 3 n 1 n 1 n 1 6",
     ),
 ];

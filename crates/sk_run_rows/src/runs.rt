@@ -42,6 +42,11 @@ fn arrays_are_values(rt: HostRuntime) -> Result<(), Fail> {
 }
 
 #[test]
+fn elements_are_read_and_written(rt: HostRuntime) -> Result<(), Fail> {
+    compare(&rt, rt.alloc(), &rows::ELEMENTS)
+}
+
+#[test]
 fn references_are_shared(rt: HostRuntime) -> Result<(), Fail> {
     compare(&rt, rt.alloc(), &rows::RECORDS)
 }
@@ -74,6 +79,12 @@ fn calls_end_at_both_bounds(rt: HostRuntime) -> Result<(), Fail> {
 #[test]
 fn constants_and_bits_are_numbers(rt: HostRuntime) -> Result<(), Fail> {
     compare(&rt, rt.alloc(), &rows::CONSTANTS)
+}
+
+/// The programs of `examples/`, as trees.
+#[test]
+fn examples_end(rt: HostRuntime) -> Result<(), Fail> {
+    compare(&rt, rt.alloc(), &rows::EXAMPLES)
 }
 
 /// What a call can stand in, written before a statement, before an expression and behind it.

@@ -2,8 +2,8 @@ use Rattle.std.proofs.Common.{◌≡◌, Some, None, sym, ap, subst, ◌∙◌, 
 use Rattle.std.specs.Option.{option_copied}
 use Rattle.std.proofs.lemmas.Result.{err_from_is_err_and}
 use Rattle.sk_interp.specs.Gives.{Gives}
-use Rattle.sk_interp.specs.Calling.{callee, called_of, flow_of}
-use Rattle.sk_interp.proofs.Activations.{call_fails, call_goes, call_stops, back_over, call_does, new_does, braces_does}
+use Rattle.sk_interp.specs.Calling.{callee, called_of, flow_of, does_in}
+use Rattle.sk_interp.proofs.Activations.{index_gives, slice_gives, path_goes, path_stops, call_fails, call_goes, call_stops, back_over, call_does, new_does, braces_does}
 use Rattle.sk_interp.proofs.activation.Activation.+run.Goals as goal
 
 pub call-returns-in-None : goal.call-returns-in-None
@@ -39,3 +39,17 @@ eval-returns-in-New t c = subst (λ m. Gives c.new_record.result c.new_record.ne
 
 pub eval-returns-in-Braces : goal.eval-returns-in-Braces
 eval-returns-in-Braces t c = subst (λ m. Gives c.braces.result c.braces.new.memory m) (sym (braces_does c.args.self.now c.args.e.now c.args.span c.args.memory.now c.in-Braces.parts c.in-Braces.is)) c.braces.ensures
+
+pub load-returns-in_err-location : goal.load-returns-in_err-location
+load-returns-in_err-location t c =
+    let p = err_from_is_err_and c.from_residual.result c.from_residual.ensures.1 in
+    rw (p.1, p.2) (path_stops (does_in c.args.self.now c.args.e.now) c.args.span c.args.memory.now _ c.requires.path c.in_err-location.ensures)
+
+pub load-returns : goal.load-returns
+load-returns t c = subst (λ m. Gives c.load.result c.target.new.memory m) (sym (path_goes (does_in c.args.self.now c.args.e.now) c.args.span c.args.memory.now _ _ c.requires.path c.in_ok-location.ensures)) c.load.ensures
+
+pub eval-returns-else-is_path : goal.eval-returns-else-is_path
+eval-returns-else-is_path t c = index_gives c.args.self.now c.args.e.now c.args.span c.args.memory.now c.index.result c.index.new.memory c.in-Index.base c.in-Index.index _ _ c.in-Index.is c.get-in-Index.ensures c.get-in-Index-2.ensures c.index.ensures
+
+pub eval-returns-in-Slice : goal.eval-returns-in-Slice
+eval-returns-in-Slice t c = slice_gives c.args.self.now c.args.e.now c.args.span c.args.memory.now c.slice.result c.slice.new.memory c.in-Slice.base c.in-Slice.from _ _ c.in-Slice.length c.in-Slice.is c.get-in-Slice.ensures c.get-in-Slice-2.ensures c.slice.ensures

@@ -1,0 +1,511 @@
+//! Small graphs, of which all environments are tried.
+
+ghost use Rattle.std.specs.Prelude.{◌≡◌, ◌≤◌, ℕ, [], IsTrue, IfOk};
+ghost use Rattle.sk_cnf.specs.Standing.{Stands};
+ghost use Rattle.sk_base.specs.Word.{IsWord};
+ghost use Rattle.sk_dag.specs.Graph.{HasBool, HasWord, HasCost, MayFollow};
+
+use crate::{Encoded, Leaf, are_distinct, encode};
+use sk_base::{List, wrap};
+use sk_clause::Lit;
+use sk_dag::{BoolId, CostId, Dag, Node, WordId};
+use std::alloc::{AllocError, Global};
+use std::process::Abort;
+use std::test::Fail;
+
+// What is known of a variable.
+#[derive(Clone, Copy, PartialEq, Eq, Debug, Drop)]
+enum Known {
+    Nothing,
+    False,
+    True,
+}
+
+fn value_of(values: &[Known], lit: Lit) -> Known {
+    match (values.get(lit.var), lit.neg) {
+        (Some(Known::True), false) => Known::True,
+        (Some(Known::True), true) => Known::False,
+        (Some(Known::False), false) => Known::False,
+        (Some(Known::False), true) => Known::True,
+        _ => Known::Nothing,
+    }
+}
+
+fn make_true(values: &mut [Known], lit: Lit) {
+    if lit.var < values.len() {
+        values[lit.var] = if lit.neg { Known::False } else { Known::True };
+    }
+}
+
+// What a clause says: it is true, or all its literals are false, or one literal alone can make it true.
+#[derive(Clone, Copy, Debug, Drop)]
+enum Says {
+    Nothing,
+    Never,
+    Only(Lit),
+}
+
+fn reads(values: &[Known], clause: &[Lit]) -> Says {
+    let mut left = Says::Never;
+    for lit in clause {
+        match value_of(values, *lit) {
+            Known::True => return Says::Nothing,
+            Known::False => {}
+            Known::Nothing => match left {
+                Says::Never => left = Says::Only(*lit),
+                _ => return Says::Nothing,
+            },
+        }
+    }
+    left
+}
+
+// Draws each conclusion that some clause forces, and says whether the clauses are met, if no variable is left open.
+fn propagate(formula: &Encoded, values: &mut [Known]) -> Option<bool> {
+    for _ in 0..formula.clauses.len() {
+        let mut changed = false;
+        for i in 0..formula.clauses.len() {
+            match reads(values, formula.clauses.get(i)) {
+                Says::Nothing => {}
+                Says::Never => return Some(false),
+                Says::Only(lit) => {
+                    make_true(values, lit);
+                    changed = true;
+                }
+            }
+        }
+        if !changed {
+            break;
+        }
+    }
+    if values.iter().any(|value| *value == Known::Nothing) {
+        return None;
+    }
+    Some(true)
+}
+
+// Whether bits for the names extend to values that meet the clauses. `None` where propagation alone does not tell; else
+// the extension is the only one.
+fn extends(alloc: Global, formula: &Encoded, bits: u64) -> Result<Option<bool>, AllocError> {
+    let mut values = vec![in alloc; Known::Nothing; formula.clauses.vars()]?;
+    for i in 0..formula.names.len() {
+        let name = formula.names.as_slice()[i];
+        make_true(
+            &mut values,
+            Lit {
+                var: name,
+                neg: bits >> (i % 64) & 1 == 0,
+            },
+        );
+    }
+    Ok(propagate(formula, &mut values))
+}
+
+// ---- graphs
+
+fn has_bool(dag: &Dag, a: BoolId) -> bool
+    ensures { IsTrue result → HasBool dag.now.nodes a }
+{
+    if a.index >= dag.len() {
+        return false;
+    }
+    match *dag.node(a.index) {
+        Node::Flag(_) | Node::HoleBit(_, _) | Node::InputBit(_) | Node::Not(_) => true,
+        Node::And(_, _) | Node::Or(_, _) | Node::Xor(_, _) | Node::BoolMux(_, _, _) => true,
+        Node::Lt(_, _) | Node::Eq(_, _) | Node::CostLe(_, _) => true,
+        _ => false,
+    }
+}
+
+fn has_word(dag: &Dag, a: WordId) -> bool
+    ensures { IsTrue result → HasWord dag.now.nodes a }
+{
+    if a.index >= dag.len() {
+        return false;
+    }
+    match *dag.node(a.index) {
+        Node::Word(_) | Node::HoleWord(_) | Node::InputWord(_) | Node::Mux(_, _, _) => true,
+        Node::Add(_, _) | Node::Sub(_, _) | Node::Mul(_, _) | Node::Div(_, _) => true,
+        Node::Rem(_, _) => true,
+        _ => false,
+    }
+}
+
+fn has_cost(dag: &Dag, a: CostId) -> bool
+    ensures { IsTrue result → HasCost dag.now.nodes a }
+{
+    if a.index >= dag.len() {
+        return false;
+    }
+    match *dag.node(a.index) {
+        Node::CostZero | Node::CostAdd(_, _, _) => true,
+        _ => false,
+    }
+}
+
+fn is_word(bits: u32, number: i64) -> bool
+    ensures { IsTrue result → IsWord bits number }
+{
+    bits >= 2 && bits <= 32 && wrap(bits, number) == number
+}
+
+// Whether the nodes that a node names are there, with their sorts.
+fn fits(dag: &Dag, node: Node) -> bool
+    ensures { IsTrue result → MayFollow dag.now.bits dag.now.nodes node }
+{
+    match node {
+        Node::Flag(_) | Node::HoleBit(_, _) | Node::HoleWord(_) => true,
+        Node::InputBit(_) | Node::InputWord(_) | Node::CostZero => true,
+        Node::Word(number) => is_word(dag.int_bits(), number),
+        Node::Not(a) => has_bool(dag, a),
+        Node::And(a, b) | Node::Or(a, b) | Node::Xor(a, b) => has_bool(dag, a) && has_bool(dag, b),
+        Node::Add(a, b) | Node::Sub(a, b) | Node::Mul(a, b) | Node::Div(a, b) => {
+            has_word(dag, a) && has_word(dag, b)
+        }
+        Node::Rem(a, b) | Node::Lt(a, b) | Node::Eq(a, b) => has_word(dag, a) && has_word(dag, b),
+        Node::BoolMux(c, a, b) => has_bool(dag, c) && has_bool(dag, a) && has_bool(dag, b),
+        Node::Mux(c, a, b) => has_bool(dag, c) && has_word(dag, a) && has_word(dag, b),
+        Node::CostAdd(c, g, x) => has_cost(dag, c) && has_bool(dag, g) && has_word(dag, x),
+        Node::CostLe(c, _) => has_cost(dag, c),
+    }
+}
+
+fn put(rt: &impl Abort, dag: &mut Dag, node: Node) -> Result<usize, AllocError> {
+    assert!(rt; fits(dag, node), "{node:?} does not fit");
+    dag.intern(node)
+}
+
+// The graph of these nodes.
+fn graph_of(rt: &impl Abort, alloc: Global, bits: u32, nodes: &[Node]) -> Result<Dag, AllocError> {
+    assert!(rt; bits >= 2 && bits <= 32, "no width of a graph");
+    let mut dag = Dag::new(alloc, bits);
+    for node in nodes {
+        put(rt, &mut dag, *node)?;
+    }
+    Ok(dag)
+}
+
+// ---- each kind of node
+
+const X: WordId = WordId { index: 0 };
+
+const Y: WordId = WordId { index: 1 };
+
+const Z: WordId = WordId { index: 2 };
+
+const A: BoolId = BoolId { index: 3 };
+
+const B: BoolId = BoolId { index: 4 };
+
+const C: BoolId = BoolId { index: 5 };
+
+const FREE: CostId = CostId { index: 6 };
+
+const OP: usize = 7;
+
+const WORD: WordId = WordId { index: OP };
+
+const TRUTH: BoolId = BoolId { index: OP };
+
+const COST: CostId = CostId { index: OP };
+
+// The first nodes of each graph: two scalars of the input and a hole, whether the scalars are not 0, bit 1 of the hole,
+// and a cost of 0.
+const FIRST: [Node; 7] = [
+    Node::InputWord(0),
+    Node::InputWord(1),
+    Node::HoleWord(0),
+    Node::InputBit(0),
+    Node::InputBit(1),
+    Node::HoleBit(0, 1),
+    Node::CostZero,
+];
+
+#[derive(Clone, Copy, PartialEq, Eq, Debug, Drop)]
+enum Kind {
+    Flag,
+    Word,
+    HighBit,
+    Not,
+    And,
+    Or,
+    Xor,
+    BoolMux,
+    Mux,
+    Add,
+    Sub,
+    Mul,
+    Div,
+    Rem,
+    Lt,
+    Eq,
+    Cost,
+}
+
+// Each kind of node, and a root that stands on it.
+const KINDS: &[(Kind, Node, Node)] = &[
+    (Kind::Flag, Node::Flag(true), Node::Xor(TRUTH, A)),
+    (Kind::Word, Node::Word(-2), Node::Eq(WORD, Z)),
+    (Kind::HighBit, Node::HoleBit(0, 32), Node::Or(TRUTH, C)),
+    (Kind::Not, Node::Not(A), Node::Xor(TRUTH, C)),
+    (Kind::And, Node::And(A, B), Node::Not(TRUTH)),
+    (Kind::Or, Node::Or(A, B), Node::Not(TRUTH)),
+    (Kind::Xor, Node::Xor(A, B), Node::Not(TRUTH)),
+    (Kind::BoolMux, Node::BoolMux(C, A, B), Node::Not(TRUTH)),
+    (Kind::Mux, Node::Mux(A, X, Y), Node::Eq(WORD, Z)),
+    (Kind::Add, Node::Add(X, Y), Node::Eq(WORD, Z)),
+    (Kind::Sub, Node::Sub(X, Y), Node::Eq(WORD, Z)),
+    (Kind::Mul, Node::Mul(X, Y), Node::Eq(WORD, Z)),
+    (Kind::Div, Node::Div(X, Y), Node::Eq(WORD, Z)),
+    (Kind::Rem, Node::Rem(X, Y), Node::Eq(WORD, Z)),
+    (Kind::Lt, Node::Lt(X, Y), Node::Not(TRUTH)),
+    (Kind::Eq, Node::Eq(X, Y), Node::Not(TRUTH)),
+    (Kind::Cost, Node::CostAdd(FREE, A, Y), Node::CostLe(COST, 1)),
+];
+
+// The table. Proofs see no row of it.
+fn kinds() -> &'static [(Kind, Node, Node)] {
+    KINDS
+}
+
+// The word with these bits, where there are so many words.
+fn signed(count: i64, bits: i64) -> i64 {
+    if bits >= count >> 1 {
+        bits.wrapping_sub(count)
+    } else {
+        bits
+    }
+}
+
+// Whether a number has these bits, where there are so many words.
+fn has_bits(count: i64, number: i64, bits: i64) -> bool {
+    (number ^ bits) & count.wrapping_sub(1) == 0
+}
+
+fn quotient(a: i64, b: i64) -> i64 {
+    if b == 0 { 0 } else { a.wrapping_div(b) }
+}
+
+fn remainder(a: i64, b: i64) -> i64 {
+    if b == 0 { 0 } else { a.wrapping_rem(b) }
+}
+
+// Whether the root is to be true, where these are the bits of the two scalars and of the hole.
+fn want(kind: Kind, count: i64, x: i64, y: i64, z: i64) -> bool {
+    let (m, n) = (signed(count, x), signed(count, y));
+    let (a, b, c) = (x != 0, y != 0, z >> 1 & 1 == 1);
+    match kind {
+        Kind::Flag => !a,
+        Kind::Word => has_bits(count, -2, z),
+        Kind::HighBit => c,
+        Kind::Not => !a != c,
+        Kind::And => !(a && b),
+        Kind::Or => !(a || b),
+        Kind::Xor => a == b,
+        Kind::BoolMux => if c { !a } else { !b },
+        Kind::Mux => z == if a { x } else { y },
+        Kind::Add => has_bits(count, m.wrapping_add(n), z),
+        Kind::Sub => has_bits(count, m.wrapping_sub(n), z),
+        Kind::Mul => has_bits(count, m.wrapping_mul(n), z),
+        Kind::Div => has_bits(count, quotient(m, n), z),
+        Kind::Rem => has_bits(count, remainder(m, n), z),
+        Kind::Lt => m >= n,
+        Kind::Eq => x != y,
+        Kind::Cost => !a || n <= 1,
+    }
+}
+
+// A leaf for each bit of the two scalars, and of the hole.
+fn three_words(alloc: Global, bits: u32) -> Result<List<Leaf>, AllocError> {
+    let mut leaves = List::new(alloc);
+    for k in 0..bits {
+        leaves.push(Leaf::Input { scalar: 0, k })?;
+    }
+    for k in 0..bits {
+        leaves.push(Leaf::Input { scalar: 1, k })?;
+    }
+    for k in 0..bits {
+        leaves.push(Leaf::Hole { site: 0, k })?;
+    }
+    Ok(leaves)
+}
+
+// The formula that says that the last node of a graph is true.
+fn formula_of(
+    rt: &impl Abort,
+    alloc: Global,
+    dag: &Dag,
+    leaves: &[Leaf],
+) -> Result<Encoded, AllocError> {
+    let root = BoolId {
+        index: dag.len().saturating_sub(1),
+    };
+    assert!(rt; has_bool(dag, root), "the last node is no truth value");
+    let distinct = are_distinct(alloc, leaves)?;
+    assert!(rt; distinct, "a leaf stands twice");
+    encode(alloc, dag, root, leaves)
+}
+
+// The graph of a node and a root that stands on it.
+fn kind_graph(
+    rt: &impl Abort,
+    alloc: Global,
+    bits: u32,
+    node: Node,
+    root: Node,
+) -> Result<Dag, AllocError> {
+    let mut dag = graph_of(rt, alloc, bits, &FIRST)?;
+    put(rt, &mut dag, node)?;
+    put(rt, &mut dag, root)?;
+    Ok(dag)
+}
+
+// The first bits at which the formula does not say what is wanted of words of so many bits.
+fn first_wrong(
+    alloc: Global,
+    formula: &Encoded,
+    kind: Kind,
+    bits: u32,
+) -> Result<Option<u64>, AllocError>
+    requires { bits ≤ 3 }
+{
+    let count = 1i64 << bits;
+    for assignment in 0..512u64 {
+        let all = assignment as i64;
+        let x = all & count.wrapping_sub(1);
+        let y = all >> bits & count.wrapping_sub(1);
+        let z = all >> (2 * bits) & count.wrapping_sub(1);
+        let wanted = want(kind, count, x, y, z);
+        if extends(alloc, formula, assignment)? != Some(wanted) {
+            return Ok(Some(assignment));
+        }
+    }
+    Ok(None)
+}
+
+#[test]
+fn each_kind_of_node_in_each_environment(rt: HostRuntime) -> Result<(), Fail> {
+    let alloc = rt.alloc();
+    for bits in 2..4u32 {
+        let leaves = three_words(alloc, bits)?;
+        for (kind, node, root) in kinds() {
+            let dag = kind_graph(&rt, alloc, bits, *node, *root)?;
+            let formula = formula_of(&rt, alloc, &dag, leaves.as_slice())?;
+            let wrong = first_wrong(alloc, &formula, *kind, bits)?;
+            assert_eq!(rt; wrong, None, "{kind:?} of {bits} bits");
+        }
+    }
+    Ok(())
+}
+
+// Two bits of the input and two of a hole: there is a hole that an input of 1 is below, and none where both are 2.
+#[test]
+fn an_input_below_a_hole(rt: HostRuntime) -> Result<(), Fail> {
+    let alloc = rt.alloc();
+    let nodes = [Node::InputWord(0), Node::HoleWord(0), Node::Lt(X, Y)];
+    let dag = graph_of(&rt, alloc, 8, &nodes)?;
+    let leaves = [
+        Leaf::Input { scalar: 0, k: 0 },
+        Leaf::Input { scalar: 0, k: 1 },
+        Leaf::Hole { site: 0, k: 0 },
+        Leaf::Hole { site: 0, k: 1 },
+    ];
+    let formula = formula_of(&rt, alloc, &dag, &leaves)?;
+    assert_eq!(rt; extends(alloc, &formula, 1 + 4 * 2)?, Some(true));
+    assert_eq!(rt; extends(alloc, &formula, 2 + 4 * 2)?, Some(false));
+    Ok(())
+}
+
+// ---- sizes
+
+const NINE: WordId = WordId { index: 2 };
+
+const TEN: WordId = WordId { index: 3 };
+
+const SOME: BoolId = BoolId { index: 4 };
+
+const MADE: WordId = WordId { index: 5 };
+
+// The first nodes of each graph of 16 bits: two scalars of the input, two numbers, and whether a scalar is not 0.
+const MEASURED: [Node; 5] = [
+    Node::InputWord(0),
+    Node::InputWord(1),
+    Node::Word(9),
+    Node::Word(10),
+    Node::InputBit(0),
+];
+
+// A node over two words of which 5 bits have leaves, a root that stands on it, and how many variables and clauses the
+// formula has: those that were counted apart.
+const SIZES: &[(Node, Node, usize, usize)] = &[
+    (Node::Add(X, Y), Node::Eq(MADE, NINE), 29, 71),
+    (Node::Mul(X, Y), Node::Eq(MADE, NINE), 99, 318),
+    (Node::Mul(X, TEN), Node::Eq(MADE, NINE), 22, 46),
+    (Node::Div(X, Y), Node::Eq(MADE, NINE), 87, 282),
+    (Node::Rem(X, Y), Node::Eq(MADE, NINE), 87, 282),
+    (Node::Mux(SOME, X, Y), Node::Eq(MADE, NINE), 23, 45),
+    (Node::Word(3), Node::Lt(X, Y), 20, 40),
+];
+
+// The table. Proofs see no row of it.
+fn sizes() -> &'static [(Node, Node, usize, usize)] {
+    SIZES
+}
+
+// A leaf for each of five bits of the two scalars.
+fn ten_leaves(alloc: Global) -> Result<List<Leaf>, AllocError> {
+    let mut leaves = List::new(alloc);
+    for k in 0..5u32 {
+        leaves.push(Leaf::Input { scalar: 0, k })?;
+    }
+    for k in 0..5u32 {
+        leaves.push(Leaf::Input { scalar: 1, k })?;
+    }
+    Ok(leaves)
+}
+
+#[test]
+fn sizes_of_formulas(rt: HostRuntime) -> Result<(), Fail> {
+    let alloc = rt.alloc();
+    let leaves = ten_leaves(alloc)?;
+    for (node, root, vars, clauses) in sizes() {
+        let mut dag = graph_of(&rt, alloc, 16, &MEASURED)?;
+        put(&rt, &mut dag, *node)?;
+        put(&rt, &mut dag, *root)?;
+        let formula = formula_of(&rt, alloc, &dag, leaves.as_slice())?;
+        assert_eq!(rt; formula.clauses.vars(), *vars, "variables of {node:?}");
+        assert_eq!(rt; formula.clauses.len(), *clauses, "clauses of {node:?}");
+    }
+    Ok(())
+}
+
+// Three words of which 5 bits have leaves, bit 0 of a hole, three additions to a cost of 0, and whether that is at most 9.
+const CHARGED: [Node; 9] = [
+    Node::InputWord(0),
+    Node::InputWord(1),
+    Node::InputWord(2),
+    Node::HoleBit(0, 0),
+    Node::CostZero,
+    Node::CostAdd(CostId { index: 4 }, A, X),
+    Node::CostAdd(CostId { index: 5 }, A, Y),
+    Node::CostAdd(FREE, A, Z),
+    Node::CostLe(COST, 9),
+];
+
+// Counted by hand. There are 16 leaves. Each addition keeps 5 bits where the bit is true: 5 variables and 15 clauses. The
+// first adds nothing to 0. The second has a half adder and four full ones, 14 and 55, and the third the same and a half
+// adder for the sixth bit: 16 and 62. The comparison has a gate for each of five bits: 5 and 15. One clause asks for it.
+#[test]
+fn size_of_three_additions_to_a_cost(rt: HostRuntime) -> Result<(), Fail> {
+    let alloc = rt.alloc();
+    let mut leaves = ten_leaves(alloc)?;
+    for k in 0..5u32 {
+        leaves.push(Leaf::Input { scalar: 2, k })?;
+    }
+    leaves.push(Leaf::Hole { site: 0, k: 0 })?;
+    let dag = graph_of(&rt, alloc, 16, &CHARGED)?;
+    let formula = formula_of(&rt, alloc, &dag, leaves.as_slice())?;
+    assert_eq!(rt; formula.clauses.vars(), 66);
+    assert_eq!(rt; formula.clauses.len(), 178);
+    Ok(())
+}

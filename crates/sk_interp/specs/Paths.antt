@@ -1,0 +1,44 @@
+-- Reading a part of an array in place: without a copy of the array.
+--
+-- An expression is steady where it leaves the state as it is, and fails, if it does, with the span of the statement that it
+-- stands in. A variable, a field of what an expression stands for, and an element by a steady index of such a thing, are
+-- paths: what a path gives is what stands where it names a location as a target.
+use Rattle.std.specs.Prelude.{◌≡◌, Bool, true, false, ℤ, List, [], ◌∷◌, Option, Some, None, option_and_then}
+use Rattle.sk_base.specs.declared.span.Span.{Span}
+use Rattle.sk_prog.specs.declared.value.Value.{Value}
+use Rattle.sk_prog.specs.declared.expr.BinOp.{BinOp}
+use Rattle.sk_prog.specs.declared.expr.BinOp.TheVariants as op
+use Rattle.sk_model.specs.Step.{State, Step, Goes, Fails, Skips, Comp, ◌>>=◌}
+use Rattle.sk_model.specs.Values.{element}
+use Rattle.sk_model.specs.Heap.{Location, read_root}
+use Rattle.sk_model.specs.Eval.{Does, or_fail}
+
+-- the part of a value that these indexes name from the outside in; none where an index is outside of its array
+abbrev pub part : List ℤ → Value → Option Value
+part [] v = Some v
+part (i ∷ is) v = option_and_then (part is) (element v i)
+
+-- what stands at a location; it fails where the reference is null, and where an index is outside of its array
+abbrev pub load : Span → Location → Comp Value
+load span location = read_root span location.root >>= (λ whole. or_fail span (part location.indexes whole))
+
+-- the step leaves this state, or fails with this span
+abbrev pub Keeps : {A : Type 0} → Span → State → Step A → Type 0
+Keeps span s (Goes a t) = t ≡ s
+Keeps span s (Fails at) = at ≡ span
+Keeps span s (Skips at) = ⊥
+
+abbrev pub IsSteady : Does → Type 0
+IsSteady d = (span : Span) (s : State) → Keeps span s (d.value span s)
+
+abbrev pub IsPath : Does → Type 0
+IsPath d = (span : Span) (s : State) → d.value span s ≡ (d.target span >>= load span) s
+
+-- the operators of arithmetic
+abbrev pub is_arithmetic : BinOp → Bool
+is_arithmetic op.Mul = true
+is_arithmetic op.Div = true
+is_arithmetic op.Rem = true
+is_arithmetic op.Add = true
+is_arithmetic op.Sub = true
+is_arithmetic _ = false
