@@ -1,5 +1,5 @@
 -- Codes, and the values of nodes for which they stand.
-use Rattle.std.proofs.Common.{◌≡◌, ℕ, zero, suc, ◌+◌, ◌<◌, ◌≤◌, Bool, true, false, not, ◌&&◌, List, [], ◌∷◌, Option, Some, None, length, map, slice_get, get_or, All, refl, sym, ap, subst, ◌∙◌, arith, if◌then◌else◌, nat_lt, nat_le, pos}
+use Rattle.std.proofs.Common.{◌≡◌, ℕ, zero, suc, Bool, true, false, not, List, [], ◌∷◌, Option, Some, None, slice_get, refl, sym, ap, subst, ◌∙◌, arith, if◌then◌else◌, nat_lt, nat_le, pos}
 use Rattle.std.proofs.lemmas.Option.{get_or_from_slice_get, none-some}
 use Rattle.std.proofs.lemmas.List.Elements.{All-head, All-tail}
 use Rattle.std.proofs.Math.ListN.{get_or-map}
@@ -8,17 +8,14 @@ use Rattle.sk_base.specs.Word.{half, signed}
 use Rattle.sk_clause.specs.Problem.{Problem}
 use Rattle.sk_dag.specs.declared.env.Env.{Env}
 use Rattle.sk_dag.specs.declared.value.Value.{Value}
-use Rattle.sk_dag.specs.declared.value.Value.TheVariants.{Bit as BitValue}
 use Rattle.sk_dag.specs.declared.node.Node.{Node}
 use Rattle.sk_dag.specs.declared.node.Node.TheVariants.{Flag, Word, HoleBit, HoleWord, InputBit, InputWord, Not, And, Or, Xor, BoolMux, Mux, Add, Sub, Mul, Div, Rem, Lt, Eq, CostZero, CostAdd, CostLe}
 use Rattle.sk_dag.specs.Eval.{value_of, value_at}
 use Rattle.sk_dag.specs.Reach.{children, Each}
-use Rattle.sk_gates.specs.Extension.{Adds}
 use Rattle.sk_gates.proofs.ExtensionLaws.{Adds-weaker, Adds-none, Continues-refl, Continues-trans, Continues-same, Continues-adds}
 use Rattle.sk_cnf.specs.declared.leaf.Leaf.{Leaf}
 use Rattle.sk_cnf.specs.declared.code.Code.{Code}
-use Rattle.sk_cnf.specs.Codes.{code_value, slot_value, coded_at, table_values, CodeFits, SlotFits, TableFits, Computes, IsCode}
-use Rattle.sk_cnf.specs.Leaves.{Says}
+use Rattle.sk_cnf.specs.Codes.{code_value, slot_value, coded_at, table_values, SlotFits, TableFits, Computes, IsCode}
 use Rattle.sk_base.proofs.Words.{half_pos}
 
 pub coded_from_computed : {w : ℕ} {leaves : List Leaf} {names : List ℕ} {codes : List (Option Code)} {node : Node} {old new : Problem} {code : Code} → Computes w codes node old new code → IsCode w leaves names codes node old new code

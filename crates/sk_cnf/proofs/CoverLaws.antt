@@ -8,13 +8,12 @@ use Rattle.sk_clause.specs.Meaning.{Meets}
 use Rattle.sk_clause.specs.Problem.{Problem}
 use Rattle.sk_dag.specs.declared.env.Env.{Env}
 use Rattle.sk_dag.specs.declared.node.Node.{Node}
-use Rattle.sk_dag.specs.Graph.{Graph, IsWellFormed}
+use Rattle.sk_dag.specs.Graph.{Graph}
 use Rattle.sk_dag.specs.Eval.{IsNode, value_of, value_at, graph_values}
-use Rattle.sk_dag.specs.Reach.{children, Each, IsMarked, IsClosed}
+use Rattle.sk_dag.specs.Reach.{children, IsMarked, IsClosed}
 use Rattle.sk_dag.proofs.EvalLemmas.{Grows-refl}
 use Rattle.sk_dag.proofs.ReachLemmas.{each_of, each_all, children_before}
-use Rattle.sk_gates.specs.Bits.{AreOver}
-use Rattle.sk_gates.specs.Extension.{Adds, Continues}
+use Rattle.sk_gates.specs.Extension.{Continues}
 use Rattle.sk_gates.proofs.ExtensionLaws.{Adds-none, Adds-then, Meets-left, Meets-right}
 use Rattle.sk_gates.proofs.BitLaws.{AreOver-later}
 use Rattle.sk_cnf.specs.declared.leaf.Leaf.{Leaf}

@@ -1,5 +1,5 @@
 -- Leaves none of which stands twice.
-use Rattle.std.proofs.Common.{◌≡◌, ℕ, zero, suc, ◌+◌, ◌<◌, Bool, true, false, not, List, [], ◌∷◌, ◌++◌, Some, length, take, slice_get, get_or, refl, sym, ap, subst, ◌∙◌, arith, ◌⊎◌, inl, inr, ⊎_elim, true≢false, if◌then◌else◌}
+use Rattle.std.proofs.Common.{◌≡◌, ℕ, zero, suc, ◌+◌, ◌<◌, Bool, true, false, not, List, [], ◌∷◌, ◌++◌, Some, length, take, slice_get, get_or, refl, sym, ap, subst, ◌∙◌, arith, ◌⊎◌, inl, inr, ⊎_elim, true≢false}
 use Rattle.std.specs.List.{list_any, Any}
 use Rattle.std.proofs.lemmas.List.Folds.{list_any_at, Any-from_list_any}
 use Rattle.std.proofs.lemmas.List.{take_more}
@@ -7,7 +7,7 @@ use Rattle.std.proofs.lemmas.Option.{none-some, same_Some, slice_get_within, sli
 use Rattle.indexmap.specs.IndexSet.{insert_key}
 use Rattle.sk_cnf.specs.declared.leaf.Leaf.{Leaf}
 use Rattle.sk_cnf.specs.Formula.{AreLeaves}
-use Rattle.sk_cnf.proofs.LeafEq.{equal_leaf, leaf_same, absent_leaf}
+use Rattle.sk_cnf.proofs.LeafEq.{equal_leaf, leaf_same}
 use Rattle.sk_cnf.specs.contracts.leaf.LeafPartialEq.TheImpl as leaf_eq
 
 -- an element of a front of a list

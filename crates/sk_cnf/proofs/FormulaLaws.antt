@@ -1,8 +1,6 @@
 -- Formulas to which the demand of one more root is added.
-use Rattle.std.proofs.Common.{◌≡◌, ℕ, zero, suc, ◌+◌, ◌<◌, ◌≤◌, Bool, true, false, List, [], ◌∷◌, ◌++◌, Some, length, map, slice_get, All, refl, sym, ap, subst, ◌∙◌, arith, ⊎_elim, inl, inr}
-use Rattle.std.proofs.lemmas.List.{append_assoc, length-map}
+use Rattle.std.proofs.Common.{◌≡◌, ℕ, ◌<◌, Bool, true, List, [], ◌∷◌, ◌++◌, length, map, slice_get, All, refl, sym, ap, subst, ◌∙◌, arith}
 use Rattle.std.proofs.lemmas.List.Elements.{All-append, All-cons, All-push, All-weaker, All-head, All-tail, All-nil}
-use Rattle.sk_clause.specs.declared.lit.Lit.{Lit}
 use Rattle.sk_clause.specs.Meaning.{Meets}
 use Rattle.sk_clause.specs.Problem.{Problem, AreWithin, IsWithin}
 use Rattle.sk_dag.specs.declared.env.Env.{Env}
@@ -16,7 +14,7 @@ use Rattle.sk_gates.specs.Extension.{AgreeBelow, Adds, Continues}
 use Rattle.sk_gates.proofs.ExtensionLaws.{Meets-append, Meets-left, Meets-right, Meets-same, AreWithin-later}
 use Rattle.sk_cnf.specs.declared.leaf.Leaf.{Leaf}
 use Rattle.sk_cnf.specs.declared.growing.Encoded.{Encoded}
-use Rattle.sk_cnf.specs.Formula.{Extends, Encodes, Tight, AreTrue, Means}
+use Rattle.sk_cnf.specs.Formula.{Extends, Tight, AreTrue, Means}
 use Rattle.sk_cnf.specs.Leaves.{Says, leaf_env}
 use Rattle.sk_cnf.specs.Standing.{Demands}
 use Rattle.sk_cnf.proofs.LeafLaws.{Says-leaf_env}

@@ -1,29 +1,26 @@
 -- Formulas that grow.
 use Rattle.std.proofs.Common.{◌≡◌, ℕ, zero, suc, ◌+◌, ◌<◌, ◌≤◌, Bool, true, false, not, ◌||◌, ◌&&◌, List, [], ◌∷◌, ◌++◌, Option, Some, None, length, map, slice_get, get_or, take, All, refl, sym, ap, subst, ◌∙◌, arith, ⊎_elim, inl, inr, true≢false, if◌then◌else◌}
 use Rattle.std.specs.List.{range_with_len}
-use Rattle.std.proofs.lemmas.List.{append-nil, length-map, length_push, get_or-map, ext_get_or}
-use Rattle.std.proofs.lemmas.List.FromFn.{length-range_with_len, get_or-range_with_len}
-use Rattle.std.proofs.lemmas.List.Elements.{All-nil, All-cons, All-push, Contains-push_cases}
-use Rattle.std.proofs.lemmas.Option.{none-some, same_Some, slice_get_within, slice_get-get_or, get_or_from_slice_get}
+use Rattle.std.proofs.lemmas.List.{append-nil, length_push}
+use Rattle.std.proofs.lemmas.List.FromFn.{length-range_with_len}
+use Rattle.std.proofs.lemmas.List.Elements.{All-nil, All-cons, Contains-push_cases}
+use Rattle.std.proofs.lemmas.Option.{none-some, same_Some, slice_get_within, slice_get-get_or}
 use Rattle.sk_clause.specs.declared.lit.Lit.{Lit}
 use Rattle.sk_clause.specs.Meaning.{Meets, lit_true, clause_true}
-use Rattle.sk_clause.specs.Problem.{Problem, AreWithin, IsWithin}
-use Rattle.sk_dag.specs.declared.env.Env.{Env}
-use Rattle.sk_dag.specs.declared.node.BoolId.{BoolId}
-use Rattle.sk_dag.specs.Graph.{Graph, Grows, HasBool}
-use Rattle.sk_dag.specs.Eval.{value_at, graph_values, bool_value}
+use Rattle.sk_clause.specs.Problem.{Problem, IsWithin}
+use Rattle.sk_dag.specs.Graph.{Graph, Grows}
+use Rattle.sk_dag.specs.Eval.{bool_value}
 use Rattle.sk_dag.proofs.EvalLemmas.{value_at-grows}
 use Rattle.sk_gates.specs.declared.bit.Bit.{Bit}
 use Rattle.sk_gates.specs.declared.bit.Bit.TheVariants.{Constant, Literal}
 use Rattle.sk_gates.specs.Bits.{bit_true}
-use Rattle.sk_gates.specs.Extension.{AgreeBelow}
-use Rattle.sk_gates.proofs.ExtensionLaws.{Meets-nil, both_true}
+use Rattle.sk_gates.proofs.ExtensionLaws.{Meets-nil}
 use Rattle.sk_cnf.specs.declared.leaf.Leaf.{Leaf}
 use Rattle.sk_cnf.specs.declared.code.Code.{Code}
 use Rattle.sk_cnf.specs.declared.growing.Encoded.{Encoded}
 use Rattle.sk_cnf.specs.Codes.{code_value, ShowsValues}
-use Rattle.sk_cnf.specs.Formula.{Extends, AreTrue, Means, Tight}
-use Rattle.sk_cnf.specs.Leaves.{Says, leaf_env}
+use Rattle.sk_cnf.specs.Formula.{Extends, Means, Tight}
+use Rattle.sk_cnf.specs.Leaves.{leaf_env}
 use Rattle.sk_cnf.specs.Standing.{Demands, IsNamed}
 
 -- ---- names

@@ -1,5 +1,5 @@
 -- The environment that leaves say.
-use Rattle.std.proofs.Common.{◌≡◌, ◌≢◌, ℕ, zero, suc, ◌+◌, ◌<◌, ◌≤◌, Bool, true, false, List, [], ◌∷◌, Option, Some, None, length, map, slice_index, get_or, refl, sym, ap, ◌∙◌, arith, ℤ, pos, ⊎_elim, nat_eq, nat_lt, not, ◌&&◌, ◌%◌, if◌then◌else◌}
+use Rattle.std.proofs.Common.{◌≡◌, ℕ, zero, suc, ◌<◌, ◌≤◌, Bool, true, false, List, [], ◌∷◌, None, length, map, slice_index, get_or, refl, sym, ap, ◌∙◌, arith, ℤ, pos, ⊎_elim, nat_eq, nat_lt, not, ◌&&◌, ◌%◌}
 use Rattle.std.specs.List.{range_with_len}
 use Rattle.std.specs.Prelude.{position}
 use Rattle.std.specs.List.{position_or_len}

@@ -1,15 +1,15 @@
 -- Arithmetic of words, on their bits as numbers.
-use Rattle.std.proofs.Common.{◌≡◌, ℕ, zero, suc, ◌+◌, ◌-◌, ◌*◌, ◌/◌, ◌%◌, ◌^◌, ◌<◌, ◌≤◌, Bool, true, false, not, refl, sym, ap, subst, ◌∙◌, arith, if◌then◌else◌, ltb, nat_lt, nat_eq, ℤ, pos, negsuc, neg_ℤ, ◌+ℤ◌, ◌-ℤ◌, ◌*ℤ◌, unsigned_abs, true≢false, ◌⊎◌, ⊎_elim}
+use Rattle.std.proofs.Common.{◌≡◌, ℕ, zero, suc, ◌+◌, ◌-◌, ◌*◌, ◌/◌, ◌%◌, ◌^◌, ◌<◌, ◌≤◌, Bool, true, false, not, refl, sym, ap, subst, ◌∙◌, arith, if◌then◌else◌, nat_lt, nat_eq, ℤ, pos, negsuc, neg_ℤ, ◌+ℤ◌, ◌-ℤ◌, ◌*ℤ◌, unsigned_abs, true≢false, ⊎_elim}
 use Rattle.std.proofs.lemmas.Int.{ints, int_rem_euclid_is}
 use Rattle.std.proofs.lemmas.Bool.{cases_lt}
 use Rattle.std.proofs.lemmas.Bool.Decides.{nat_tests, Decides-int_eq}
-use Rattle.std.proofs.Math.Nat.{mod-eq_of_lt, mod-lt, add-mod_right, min-eq_left, min-eq_right}
+use Rattle.std.proofs.Math.Nat.{mod-eq_of_lt, add-mod_right, min-eq_left, min-eq_right}
 use Rattle.std.proofs.Math.Pow.{pow_pos}
-use Rattle.std.specs.Prelude.{int_lt, int_div, int_rem, min, ◌&&◌}
+use Rattle.std.specs.Prelude.{int_div, int_rem, min, ◌&&◌}
 use Rattle.std.specs.Int.{int_rem_euclid}
 use Rattle.std.specs.Ordering.{int_eq}
 use Rattle.sk_base.specs.Word.{half, pattern, signed, wrapped, IsWord}
-use Rattle.sk_base.proofs.Words.{half_pos, pattern_below, pattern-add, pattern-signed, wrapped-word, IsWord-signed}
+use Rattle.sk_base.proofs.Words.{half_pos, pattern_below, pattern-add, pattern-signed, wrapped-word}
 use Rattle.sk_dag.specs.Word.{quotient, remainder}
 use Rattle.sk_dag.specs.Eval.{charge}
 use Rattle.sk_gates.specs.Bits.{differ}

@@ -1,5 +1,5 @@
 -- A formula that grows stands for one root more.
-use Rattle.std.proofs.Common.{◌≡◌, ℕ, ◌+◌, ◌<◌, ◌≤◌, Bool, List, [], ◌∷◌, ◌++◌, Option, Some, length, map, slice_get, All, Contains, refl, sym, ap, subst, ◌∙◌, arith}
+use Rattle.std.proofs.Common.{◌≡◌, ℕ, ◌≤◌, Bool, List, [], ◌∷◌, ◌++◌, Option, length, map, refl, sym, ap, subst, ◌∙◌, arith}
 use Rattle.std.proofs.lemmas.List.Elements.{All-nil, All-push, All-weaker}
 use Rattle.std.proofs.lemmas.List.{append-nil, append_assoc, length-take}
 use Rattle.std.proofs.lemmas.Option.{slice_get_within}
@@ -7,18 +7,16 @@ use Rattle.sk_clause.specs.Meaning.{Meets}
 use Rattle.sk_clause.specs.Problem.{Problem, IsWithin, AreWithin}
 use Rattle.sk_dag.specs.declared.env.Env.{Env}
 use Rattle.sk_dag.specs.declared.node.BoolId.{BoolId}
-use Rattle.sk_dag.specs.Graph.{Graph, Grows, HasBool, BoolSort}
-use Rattle.sk_dag.specs.Eval.{as_bool, bool_at, bool_value, value_at, graph_values}
+use Rattle.sk_dag.specs.Graph.{Graph, Grows, HasBool}
+use Rattle.sk_dag.specs.Eval.{as_bool, bool_at, bool_value}
 use Rattle.sk_dag.specs.Reach.{MarksReached}
 use Rattle.sk_dag.proofs.EvalLemmas.{HasSort-grows}
 use Rattle.sk_dag.proofs.ReachLemmas.{root_marked}
 use Rattle.sk_gates.specs.declared.bit.Bit.{Bit}
 use Rattle.sk_gates.specs.Bits.{bit_true}
 use Rattle.sk_gates.specs.Extension.{Continues}
-use Rattle.sk_gates.proofs.ExtensionLaws.{Continues-refl}
 use Rattle.sk_cnf.specs.declared.leaf.Leaf.{Leaf}
 use Rattle.sk_cnf.specs.declared.code.Code.{Code}
-use Rattle.sk_cnf.specs.declared.growing.Encoded.{Encoded}
 use Rattle.sk_cnf.specs.declared.growing.Growing.{Growing}
 use Rattle.sk_cnf.specs.Codes.{table_values, SlotFits, TableFits, ShowsValues, IsLonger}
 use Rattle.sk_cnf.specs.Formula.{IsEncoding, Means, Tight}

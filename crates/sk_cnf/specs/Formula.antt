@@ -1,5 +1,5 @@
 -- What it means that clauses, some of whose variables have names, encode a question; and that a graph's roots are true.
-use Rattle.std.specs.Prelude.{◌≡◌, ℕ, ◌<◌, ◌≤◌, ◌↔◌, Bool, true, List, Some, length, map, slice_get, All}
+use Rattle.std.specs.Prelude.{◌≡◌, ℕ, ◌<◌, ◌↔◌, Bool, true, List, Some, length, map, slice_get, All}
 use Rattle.sk_clause.specs.Meaning.{Meets}
 use Rattle.sk_dag.specs.declared.env.Env.{Env}
 use Rattle.sk_dag.specs.declared.node.BoolId.{BoolId}

@@ -1,11 +1,12 @@
 //! Small graphs, of which all environments are tried.
 
-ghost use Rattle.std.specs.Prelude.{◌≡◌, ◌≤◌, ℕ, [], IsTrue, IfOk};
+ghost use Rattle.std.specs.Prelude.{◌≡◌, ◌≤◌, ℕ, [], ◌∷◌, IsTrue, IfOk, List};
+ghost use Rattle.sk_dag.specs.declared.node.BoolId.{BoolId as BoolIdOf};
 ghost use Rattle.sk_cnf.specs.Standing.{Stands};
 ghost use Rattle.sk_base.specs.Word.{IsWord};
 ghost use Rattle.sk_dag.specs.Graph.{HasBool, HasWord, HasCost, MayFollow};
 
-use crate::{Encoded, Leaf, are_distinct, encode};
+use crate::{Encoded, Growing, Leaf, are_distinct, encode};
 use sk_base::{List, wrap};
 use sk_clause::Lit;
 use sk_dag::{BoolId, CostId, Dag, Node, WordId};
@@ -507,5 +508,86 @@ fn size_of_three_additions_to_a_cost(rt: HostRuntime) -> Result<(), Fail> {
     let formula = formula_of(&rt, alloc, &dag, leaves.as_slice())?;
     assert_eq!(rt; formula.clauses.vars(), 66);
     assert_eq!(rt; formula.clauses.len(), 178);
+    Ok(())
+}
+
+// ---- formulas that grow
+
+// A formula over names for the leaves, which says nothing yet.
+fn started(rt: &impl Abort, alloc: Global, leaves: &[Leaf]) -> Result<Growing, AllocError>
+    ensures { IfOk result (λ r. (w : ℕ) → Stands r (record { bits = w; nodes = [] }) []) }
+{
+    let distinct = are_distinct(alloc, leaves)?;
+    assert!(rt; distinct, "a leaf stands twice");
+    let growing = Growing::new(alloc, leaves)?;
+    Ok(growing)
+}
+
+// The formula of a first root.
+fn of_root(
+    rt: &impl Abort,
+    alloc: Global,
+    leaves: &[Leaf],
+    dag: &Dag,
+    root: BoolId,
+) -> Result<Growing, AllocError>
+    ensures { IfOk result (λ r. Stands r dag.now (root ∷ [])) }
+{
+    assert!(rt; has_bool(dag, root), "the root is no truth value");
+    let mut growing = started(rt, alloc, leaves)?;
+    growing.require(dag, root)?;
+    Ok(growing)
+}
+
+// The formula with a further root.
+fn with_root(
+    rt: &impl Abort,
+    growing: &mut Growing,
+    dag: &Dag,
+    root: BoolId,
+) -> Result<(), AllocError>
+    requires { (roots : List BoolIdOf) × Stands growing.old dag.now roots }
+{
+    assert!(rt; has_bool(dag, root), "the root is no truth value");
+    growing.require(dag, root)?;
+    Ok(())
+}
+
+// Whether bits of two inputs and of two holes extend exactly where the first number is below the second and, if `also`,
+// the second is not 3.
+fn says_so(alloc: Global, formula: &Encoded, also: bool) -> Result<bool, AllocError> {
+    for bits in 0..16u64 {
+        let (x, z) = (bits & 3, bits >> 2 & 3);
+        let wanted = x < z && (!also || z != 3);
+        let known = extends(alloc, formula, bits)?;
+        if known != Some(wanted) {
+            return Ok(false);
+        }
+    }
+    Ok(true)
+}
+
+#[test]
+fn roots_one_after_another(rt: HostRuntime) -> Result<(), Fail> {
+    let alloc = rt.alloc();
+    let nodes = [
+        Node::InputWord(0),
+        Node::HoleWord(0),
+        Node::Lt(X, Y),
+        Node::Word(3),
+        Node::Eq(Y, WordId { index: 3 }),
+        Node::Not(BoolId { index: 4 }),
+    ];
+    let dag = graph_of(&rt, alloc, 8, &nodes)?;
+    let leaves = [
+        Leaf::Input { scalar: 0, k: 0 },
+        Leaf::Input { scalar: 0, k: 1 },
+        Leaf::Hole { site: 0, k: 0 },
+        Leaf::Hole { site: 0, k: 1 },
+    ];
+    let mut growing = of_root(&rt, alloc, &leaves, &dag, BoolId { index: 2 })?;
+    assert!(rt; says_so(alloc, growing.encoded(), false)?, "the first root");
+    with_root(&rt, &mut growing, &dag, BoolId { index: 5 })?;
+    assert!(rt; says_so(alloc, growing.encoded(), true)?, "both roots");
     Ok(())
 }

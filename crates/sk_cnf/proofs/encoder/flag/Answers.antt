@@ -1,7 +1,6 @@
-use Rattle.std.proofs.Common.{◌≡◌, arith, refl}
+use Rattle.std.proofs.Common.{arith, refl}
 use Rattle.sk_dag.specs.Eval.{value_of}
-use Rattle.sk_dag.specs.declared.value.Value.TheVariants.{Bit as BitValue, Int as IntValue, Cost as CostValue}
-use Rattle.sk_gates.proofs.ExtensionLaws.{Adds-none, Adds-weaker}
+use Rattle.sk_gates.proofs.ExtensionLaws.{Adds-none}
 use Rattle.sk_cnf.proofs.encoder.flag.Goals as goal
 
 pub returns : goal.returns

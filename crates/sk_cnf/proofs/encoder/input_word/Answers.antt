@@ -1,8 +1,7 @@
-use Rattle.std.proofs.Common.{◌≡◌, ◌∙◌, ◌+◌, ◌^◌, ◌%◌, arith, ap, sym, length}
+use Rattle.std.proofs.Common.{◌∙◌, arith, ap, sym}
 use Rattle.sk_dag.specs.Eval.{value_of}
-use Rattle.sk_dag.specs.declared.value.Value.TheVariants.{Bit as BitValue, Int as IntValue, Cost as CostValue}
-use Rattle.sk_gates.proofs.ExtensionLaws.{Adds-none, Adds-weaker}
-use Rattle.std.proofs.Common.{pos}
+use Rattle.sk_dag.specs.declared.value.Value.TheVariants.{Int as IntValue}
+use Rattle.sk_gates.proofs.ExtensionLaws.{Adds-none}
 use Rattle.sk_base.specs.Word.{wrapped}
 use Rattle.sk_cnf.proofs.LeafLaws.{low_word}
 use Rattle.sk_cnf.proofs.encoder.input_word.Goals as goal

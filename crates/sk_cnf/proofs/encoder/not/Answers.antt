@@ -1,7 +1,7 @@
-use Rattle.std.proofs.Common.{◌≡◌, ◌∙◌, ◌+◌, ◌^◌, ◌%◌, arith, ap, sym, length}
+use Rattle.std.proofs.Common.{◌∙◌, arith, ap}
 use Rattle.sk_dag.specs.Eval.{value_of}
-use Rattle.sk_dag.specs.declared.value.Value.TheVariants.{Bit as BitValue, Int as IntValue, Cost as CostValue}
-use Rattle.sk_gates.proofs.ExtensionLaws.{Adds-none, Adds-weaker}
+use Rattle.sk_dag.specs.declared.value.Value.TheVariants.{Bit as BitValue}
+use Rattle.sk_gates.proofs.ExtensionLaws.{Adds-none}
 use Rattle.std.proofs.Common.{not}
 use Rattle.sk_cnf.proofs.encoder.not.Goals as goal
 

@@ -1,4 +1,4 @@
-use Rattle.std.proofs.Common.{◌≤◌, ◌+◌, ◌∷◌, [], false, refl, subst, arith}
+use Rattle.std.proofs.Common.{◌≤◌, ◌∷◌, [], refl, subst, arith}
 use Rattle.std.proofs.lemmas.Result.{on_ok_weaker}
 use Rattle.sk_gates.specs.Bits.{reach}
 use Rattle.sk_cnf.proofs.GrowingLaws.{Demands-never, Demands-literal}

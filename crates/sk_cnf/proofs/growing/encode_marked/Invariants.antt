@@ -1,4 +1,4 @@
-use Rattle.std.proofs.Common.{◌≡◌, ◌<◌, All, length}
+use Rattle.std.proofs.Common.{◌<◌, All}
 use Rattle.sk_gates.specs.Extension.{Continues}
 use Rattle.sk_cnf.specs.Standing.{Covers}
 use Rattle.sk_cnf.proofs.growing.encode_marked.Given as goal

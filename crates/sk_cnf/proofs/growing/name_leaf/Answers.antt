@@ -1,4 +1,4 @@
-use Rattle.std.proofs.Common.{◌≡◌, ◌∙◌, ◌++◌, ◌∷◌, [], sym, subst}
+use Rattle.std.proofs.Common.{◌∙◌, sym, subst}
 use Rattle.sk_cnf.specs.Standing.{IsNamed}
 use Rattle.sk_cnf.proofs.LeafEq.{absent_leaf}
 use Rattle.sk_cnf.proofs.DistinctLaws.{insert_new}

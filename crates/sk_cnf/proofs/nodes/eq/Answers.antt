@@ -1,14 +1,10 @@
-use Rattle.std.proofs.Common.{◌≡◌, ◌∙◌, ◌&&◌, ◌||◌, not, ap, sym, arith, length, if◌then◌else◌, ◌+ℤ◌, ◌-ℤ◌, ◌*ℤ◌}
-use Rattle.std.specs.Prelude.{int_lt}
-use Rattle.sk_base.specs.Word.{signed, wrapped}
-use Rattle.sk_dag.specs.Word.{quotient, remainder}
-use Rattle.sk_dag.specs.Eval.{value_of, charge}
-use Rattle.sk_dag.specs.declared.value.Value.TheVariants.{Bit as BitValue, Int as IntValue, Cost as CostValue}
-use Rattle.sk_gates.specs.Bits.{bit_true, differ, choose}
-use Rattle.sk_gates.specs.Words.{bits_word, is_less}
+use Rattle.std.proofs.Common.{◌∙◌, not, ap, sym, arith}
+use Rattle.sk_dag.specs.Eval.{value_of}
+use Rattle.sk_dag.specs.declared.value.Value.TheVariants.{Bit as BitValue}
+use Rattle.sk_gates.specs.Words.{bits_word}
 use Rattle.sk_gates.proofs.ExtensionLaws.{Adds-weaker}
 use Rattle.sk_gates.proofs.WordLaws.{bits_below}
-use Rattle.std.proofs.Common.{nat_eq, true, false, Bool, refl}
+use Rattle.std.proofs.Common.{nat_eq}
 use Rattle.std.specs.Ordering.{int_eq}
 use Rattle.sk_cnf.proofs.SignedLaws.{same_signed}
 use Rattle.sk_cnf.proofs.CodeLaws.{not_not}

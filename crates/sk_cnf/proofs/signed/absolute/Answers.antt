@@ -1,7 +1,7 @@
-use Rattle.std.proofs.Common.{◌≡◌, ◌∙◌, arith, ap, sym, length}
+use Rattle.std.proofs.Common.{length}
 use Rattle.sk_gates.specs.Words.{bits_word}
 use Rattle.sk_gates.specs.Bits.{bit_true}
-use Rattle.sk_gates.proofs.ExtensionLaws.{Adds-then, Adds-both, Adds-weaker}
+use Rattle.sk_gates.proofs.ExtensionLaws.{Adds-weaker}
 use Rattle.sk_gates.proofs.WordLaws.{bits_below}
 use Rattle.sk_cnf.proofs.SignedLaws.{absolute}
 use Rattle.sk_cnf.proofs.signed.absolute.Goals as goal

@@ -1,9 +1,9 @@
-use Rattle.std.proofs.Common.{◌≡◌, ◌<◌, ◌+◌, ◌*◌, ◌%◌, ◌^◌, ◌∙◌, arith, ap, sym, length, refl}
-use Rattle.sk_gates.specs.Words.{bits_word, digit}
+use Rattle.std.proofs.Common.{◌≡◌, ◌∙◌, length}
+use Rattle.sk_gates.specs.Words.{bits_word}
 use Rattle.sk_gates.specs.Bits.{bit_true}
-use Rattle.sk_gates.proofs.ExtensionLaws.{Adds-then, Adds-both, Adds-weaker, Continues-trans, Continues-adds, on_err}
+use Rattle.sk_gates.proofs.ExtensionLaws.{Adds-then, Adds-both, Continues-trans, Continues-adds, on_err}
 use Rattle.sk_gates.proofs.WordLaws.{bits_below}
-use Rattle.std.proofs.Common.{not, ◌&&◌}
+use Rattle.std.proofs.Common.{◌&&◌}
 use Rattle.sk_cnf.proofs.SignedLaws.{charged}
 use Rattle.sk_cnf.proofs.signed.charge.Goals as goal
 

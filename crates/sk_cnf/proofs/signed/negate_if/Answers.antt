@@ -1,7 +1,7 @@
-use Rattle.std.proofs.Common.{◌≡◌, ◌<◌, ◌+◌, ◌*◌, ◌%◌, ◌^◌, ◌∙◌, arith, ap, sym, length, refl}
-use Rattle.sk_gates.specs.Words.{bits_word, digit}
+use Rattle.std.proofs.Common.{◌^◌, length}
+use Rattle.sk_gates.specs.Words.{bits_word}
 use Rattle.sk_gates.specs.Bits.{bit_true}
-use Rattle.sk_gates.proofs.ExtensionLaws.{Adds-then, Adds-both, Adds-weaker}
+use Rattle.sk_gates.proofs.ExtensionLaws.{Adds-then}
 use Rattle.sk_gates.proofs.WordLaws.{bits_below}
 use Rattle.sk_cnf.proofs.SignedLaws.{negated}
 use Rattle.sk_cnf.proofs.signed.negate_if.Goals as goal

@@ -1,8 +1,8 @@
-use Rattle.std.proofs.Common.{◌≡◌, ◌≤◌, ◌*◌, ◌^◌, ◌%◌, ◌∙◌, arith, ap, pos, to_z, of_z, w64, unsigned_abs}
+use Rattle.std.proofs.Common.{◌≡◌, ◌*◌, ◌^◌, ◌%◌, ◌∙◌, arith, ap, pos, to_z, of_z, w64, unsigned_abs}
 use Rattle.std.proofs.lemmas.Int.{ints}
 use Rattle.std.specs.Int.{int_rem_euclid}
 use Rattle.sk_base.specs.Word.{half}
-use Rattle.sk_base.proofs.Words.{half_le, half_pos, pattern_below}
+use Rattle.sk_base.proofs.Words.{half_le, pattern_below}
 use Rattle.sk_cnf.proofs.SignedLaws.{doubled, rem_is}
 use Rattle.sk_cnf.proofs.signed.pattern_of.Goals as goal
 

@@ -1,10 +1,7 @@
-use Rattle.std.proofs.Common.{◌≡◌, ◌<◌, ◌+◌, ◌*◌, ◌%◌, ◌^◌, ◌∙◌, arith, ap, sym, length, refl}
-use Rattle.sk_gates.specs.Words.{bits_word, digit}
-use Rattle.sk_gates.specs.Bits.{bit_true}
-use Rattle.sk_gates.proofs.ExtensionLaws.{Adds-then, Adds-both, Adds-weaker, Continues-trans, Continues-adds, on_err}
+use Rattle.std.proofs.Common.{◌≡◌, ◌∙◌, ap, length}
+use Rattle.sk_gates.specs.Words.{bits_word}
+use Rattle.sk_gates.proofs.ExtensionLaws.{Adds-then, Adds-both, Continues-trans, Continues-adds, on_err}
 use Rattle.sk_gates.proofs.WordLaws.{bits_below}
-use Rattle.sk_base.specs.Word.{signed}
-use Rattle.sk_cnf.specs.Signed.{HasSign}
 use Rattle.sk_cnf.proofs.SignedLaws.{left_over}
 use Rattle.sk_cnf.proofs.signed.remainder_words.Goals as goal
 

@@ -1,0 +1,6 @@
+use Rattle.sk_dag.proofs.EvalLemmas.{Grows-refl}
+use Rattle.sk_cnf.proofs.tests.with_root.Goals as goal
+
+pub require-requires-clause-begun : goal.require-requires-clause-begun
+require-requires-clause-begun g c =
+    (c.args.dag.now, _, c.requires.1, Grows-refl c.args.dag.now)
