@@ -12,14 +12,15 @@ use Rattle.sk_dag.specs.declared.node.Node.{Node}
 use Rattle.sk_dag.specs.declared.node.Node.TheVariants.{Flag, Word, HoleBit, HoleWord, InputBit, InputWord, Not, And, Or, Xor, BoolMux, Mux, Add, Sub, Mul, Div, Rem, Lt, Eq, CostZero, CostAdd, CostLe}
 use Rattle.sk_dag.specs.Eval.{value_of, value_at}
 use Rattle.sk_dag.specs.Reach.{children, Each}
-use Rattle.sk_gates.proofs.ExtensionLaws.{Adds-weaker, Adds-none, Continues-refl, Continues-trans, Continues-same, Continues-adds}
+use Rattle.sk_gates.proofs.SharingLaws.{Builds-weaker}
+use Rattle.sk_gates.proofs.ExtensionLaws.{Continues-refl, Continues-trans, Continues-same, Continues-adds}
 use Rattle.sk_cnf.specs.declared.leaf.Leaf.{Leaf}
 use Rattle.sk_cnf.specs.declared.code.Code.{Code}
 use Rattle.sk_cnf.specs.Codes.{code_value, slot_value, coded_at, table_values, SlotFits, TableFits, Computes, IsCode}
 use Rattle.sk_base.proofs.Words.{half_pos}
 
 pub coded_from_computed : {w : ℕ} {leaves : List Leaf} {names : List ℕ} {codes : List (Option Code)} {node : Node} {old new : Problem} {code : Code} → Computes w codes node old new code → IsCode w leaves names codes node old new code
-coded_from_computed h = record { fits = h.fits; gate = Adds-weaker _ _ h.gate (λ v f e said. f e) }
+coded_from_computed h = record { fits = h.fits; gate = Builds-weaker _ _ h.gate (λ v f e said. f e) }
 
 pub ruleset coding = (coded_from_computed, Continues-refl)
 

@@ -14,7 +14,8 @@ use Rattle.sk_dag.specs.Reach.{children, IsMarked, IsClosed}
 use Rattle.sk_dag.proofs.EvalLemmas.{Grows-refl}
 use Rattle.sk_dag.proofs.ReachLemmas.{each_of, each_all, children_before}
 use Rattle.sk_gates.specs.Extension.{Continues}
-use Rattle.sk_gates.proofs.ExtensionLaws.{Adds-none, Adds-then, Meets-left, Meets-right}
+use Rattle.sk_gates.proofs.ExtensionLaws.{Meets-left, Meets-right}
+use Rattle.sk_gates.proofs.SharingLaws.{Builds-none, Builds-then}
 use Rattle.sk_gates.proofs.BitLaws.{AreOver-later}
 use Rattle.sk_cnf.specs.declared.leaf.Leaf.{Leaf}
 use Rattle.sk_cnf.specs.declared.code.Code.{Code}
@@ -83,7 +84,7 @@ pub Covers-start : (old : Problem) (g : Graph) (leaves : List Leaf) (names : Lis
 Covers-start old g leaves names marks codes long fits shows = record {
   long = long;
   fits = fits;
-  gate = Adds-none old (λ v. Meets v old.clauses → ShowsValues g leaves names codes v) shows;
+  gate = Builds-none old (ShowsValues g leaves names codes) shows;
   full = λ j h mark. absurd (omega (arith, h));
 }
 
@@ -131,7 +132,7 @@ module _ {old to new : Problem} {g : Graph} {leaves : List Leaf} {names : List �
   Covers-step within = record {
     long = length-set codes i (Some code) ∙ h.long;
     fits = All-set (SlotFits g.bits new.vars) codes i (Some code) k.fits (TableFits-later g.bits to.vars new.vars codes k.gate.vars h.fits);
-    gate = Adds-then _ _ _ h.gate k.gate (λ v before says met. shown v (before met) says);
+    gate = Builds-then _ _ _ h.gate k.gate shown;
     full = λ j l m. ⊎_elim
         (λ (b : j < i). coded_stays codes i j code (h.full j b m))
         (λ (b : i ≤ j). let e : i ≡ j = omega arith in subst (IsCoded (slice_set codes i (Some code))) e (coded_here codes i code within))

@@ -1,5 +1,6 @@
 -- A formula that grows stands for one root more.
-use Rattle.std.proofs.Common.{◌≡◌, ℕ, ◌≤◌, Bool, List, [], ◌∷◌, ◌++◌, Option, length, map, refl, sym, ap, subst, ◌∙◌, arith}
+use Rattle.std.proofs.Common.{◌≡◌, ℕ, ◌≤◌, Bool, List, [], ◌∷◌, ◌++◌, Option, length, map, refl, sym, ap, subst, ◌∙◌, arith, Result, Ok, Err}
+use Rattle.std.specs.Result.{OnOk, OnErr}
 use Rattle.std.proofs.lemmas.List.Elements.{All-nil, All-push, All-weaker}
 use Rattle.std.proofs.lemmas.List.{append-nil, append_assoc, length-take}
 use Rattle.std.proofs.lemmas.Option.{slice_get_within}
@@ -15,13 +16,15 @@ use Rattle.sk_dag.proofs.ReachLemmas.{root_marked}
 use Rattle.sk_gates.specs.declared.bit.Bit.{Bit}
 use Rattle.sk_gates.specs.Bits.{bit_true}
 use Rattle.sk_gates.specs.Extension.{Continues}
+use Rattle.sk_gates.specs.Sharing.{AreMade, Stands as StandsFor}
 use Rattle.sk_cnf.specs.declared.leaf.Leaf.{Leaf}
 use Rattle.sk_cnf.specs.declared.code.Code.{Code}
 use Rattle.sk_cnf.specs.declared.growing.Growing.{Growing}
 use Rattle.sk_cnf.specs.Codes.{table_values, SlotFits, TableFits, ShowsValues, IsLonger}
 use Rattle.sk_cnf.specs.Formula.{IsEncoding, Means, Tight}
 use Rattle.sk_cnf.specs.Leaves.{Says}
-use Rattle.sk_cnf.specs.Standing.{Begins, Covers, Demands, IsNamed, Shows, Stands, IsCoded}
+use Rattle.sk_cnf.specs.Standing.{Begins, Covers, Demands, Gains, IsNamed, Shows, Stands, IsCoded}
+use Rattle.sk_gates.proofs.ExtensionLaws.{Continues-adds}
 use Rattle.sk_cnf.proofs.CodeLaws.{value_of_slot}
 use Rattle.sk_cnf.proofs.CoverLaws.{Covers-start}
 use Rattle.sk_cnf.proofs.FormulaLaws.{Means-more, Means-grows, Means-continues, AreWithin-more, AreWithin-continues, Tight-more, met_old, met_added}
@@ -80,14 +83,15 @@ Covers-begun s g dag roots marks codes h grows long fits longer =
 
 -- what was added leaves the meaning as it was, and the table shows what it does
 pub Stands-refused : (s s' : Growing) (g dag : Graph) (roots : List BoolId) → Stands s g roots → Grows g dag → s'.leaves ≡ s.leaves → s'.encoded.names ≡ s.encoded.names → Continues s.encoded.clauses s'.encoded.clauses
-    → Shows dag s.leaves.keys s.encoded.names s'.encoded.clauses s'.codes → Stands s' dag roots
-Stands-refused s s' g dag roots h grows leaves names more shows = record {
+    → Shows dag s.leaves.keys s.encoded.names s'.encoded.clauses s'.codes → AreMade s'.encoded.clauses s'.made → Stands s' dag roots
+Stands-refused s s' g dag roots h grows leaves names more shows made = record {
   means =
       subst (λ l. Means s'.encoded l.keys dag roots) (sym leaves)
       (Means-continues s.encoded s'.encoded s.leaves.keys dag roots (Means-grows grows h.there h.means) h.within names more);
   there = All-weaker (HasBool g.nodes) (HasBool dag.nodes) (λ r k. HasSort-grows grows k) roots h.there;
   within = AreWithin-continues s.encoded s'.encoded s.leaves.keys dag roots (Means-grows grows h.there h.means) h.within names more;
   codes = subst (λ l. Shows dag l.keys s'.encoded.names s'.encoded.clauses s'.codes) (sym leaves) (subst (λ l. Shows dag s.leaves.keys l s'.encoded.clauses s'.codes) (sym names) shows);
+  made = made;
 }
 
 -- ---- with one root more
@@ -97,7 +101,8 @@ module _ (s s' : Growing) (g dag : Graph) (roots : List BoolId) (root : BoolId) 
     (there : HasBool dag.nodes root) (reached : MarksReached dag.nodes (root ∷ []) marks)
     (covers : Covers s.encoded.clauses dag s.leaves.keys s.encoded.names marks mid s'.codes (length dag.nodes))
     (demands : Demands mid s'.encoded.clauses bit)
-    (is : (w : ℕ) (v : ℕ → Bool) → bit_true v bit ≡ bool_at (table_values w v s'.codes) root) where
+    (is : (w : ℕ) (v : ℕ → Bool) → bit_true v bit ≡ bool_at (table_values w v s'.codes) root)
+    (made : AreMade s'.encoded.clauses s'.made) where
   coded : IsCoded s'.codes root.index
   coded = covers.full root.index (slice_get_within dag.nodes root.index there.node there.found) (root_marked dag.nodes (root ∷ []) marks reached root (0, omega arith, refl))
 
@@ -131,14 +136,41 @@ module _ (s s' : Growing) (g dag : Graph) (roots : List BoolId) (root : BoolId) 
     there = All-push (HasBool dag.nodes) roots root (All-weaker (HasBool g.nodes) (HasBool dag.nodes) (λ r k. HasSort-grows grows k) roots h.there) there;
     within = AreWithin-more s.encoded s'.encoded s.leaves.keys dag roots root mid _ bit grown h.within names covers.gate demands says;
     codes = subst (λ l. Shows dag l.keys s'.encoded.names s'.encoded.clauses s'.codes) (sym leaves) (subst (λ l. Shows dag s.leaves.keys l s'.encoded.clauses s'.codes) (sym names) shown);
+    made = made;
   }
 
   pub Tight-stays : Tight s.encoded → Tight s'.encoded
   Tight-stays = Tight-more s.encoded s'.encoded s.leaves.keys dag roots root mid _ bit grown h.within names covers.gate demands says
 
+-- ---- the same of what a root gains
+
+module _ (s s' : Growing) (g dag : Graph) (roots : List BoolId) (root : BoolId) (marks : List Bool)
+    (h : Stands s g roots) (grows : Grows g dag) (leaves : s'.leaves ≡ s.leaves) (names : s'.encoded.names ≡ s.encoded.names)
+    (there : HasBool dag.nodes root) (reached : MarksReached dag.nodes (root ∷ []) marks)
+    (gains : Gains s.encoded.clauses s'.encoded.clauses dag s.leaves.keys s.encoded.names marks s'.codes root)
+    (made : AreMade s'.encoded.clauses s'.made) where
+  pub Stands-gained : Stands s' dag (roots ++ root ∷ [])
+  Stands-gained = Stands-more s s' g dag roots root marks gains.mid gains.bit h grows leaves names there reached gains.covers gains.demands gains.value made
+
+  pub Tight-gained : Tight s.encoded → Tight s'.encoded
+  Tight-gained = Tight-stays s s' g dag roots root marks gains.mid gains.bit h grows leaves names there reached gains.covers gains.demands gains.value made
+
+pub Begins-gained : {old new : Problem} {g : Graph} {leaves : List Leaf} {names : List ℕ} {marks : List Bool} {codes : List (Option Code)} {root : BoolId} → Gains old new g leaves names marks codes root → Begins old new
+Begins-gained h = Begins-demanded (Continues-adds h.covers.gate) h.demands
+
+-- what follows from two things that hold after a refusal
+pub on_err_both : {T E P Q R : Type 0} (r : Result T E) → (P → Q → R) → OnErr r P → OnErr r Q → OnErr r R
+on_err_both (Ok x) f p q = tt
+on_err_both (Err e) f p q = f p q
+
+-- whether it is refused or not, clauses stand behind the old ones
+pub begins_either : {T E P : Type 0} {old new : Problem} (r : Result T E) → (P → Begins old new) → OnOk r P → OnErr r (Continues old new) → Begins old new
+begins_either (Ok x) f h k = f h
+begins_either (Err e) f h k = Begins-continues k
+
 -- a formula that only has names
-pub Stands-begun : (s : Growing) (leaves : List Leaf) (w : ℕ) → IsNamed s.encoded leaves → s.leaves.keys ≡ leaves → s.codes ≡ [] → Stands s (record { bits = w; nodes = [] }) []
-Stands-begun s leaves w h keys none = record {
+pub Stands-begun : (s : Growing) (leaves : List Leaf) (w : ℕ) → IsNamed s.encoded leaves → s.leaves.keys ≡ leaves → s.codes ≡ [] → s.made ≡ [] → Stands s (record { bits = w; nodes = [] }) []
+Stands-begun s leaves w h keys none nothing = record {
   means = subst (λ l. Means s.encoded l (record { bits = w; nodes = [] }) []) (sym keys) (Means-named s.encoded leaves w h);
   there = All-nil (HasBool []);
   within = subst (AreWithin s.encoded.clauses.vars) (sym h.none) (All-nil (IsWithin s.encoded.clauses.vars));
@@ -147,4 +179,5 @@ Stands-begun s leaves w h keys none = record {
     fits = subst (TableFits w s.encoded.clauses.vars) (sym none) (All-nil (SlotFits w s.encoded.clauses.vars));
     values = λ v m. ShowsValues-none (record { bits = w; nodes = [] }) s.leaves.keys s.encoded.names s.codes v none;
   };
+  made = subst (AreMade s.encoded.clauses) (sym nothing) (All-nil (λ e. StandsFor s.encoded.clauses e.0 e.1));
 }

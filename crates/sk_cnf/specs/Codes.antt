@@ -10,7 +10,7 @@ use Rattle.sk_dag.specs.Graph.{Graph}
 use Rattle.sk_dag.specs.Eval.{value_of, value_at, graph_values}
 use Rattle.sk_gates.specs.Bits.{bit_true, reach, AreOver}
 use Rattle.sk_gates.specs.Words.{bits_word}
-use Rattle.sk_gates.specs.Extension.{Adds}
+use Rattle.sk_gates.specs.Sharing.{Builds}
 use Rattle.sk_cnf.specs.declared.leaf.Leaf.{Leaf}
 use Rattle.sk_cnf.specs.declared.code.Code.{Code}
 use Rattle.sk_cnf.specs.declared.code.Code.TheVariants.{Truth, Word, Cost}
@@ -51,13 +51,13 @@ TableFits w vars codes = All (SlotFits w vars) codes
 -- The code stands for the value of an operator on what the codes in the table stand for: for this clauses were added.
 pub record Computes (w : ℕ) (codes : List (Option Code)) (node : Node) (old new : Problem) (code : Code) : Type 0 where
   pub fits : CodeFits w new.vars code
-  pub gate : Adds old new (λ v. (e : Env) → code_value w v code ≡ value_of w e (table_values w v codes) node)
+  pub gate : Builds old new (λ v. (e : Env) → code_value w v code ≡ value_of w e (table_values w v codes) node)
 
 -- The code stands for the value of the node, where those in the table stand for the values of the nodes before it: for
 -- this clauses were added.
 pub record IsCode (w : ℕ) (leaves : List Leaf) (names : List ℕ) (codes : List (Option Code)) (node : Node) (old new : Problem) (code : Code) : Type 0 where
   pub fits : CodeFits w new.vars code
-  pub gate : Adds old new (λ v. (e : Env) → Says leaves (map v names) e → code_value w v code ≡ value_of w e (table_values w v codes) node)
+  pub gate : Builds old new (λ v. (e : Env) → Says leaves (map v names) e → code_value w v code ≡ value_of w e (table_values w v codes) node)
 
 -- each code in the table stands for the value of its node, where the variables have these values
 pub record ShowsValues (g : Graph) (leaves : List Leaf) (names : List ℕ) (codes : List (Option Code)) (v : ℕ → Bool) : Type 0 where

@@ -5,16 +5,17 @@ use Rattle.sk_clause.specs.declared.lit.Lit.{Lit}
 use Rattle.sk_clause.specs.Meaning.{Meets}
 use Rattle.sk_clause.specs.Problem.{Problem, AreWithin}
 use Rattle.sk_dag.specs.declared.node.BoolId.{BoolId}
+use Rattle.sk_dag.specs.Eval.{bool_at}
 use Rattle.sk_dag.specs.Graph.{Graph, HasBool}
 use Rattle.sk_dag.specs.Reach.{IsMarked}
 use Rattle.sk_gates.specs.declared.bit.Bit.{Bit}
 use Rattle.sk_gates.specs.Bits.{bit_true}
-use Rattle.sk_gates.specs.Extension.{Adds}
+use Rattle.sk_gates.specs.Sharing.{AreMade, Builds}
 use Rattle.sk_cnf.specs.declared.leaf.Leaf.{Leaf}
 use Rattle.sk_cnf.specs.declared.code.Code.{Code}
 use Rattle.sk_cnf.specs.declared.growing.Encoded.{Encoded}
 use Rattle.sk_cnf.specs.declared.growing.Growing.{Growing}
-use Rattle.sk_cnf.specs.Codes.{TableFits, ShowsValues}
+use Rattle.sk_cnf.specs.Codes.{table_values, TableFits, ShowsValues}
 use Rattle.sk_cnf.specs.Formula.{Means}
 
 -- a code stands at this place of the table
@@ -26,7 +27,7 @@ IsCoded codes i = (code : Code) × (slice_get codes i ≡ Some (Some code))
 pub record Covers (old : Problem) (g : Graph) (leaves : List Leaf) (names : List ℕ) (marks : List Bool) (to : Problem) (codes : List (Option Code)) (i : ℕ) : Type 0 where
   pub long : length codes ≡ length g.nodes
   pub fits : TableFits g.bits to.vars codes
-  pub gate : Adds old to (λ v. Meets v old.clauses → ShowsValues g leaves names codes v)
+  pub gate : Builds old to (ShowsValues g leaves names codes)
   pub full : (j : ℕ) → j < i → IsMarked marks j → IsCoded codes j
 
 -- the added clauses are met exactly where the bit is true
@@ -55,10 +56,19 @@ pub record Shows (g : Graph) (leaves : List Leaf) (names : List ℕ) (to : Probl
   pub fits : TableFits g.bits to.vars codes
   pub values : (v : ℕ → Bool) → Meets v to.clauses → ShowsValues g leaves names codes v
 
--- The formula means that these roots of the graph are true, and where its clauses are met each code that it keeps stands
--- for the value of its node.
+-- The clauses of the nodes below a root were added, each once, and then that the root is true.
+pub record Gains (old new : Problem) (g : Graph) (leaves : List Leaf) (names : List ℕ) (marks : List Bool) (codes : List (Option Code)) (root : BoolId) : Type 0 where
+  pub mid : Problem
+  pub bit : Bit
+  pub covers : Covers old g leaves names marks mid codes (length g.nodes)
+  pub demands : Demands mid new bit
+  pub value : (w : ℕ) (v : ℕ → Bool) → bit_true v bit ≡ bool_at (table_values w v codes) root
+
+-- The formula means that these roots of the graph are true, where its clauses are met each code that it keeps stands
+-- for the value of its node, and so does each gate that it keeps for its bit.
 pub record Stands (s : Growing) (g : Graph) (roots : List BoolId) : Type 0 where
   pub means : Means s.encoded s.leaves.keys g roots
   pub there : All (HasBool g.nodes) roots
   pub within : AreWithin s.encoded.clauses.vars s.encoded.clauses.clauses
   pub codes : Shows g s.leaves.keys s.encoded.names s.encoded.clauses s.codes
+  pub made : AreMade s.encoded.clauses s.made

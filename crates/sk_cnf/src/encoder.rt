@@ -15,9 +15,8 @@ use crate::leaves::{leaf_literal, leaf_word};
 use crate::nodes;
 use crate::signed::{apart, given_word};
 use indexmap::IndexSet;
-use sk_clause::Clauses;
 use sk_dag::{BoolId, Node};
-use sk_gates::{Bit, zeros};
+use sk_gates::{Bit, SharedGates, zeros};
 use std::alloc::{AllocError, Global};
 
 // A truth value that is given.
@@ -88,7 +87,7 @@ fn input_word(
 #[tactic(auto, using(sk_gates::proofs::ExtensionLaws::growing))]
 fn input_bit(
     alloc: Global,
-    to: &mut Clauses,
+    to: &mut SharedGates,
     leaves: &IndexSet<Leaf>,
     names: &[usize],
     width: u32,
@@ -125,7 +124,7 @@ fn cost_zero(alloc: Global) -> Result<Code, AllocError>
 #[tactic(auto, using(crate::proofs::CodeLaws::coding))]
 pub fn encode_node(
     alloc: Global,
-    to: &mut Clauses,
+    to: &mut SharedGates,
     leaves: &IndexSet<Leaf>,
     names: &[usize],
     width: u32,

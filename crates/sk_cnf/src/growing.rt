@@ -9,7 +9,7 @@ ghost use Rattle.sk_gates.specs.Bits.{reach};
 ghost use Rattle.sk_gates.specs.Extension.{Continues};
 ghost use Rattle.sk_cnf.specs.Codes.{TableFits, IsLonger};
 ghost use Rattle.sk_cnf.specs.Formula.{AreLeaves, IsAbsent, IsEncoding, Tight};
-ghost use Rattle.sk_cnf.specs.Standing.{Begins, Covers, Demands, IsCoded, IsNamed, Shows, Stands};
+ghost use Rattle.sk_cnf.specs.Standing.{Begins, Covers, Demands, Gains, IsCoded, IsNamed, Shows, Stands};
 
 use crate::code::{Code, code_at, truth_of};
 use crate::encoder::encode_node;
@@ -18,7 +18,7 @@ use indexmap::IndexSet;
 use sk_base::List;
 use sk_clause::Clauses;
 use sk_dag::{BoolId, Dag};
-use sk_gates::Bit;
+use sk_gates::{Bit, Made, SharedGates};
 use std::alloc::{AllocError, Global};
 
 /// Clauses, some of whose variables have names.
@@ -37,6 +37,7 @@ pub struct Growing {
     leaves: IndexSet<Leaf>,
     encoded: Encoded,
     codes: List<Option<Code>>,
+    made: Made,
 }
 
 // Gives a leaf that has no name a new one.
@@ -103,7 +104,7 @@ fn is_wanted(marks: &[bool], codes: &List<Option<Code>>, i: usize) -> bool
 #[tactic(auto, using(sk_gates::proofs::ExtensionLaws::growing))]
 fn encode_place(
     alloc: Global,
-    to: &mut Clauses,
+    to: &mut SharedGates,
     leaves: &IndexSet<Leaf>,
     names: &[usize],
     codes: &mut List<Option<Code>>,
@@ -136,7 +137,7 @@ fn encode_place(
 #[tactic(auto, using(sk_gates::proofs::ExtensionLaws::growing))]
 fn encode_marked(
     alloc: Global,
-    to: &mut Clauses,
+    to: &mut SharedGates,
     leaves: &IndexSet<Leaf>,
     names: &[usize],
     codes: &mut List<Option<Code>>,
@@ -158,7 +159,7 @@ fn encode_marked(
 }
 
 // Adds what makes the bit true: nothing where it is so already.
-fn demand(to: &mut Clauses, bit: Bit) -> Result<(), AllocError>
+fn demand(to: &mut SharedGates, bit: Bit) -> Result<(), AllocError>
     requires { reach bit ≤ to.old.vars }
     ensures ok { OnOk result (Demands to.old to.new bit) }
     ensures err { OnErr result (to.new ≡ to.old) }
@@ -168,6 +169,32 @@ fn demand(to: &mut Clauses, bit: Bit) -> Result<(), AllocError>
         Bit::Constant(false) => to.push(&[]),
         Bit::Literal(lit) => to.push(&[lit]),
     }
+}
+
+// Adds that the root is true, with the nodes below it that have no code yet.
+#[tactic(auto, using(sk_gates::proofs::ExtensionLaws::growing))]
+fn add_root(
+    alloc: Global,
+    to: &mut SharedGates,
+    leaves: &IndexSet<Leaf>,
+    names: &[usize],
+    codes: &mut List<Option<Code>>,
+    dag: &Dag,
+    marks: &[bool],
+    root: BoolId,
+) -> Result<(), AllocError>
+    requires closed { IsClosed dag.now.nodes marks.now }
+    requires names { length names.now ≡ length leaves.now.keys }
+    requires within { All (λ x. x < to.old.vars) names.now }
+    requires covers { Covers to.old dag.now leaves.now.keys names.now marks.now to.old codes.old 0 }
+    ensures gains { OnOk result (Gains to.old to.new dag.now leaves.now.keys names.now marks.now codes.new root) }
+    ensures refused { OnErr result (Shows dag.now leaves.now.keys names.now to.new codes.new) }
+    ensures kept { OnErr result (Continues to.old to.new) }
+{
+    encode_marked(alloc, to, leaves, names, codes, dag, marks)?;
+    let bit = truth_of(codes.as_slice(), root);
+    demand(to, bit)?;
+    Ok(())
 }
 
 #[tactic(auto, using(crate::proofs::StandingLaws::beginning))]
@@ -187,6 +214,7 @@ impl Growing {
             leaves,
             encoded,
             codes: List::new(alloc),
+            made: Made::new(alloc),
         })
     }
 
@@ -208,18 +236,25 @@ impl Growing {
     {
         let marks = dag.reached(&[root])?;
         lengthen(&mut self.codes, dag.len())?;
-        encode_marked(
+        let none = Clauses::new(self.alloc);
+        let clauses = std::mem::replace(&mut self.encoded.clauses, none);
+        let nothing = Made::new(self.alloc);
+        let made = std::mem::replace(&mut self.made, nothing);
+        let mut gates = SharedGates::from_parts(clauses, made);
+        let ended = add_root(
             self.alloc,
-            &mut self.encoded.clauses,
+            &mut gates,
             &self.leaves,
             self.encoded.names.as_slice(),
             &mut self.codes,
             dag,
             marks.as_slice(),
-        )?;
-        let bit = truth_of(self.codes.as_slice(), root);
-        demand(&mut self.encoded.clauses, bit)?;
-        Ok(())
+            root,
+        );
+        let (clauses, made) = gates.into_parts();
+        self.encoded.clauses = clauses;
+        self.made = made;
+        ended
     }
 
     /// The formula, which has a name for each leaf in order.

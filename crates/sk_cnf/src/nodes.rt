@@ -11,15 +11,14 @@ use crate::signed::{
     add_words, apart, charge, constant, divide_words, multiply_words, remainder_words,
     subtract_words,
 };
-use sk_clause::Clauses;
 use sk_dag::{BoolId, CostId, WordId};
-use sk_gates::{and_bits, less_bits, mux_bits, mux_each, or_bits, xor_bits};
+use sk_gates::{SharedGates, less_bits, mux_each};
 use std::alloc::{AllocError, Global};
 
 // Both of two truth values.
 #[tactic(auto, using(sk_gates::proofs::ExtensionLaws::growing))]
 pub fn and(
-    to: &mut Clauses,
+    to: &mut SharedGates,
     width: usize,
     codes: &[Option<Code>],
     a: BoolId,
@@ -29,14 +28,14 @@ pub fn and(
     ensures code { IfOk result (Computes width codes.now (And a b) to.old to.new) }
     ensures err { OnErr result (Continues to.old to.new) }
 {
-    let r = and_bits(to, truth_of(codes, a), truth_of(codes, b))?;
+    let r = to.and(truth_of(codes, a), truth_of(codes, b))?;
     Ok(Code::Truth(r))
 }
 
 // One of two truth values, or both.
 #[tactic(auto, using(sk_gates::proofs::ExtensionLaws::growing))]
 pub fn or(
-    to: &mut Clauses,
+    to: &mut SharedGates,
     width: usize,
     codes: &[Option<Code>],
     a: BoolId,
@@ -46,14 +45,14 @@ pub fn or(
     ensures code { IfOk result (Computes width codes.now (Or a b) to.old to.new) }
     ensures err { OnErr result (Continues to.old to.new) }
 {
-    let r = or_bits(to, truth_of(codes, a), truth_of(codes, b))?;
+    let r = to.or(truth_of(codes, a), truth_of(codes, b))?;
     Ok(Code::Truth(r))
 }
 
 // One of two truth values, and not both.
 #[tactic(auto, using(sk_gates::proofs::ExtensionLaws::growing))]
 pub fn xor(
-    to: &mut Clauses,
+    to: &mut SharedGates,
     width: usize,
     codes: &[Option<Code>],
     a: BoolId,
@@ -63,14 +62,14 @@ pub fn xor(
     ensures code { IfOk result (Computes width codes.now (Xor a b) to.old to.new) }
     ensures err { OnErr result (Continues to.old to.new) }
 {
-    let r = xor_bits(to, truth_of(codes, a), truth_of(codes, b))?;
+    let r = to.xor(truth_of(codes, a), truth_of(codes, b))?;
     Ok(Code::Truth(r))
 }
 
 // The second truth value where the first is true, else the third.
 #[tactic(auto, using(sk_gates::proofs::ExtensionLaws::growing))]
 pub fn bool_mux(
-    to: &mut Clauses,
+    to: &mut SharedGates,
     width: usize,
     codes: &[Option<Code>],
     c: BoolId,
@@ -82,7 +81,7 @@ pub fn bool_mux(
     ensures err { OnErr result (Continues to.old to.new) }
 {
     let condition = truth_of(codes, c);
-    let r = mux_bits(to, condition, truth_of(codes, a), truth_of(codes, b))?;
+    let r = to.mux(condition, truth_of(codes, a), truth_of(codes, b))?;
     Ok(Code::Truth(r))
 }
 
@@ -90,7 +89,7 @@ pub fn bool_mux(
 #[tactic(auto, using(sk_gates::proofs::ExtensionLaws::growing))]
 pub fn mux(
     alloc: Global,
-    to: &mut Clauses,
+    to: &mut SharedGates,
     width: usize,
     codes: &[Option<Code>],
     c: BoolId,
@@ -114,7 +113,7 @@ pub fn mux(
 #[tactic(auto, using(sk_gates::proofs::ExtensionLaws::growing))]
 pub fn add(
     alloc: Global,
-    to: &mut Clauses,
+    to: &mut SharedGates,
     width: usize,
     codes: &[Option<Code>],
     a: WordId,
@@ -136,7 +135,7 @@ pub fn add(
 #[tactic(auto, using(sk_gates::proofs::ExtensionLaws::growing))]
 pub fn sub(
     alloc: Global,
-    to: &mut Clauses,
+    to: &mut SharedGates,
     width: usize,
     codes: &[Option<Code>],
     a: WordId,
@@ -158,7 +157,7 @@ pub fn sub(
 #[tactic(auto, using(sk_gates::proofs::ExtensionLaws::growing))]
 pub fn mul(
     alloc: Global,
-    to: &mut Clauses,
+    to: &mut SharedGates,
     width: usize,
     codes: &[Option<Code>],
     a: WordId,
@@ -180,7 +179,7 @@ pub fn mul(
 #[tactic(auto, using(sk_gates::proofs::ExtensionLaws::growing))]
 pub fn div(
     alloc: Global,
-    to: &mut Clauses,
+    to: &mut SharedGates,
     width: usize,
     codes: &[Option<Code>],
     a: WordId,
@@ -202,7 +201,7 @@ pub fn div(
 #[tactic(auto, using(sk_gates::proofs::ExtensionLaws::growing))]
 pub fn rem(
     alloc: Global,
-    to: &mut Clauses,
+    to: &mut SharedGates,
     width: usize,
     codes: &[Option<Code>],
     a: WordId,
@@ -223,7 +222,7 @@ pub fn rem(
 // Whether the first word is below the second.
 #[tactic(auto, using(sk_gates::proofs::ExtensionLaws::growing))]
 pub fn lt(
-    to: &mut Clauses,
+    to: &mut SharedGates,
     width: usize,
     codes: &[Option<Code>],
     a: WordId,
@@ -244,7 +243,7 @@ pub fn lt(
 // Whether two words are the same.
 #[tactic(auto, using(sk_gates::proofs::ExtensionLaws::growing))]
 pub fn eq(
-    to: &mut Clauses,
+    to: &mut SharedGates,
     width: usize,
     codes: &[Option<Code>],
     a: WordId,
@@ -266,7 +265,7 @@ pub fn eq(
 #[tactic(auto, using(sk_gates::proofs::ExtensionLaws::growing))]
 pub fn cost_add(
     alloc: Global,
-    to: &mut Clauses,
+    to: &mut SharedGates,
     width: usize,
     codes: &[Option<Code>],
     cost: CostId,
@@ -289,7 +288,7 @@ pub fn cost_add(
 #[tactic(auto, using(sk_gates::proofs::ExtensionLaws::growing))]
 pub fn cost_le(
     alloc: Global,
-    to: &mut Clauses,
+    to: &mut SharedGates,
     width: usize,
     codes: &[Option<Code>],
     cost: CostId,

@@ -5,16 +5,16 @@ ghost use Rattle.sk_base.specs.Word.{half, pattern, signed, wrapped, IsWord};
 ghost use Rattle.sk_dag.specs.Eval.{charge as charge_of};
 ghost use Rattle.sk_dag.specs.Word.{bit_of, quotient, remainder};
 ghost use Rattle.sk_gates.specs.Bits.{bit_true, reach, AreOver, differ};
-ghost use Rattle.sk_gates.specs.Extension.{Adds, Continues};
+ghost use Rattle.sk_gates.specs.Extension.{Continues};
+ghost use Rattle.sk_gates.specs.Sharing.{Builds};
 ghost use Rattle.sk_gates.specs.Words.{digit, bits_word, quotient_of, remainder_of};
 ghost use Rattle.sk_cnf.specs.Signed.{HasSign};
 ghost use Rattle.sk_gates.specs.declared.bit.Bit.TheVariants.{Constant};
 
 use sk_base::List;
-use sk_clause::Clauses;
 use sk_gates::{
-    Bit, add_bits, add_carry, and_bits, and_each, div_bits, mul_bits, mux_each, not_each, or_bits,
-    padded, xor_bits, zeros,
+    Bit, SharedGates, add_bits, add_carry, and_each, div_bits, mul_bits, mux_each, not_each,
+    padded, zeros,
 };
 use std::alloc::{AllocError, Global};
 
@@ -74,20 +74,20 @@ pub fn given_word(alloc: Global, value: i64, width: u32) -> Result<List<Bit>, Al
 
 // Whether two words are not the same.
 #[tactic(auto, using(sk_gates::proofs::ExtensionLaws::growing))]
-pub fn apart(to: &mut Clauses, a: &[Bit], b: &[Bit]) -> Result<Bit, AllocError>
+pub fn apart(to: &mut SharedGates, a: &[Bit], b: &[Bit]) -> Result<Bit, AllocError>
     requires lengths { length a.now ≡ length b.now }
     requires a { AreOver to.old.vars a.now }
     requires b { AreOver to.old.vars b.now }
     ensures within { IfOk result (λ r. reach r ≤ to.new.vars) }
-    ensures gate { IfOk result (λ r. Adds to.old to.new (λ v. bit_true v r ≡ not (nat_eq (bits_word v a.now) (bits_word v b.now)))) }
+    ensures gate { IfOk result (λ r. Builds to.old to.new (λ v. bit_true v r ≡ not (nat_eq (bits_word v a.now) (bits_word v b.now)))) }
     ensures err { OnErr result (Continues to.old to.new) }
 {
     let mut some = Bit::Constant(false);
     for i in 0..a.len() {
         let x = bit_at(a, i);
         let y = bit_at(b, i);
-        let here = xor_bits(to, x, y)?;
-        some = or_bits(to, some, here)?;
+        let here = to.xor(x, y)?;
+        some = to.or(some, here)?;
     }
     Ok(some)
 }
@@ -96,7 +96,7 @@ pub fn apart(to: &mut Clauses, a: &[Bit], b: &[Bit]) -> Result<Bit, AllocError>
 #[tactic(auto, using(sk_gates::proofs::ExtensionLaws::growing))]
 fn flip_each(
     alloc: Global,
-    to: &mut Clauses,
+    to: &mut SharedGates,
     bits: &[Bit],
     when: Bit,
 ) -> Result<List<Bit>, AllocError>
@@ -104,13 +104,13 @@ fn flip_each(
     requires when { reach when ≤ to.old.vars }
     ensures length { IfOk result (λ r. length r ≡ length bits.now) }
     ensures within { IfOk result (λ r. AreOver to.new.vars r) }
-    ensures gate { IfOk result (λ r. Adds to.old to.new (λ v. bits_word v r ≡ (if bit_true v when then 2 ^ length bits.now - 1 - bits_word v bits.now else bits_word v bits.now))) }
+    ensures gate { IfOk result (λ r. Builds to.old to.new (λ v. bits_word v r ≡ (if bit_true v when then 2 ^ length bits.now - 1 - bits_word v bits.now else bits_word v bits.now))) }
     ensures err { OnErr result (Continues to.old to.new) }
 {
     let mut flipped = List::new(alloc);
     for i in 0..bits.len() {
         let x = bit_at(bits, i);
-        let either = xor_bits(to, x, when)?;
+        let either = to.xor(x, when)?;
         flipped.push(either)?;
     }
     Ok(flipped)
@@ -120,7 +120,7 @@ fn flip_each(
 #[tactic(auto, using(sk_gates::proofs::ExtensionLaws::growing))]
 fn negate_if(
     alloc: Global,
-    to: &mut Clauses,
+    to: &mut SharedGates,
     bits: &[Bit],
     when: Bit,
 ) -> Result<List<Bit>, AllocError>
@@ -129,7 +129,7 @@ fn negate_if(
     requires when { reach when ≤ to.old.vars }
     ensures length { IfOk result (λ r. length r ≡ length bits.now) }
     ensures within { IfOk result (λ r. AreOver to.new.vars r) }
-    ensures gate { IfOk result (λ r. Adds to.old to.new (λ v. bits_word v r ≡ (if bit_true v when then (2 ^ length bits.now - bits_word v bits.now) % 2 ^ length bits.now else bits_word v bits.now))) }
+    ensures gate { IfOk result (λ r. Builds to.old to.new (λ v. bits_word v r ≡ (if bit_true v when then (2 ^ length bits.now - bits_word v bits.now) % 2 ^ length bits.now else bits_word v bits.now))) }
     ensures err { OnErr result (Continues to.old to.new) }
 {
     let flipped = flip_each(alloc, to, bits, when)?;
@@ -151,7 +151,7 @@ fn sign(bits: &[Bit]) -> Bit
 #[tactic(auto, using(sk_gates::proofs::ExtensionLaws::growing))]
 pub fn add_words(
     alloc: Global,
-    to: &mut Clauses,
+    to: &mut SharedGates,
     a: &[Bit],
     b: &[Bit],
 ) -> Result<List<Bit>, AllocError>
@@ -161,7 +161,7 @@ pub fn add_words(
     requires b { AreOver to.old.vars b.now }
     ensures length { IfOk result (λ r. length r ≡ length a.now) }
     ensures within { IfOk result (λ r. AreOver to.new.vars r) }
-    ensures gate { IfOk result (λ r. Adds to.old to.new (λ v.
+    ensures gate { IfOk result (λ r. Builds to.old to.new (λ v.
         signed (length a.now) (bits_word v r) ≡ wrapped (length a.now) (signed (length a.now) (bits_word v a.now) +ℤ signed (length a.now) (bits_word v b.now)))) }
     ensures err { OnErr result (Continues to.old to.new) }
 {
@@ -173,7 +173,7 @@ pub fn add_words(
 #[tactic(auto, using(sk_gates::proofs::ExtensionLaws::growing))]
 pub fn subtract_words(
     alloc: Global,
-    to: &mut Clauses,
+    to: &mut SharedGates,
     a: &[Bit],
     b: &[Bit],
 ) -> Result<List<Bit>, AllocError>
@@ -183,7 +183,7 @@ pub fn subtract_words(
     requires b { AreOver to.old.vars b.now }
     ensures length { IfOk result (λ r. length r ≡ length a.now) }
     ensures within { IfOk result (λ r. AreOver to.new.vars r) }
-    ensures gate { IfOk result (λ r. Adds to.old to.new (λ v.
+    ensures gate { IfOk result (λ r. Builds to.old to.new (λ v.
         signed (length a.now) (bits_word v r) ≡ wrapped (length a.now) (signed (length a.now) (bits_word v a.now) -ℤ signed (length a.now) (bits_word v b.now)))) }
     ensures err { OnErr result (Continues to.old to.new) }
 {
@@ -196,7 +196,7 @@ pub fn subtract_words(
 #[tactic(auto, using(sk_gates::proofs::ExtensionLaws::growing))]
 pub fn multiply_words(
     alloc: Global,
-    to: &mut Clauses,
+    to: &mut SharedGates,
     a: &[Bit],
     b: &[Bit],
 ) -> Result<List<Bit>, AllocError>
@@ -206,7 +206,7 @@ pub fn multiply_words(
     requires b { AreOver to.old.vars b.now }
     ensures length { IfOk result (λ r. length r ≡ length a.now) }
     ensures within { IfOk result (λ r. AreOver to.new.vars r) }
-    ensures gate { IfOk result (λ r. Adds to.old to.new (λ v.
+    ensures gate { IfOk result (λ r. Builds to.old to.new (λ v.
         signed (length a.now) (bits_word v r) ≡ wrapped (length a.now) (signed (length a.now) (bits_word v a.now) *ℤ signed (length a.now) (bits_word v b.now)))) }
     ensures err { OnErr result (Continues to.old to.new) }
 {
@@ -216,13 +216,17 @@ pub fn multiply_words(
 
 // The absolute value of a word, as a number from 0, and whether the word is negative.
 #[tactic(auto, using(sk_gates::proofs::ExtensionLaws::growing))]
-fn absolute(alloc: Global, to: &mut Clauses, bits: &[Bit]) -> Result<(List<Bit>, Bit), AllocError>
+fn absolute(
+    alloc: Global,
+    to: &mut SharedGates,
+    bits: &[Bit],
+) -> Result<(List<Bit>, Bit), AllocError>
     requires some { 1 ≤ length bits.now }
     requires bits { AreOver to.old.vars bits.now }
     ensures length { IfOk result (λ r. length r.0 ≡ length bits.now) }
     ensures within { IfOk result (λ r. AreOver to.new.vars r.0) }
     ensures sign_within { IfOk result (λ r. reach r.1 ≤ to.new.vars) }
-    ensures gate { IfOk result (λ r. Adds to.old to.new (λ v. HasSign (signed (length bits.now) (bits_word v bits.now)) (bit_true v r.1) (bits_word v r.0))) }
+    ensures gate { IfOk result (λ r. Builds to.old to.new (λ v. HasSign (signed (length bits.now) (bits_word v bits.now)) (bit_true v r.1) (bits_word v r.0))) }
     ensures err { OnErr result (Continues to.old to.new) }
 {
     let negative = sign(bits);
@@ -234,7 +238,7 @@ fn absolute(alloc: Global, to: &mut Clauses, bits: &[Bit]) -> Result<(List<Bit>,
 #[tactic(auto, using(sk_gates::proofs::ExtensionLaws::growing))]
 pub fn divide_words(
     alloc: Global,
-    to: &mut Clauses,
+    to: &mut SharedGates,
     a: &[Bit],
     b: &[Bit],
 ) -> Result<List<Bit>, AllocError>
@@ -244,14 +248,14 @@ pub fn divide_words(
     requires b { AreOver to.old.vars b.now }
     ensures length { IfOk result (λ r. length r ≡ length a.now) }
     ensures within { IfOk result (λ r. AreOver to.new.vars r) }
-    ensures gate { IfOk result (λ r. Adds to.old to.new (λ v.
+    ensures gate { IfOk result (λ r. Builds to.old to.new (λ v.
         signed (length a.now) (bits_word v r) ≡ quotient (length a.now) (signed (length a.now) (bits_word v a.now)) (signed (length a.now) (bits_word v b.now)))) }
     ensures err { OnErr result (Continues to.old to.new) }
 {
     let (dividend, first) = absolute(alloc, to, a)?;
     let (divisor, second) = absolute(alloc, to, b)?;
     let (whole, _) = div_bits(alloc, to, dividend.as_slice(), divisor.as_slice())?;
-    let negative = xor_bits(to, first, second)?;
+    let negative = to.xor(first, second)?;
     let r = negate_if(alloc, to, whole.as_slice(), negative)?;
     Ok(r)
 }
@@ -260,7 +264,7 @@ pub fn divide_words(
 #[tactic(auto, using(sk_gates::proofs::ExtensionLaws::growing))]
 pub fn remainder_words(
     alloc: Global,
-    to: &mut Clauses,
+    to: &mut SharedGates,
     a: &[Bit],
     b: &[Bit],
 ) -> Result<List<Bit>, AllocError>
@@ -270,7 +274,7 @@ pub fn remainder_words(
     requires b { AreOver to.old.vars b.now }
     ensures length { IfOk result (λ r. length r ≡ length a.now) }
     ensures within { IfOk result (λ r. AreOver to.new.vars r) }
-    ensures gate { IfOk result (λ r. Adds to.old to.new (λ v.
+    ensures gate { IfOk result (λ r. Builds to.old to.new (λ v.
         signed (length a.now) (bits_word v r) ≡ remainder (length a.now) (signed (length a.now) (bits_word v a.now)) (signed (length a.now) (bits_word v b.now)))) }
     ensures err { OnErr result (Continues to.old to.new) }
 {
@@ -285,7 +289,7 @@ pub fn remainder_words(
 #[tactic(auto, using(sk_gates::proofs::ExtensionLaws::growing))]
 pub fn charge(
     alloc: Global,
-    to: &mut Clauses,
+    to: &mut SharedGates,
     cost: &[Bit],
     when: Bit,
     amount: &[Bit],
@@ -298,11 +302,11 @@ pub fn charge(
     requires amount { AreOver to.old.vars amount.now }
     ensures length { IfOk result (λ r. length r ≡ 64) }
     ensures within { IfOk result (λ r. AreOver to.new.vars r) }
-    ensures gate { IfOk result (λ r. Adds to.old to.new (λ v.
+    ensures gate { IfOk result (λ r. Builds to.old to.new (λ v.
         bits_word v r ≡ charge_of (bits_word v cost.now) (bit_true v when) (signed (length amount.now) (bits_word v amount.now)))) }
     ensures err { OnErr result (Continues to.old to.new) }
 {
-    let counts = and_bits(to, when, sign(amount).negate())?;
+    let counts = to.and(when, sign(amount).negate())?;
     let more = and_each(alloc, to, amount, counts)?;
     let wide = padded(more, 64)?;
     let (sum, over) = add_carry(alloc, to, cost, wide.as_slice(), Bit::Constant(false))?;

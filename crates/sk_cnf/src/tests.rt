@@ -511,6 +511,26 @@ fn size_of_three_additions_to_a_cost(rt: HostRuntime) -> Result<(), Fail> {
     Ok(())
 }
 
+// The division is made once: 73 variables and 269 clauses. Each of the five bits is compared, which costs 1 and 4, and four
+// gates join what is apart, for 1 and 3 each.
+#[test]
+fn a_quotient_and_a_remainder_share_their_division(rt: HostRuntime) -> Result<(), Fail> {
+    let alloc = rt.alloc();
+    let nodes = [
+        Node::InputWord(0),
+        Node::InputWord(1),
+        Node::Div(X, Y),
+        Node::Rem(X, Y),
+        Node::Eq(Z, WordId { index: 3 }),
+    ];
+    let dag = graph_of(&rt, alloc, 16, &nodes)?;
+    let leaves = ten_leaves(alloc)?;
+    let formula = formula_of(&rt, alloc, &dag, leaves.as_slice())?;
+    assert_eq!(rt; formula.clauses.vars(), 10 + 73 + 5 + 4);
+    assert_eq!(rt; formula.clauses.len(), 269 + 20 + 12 + 1);
+    Ok(())
+}
+
 // ---- formulas that grow
 
 // A formula over names for the leaves, which says nothing yet.

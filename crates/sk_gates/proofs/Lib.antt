@@ -5,3 +5,6 @@ pub mod WordLaws
 pub mod EachLaws
 pub mod ProductLaws
 pub mod DivisionLaws
+pub mod GateEq
+pub mod TableLaws
+pub mod SharingLaws

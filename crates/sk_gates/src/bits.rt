@@ -1,8 +1,7 @@
-ghost use Rattle.std.specs.Prelude.{◌≡◌, ℕ, ◌+◌, ◌*◌, ◌≤◌, ◌<◌, Bool, ◌&&◌, ◌||◌, IfOk, OnErr};
+ghost use Rattle.std.specs.Prelude.{◌≡◌, ℕ, ◌≤◌, ◌<◌, Bool, ◌&&◌, ◌||◌, IfOk, OnErr};
 ghost use Rattle.sk_clause.specs.Meaning.{lit_true};
 ghost use Rattle.sk_gates.specs.Bits.{bit_true, reach, differ, choose};
 ghost use Rattle.sk_gates.specs.Extension.{Adds, Continues};
-ghost use Rattle.sk_gates.specs.Words.{digit};
 
 use crate::bit::Bit;
 use crate::fold::{Folded, fold_and, fold_xor};
@@ -119,37 +118,4 @@ pub fn mux_bits(to: &mut Clauses, c: Bit, a: Bit, b: Bit) -> Result<Bit, AllocEr
             Ok(r)
         }
     }
-}
-
-/// The lower digit of the sum of three bits: whether one or all three are true.
-#[tactic(auto, using(crate::proofs::ExtensionLaws::continuing))]
-pub fn sum_bit(to: &mut Clauses, a: Bit, b: Bit, c: Bit) -> Result<Bit, AllocError>
-    requires a { reach a ≤ to.old.vars }
-    requires b { reach b ≤ to.old.vars }
-    requires c { reach c ≤ to.old.vars }
-    ensures within { IfOk result (λ r. reach r ≤ to.new.vars) }
-    ensures gate { IfOk result (λ r. Adds to.old to.new (λ v. bit_true v r ≡ differ (differ (bit_true v a) (bit_true v b)) (bit_true v c))) }
-    ensures err { OnErr result (Continues to.old to.new) }
-{
-    let either = xor_bits(to, a, b)?;
-    let r = xor_bits(to, either, c)?;
-    Ok(r)
-}
-
-/// The sum of three bits: its digit, and the carry.
-#[tactic(auto, using(crate::proofs::ExtensionLaws::continuing))]
-pub fn full_adder(to: &mut Clauses, a: Bit, b: Bit, c: Bit) -> Result<(Bit, Bit), AllocError>
-    requires a { reach a ≤ to.old.vars }
-    requires b { reach b ≤ to.old.vars }
-    requires c { reach c ≤ to.old.vars }
-    ensures sum_within { IfOk result (λ r. reach r.0 ≤ to.new.vars) }
-    ensures carry_within { IfOk result (λ r. reach r.1 ≤ to.new.vars) }
-    ensures gate { IfOk result (λ r. Adds to.old to.new (λ v.
-        digit (bit_true v r.0) + 2 * digit (bit_true v r.1) ≡ digit (bit_true v a) + digit (bit_true v b) + digit (bit_true v c))) }
-    ensures err { OnErr result (Continues to.old to.new) }
-{
-    let either = xor_bits(to, a, b)?;
-    let sum = xor_bits(to, either, c)?;
-    let carry = mux_bits(to, either, c, a)?;
-    Ok((sum, carry))
 }

@@ -1,4 +1,4 @@
-ghost use Rattle.std.specs.Prelude.{◌≡◌, ℕ, ◌+◌, ◌<◌, ◌≤◌, Bool, length, map, IfOk, OnErr};
+ghost use Rattle.std.specs.Prelude.{◌≡◌, ℕ, ◌+◌, ◌<◌, ◌≤◌, ◌++◌, [], Bool, length, map, IfOk, OnOk, OnErr};
 ghost use Rattle.sk_clause.specs.Meaning.{lit_true};
 ghost use Rattle.sk_clause.specs.Problem.{IsWithin};
 ghost use Rattle.sk_gates.specs.Bits.{bit_true, reach, AreOver};
@@ -8,6 +8,7 @@ ghost use Rattle.sk_gates.specs.declared.bit.Bit.TheVariants.{Literal};
 
 use crate::bit::Bit;
 use crate::gate::known_gate;
+use crate::shared::SharedGates;
 use crate::words::bit_at;
 use sk_base::List;
 use sk_clause::{Clauses, Lit};
@@ -59,4 +60,42 @@ pub fn as_literals(alloc: Global, to: &mut Clauses, bits: &[Bit]) -> Result<List
         lits.push(lit)?;
     }
     Ok(lits)
+}
+
+// So many variables, and no clauses: gates are made there to be put behind other clauses.
+pub fn apart(alloc: Global, vars: usize) -> Result<SharedGates, AllocError>
+    ensures { IfOk result (λ r. r ≡ record { vars = vars; clauses = [] }) }
+{
+    let mut clauses = Clauses::new(alloc);
+    for _ in 0..vars {
+        clauses.fresh()?;
+    }
+    Ok(SharedGates::new(alloc, clauses))
+}
+
+// Makes variables up to this number.
+fn lengthen(to: &mut Clauses, vars: usize) -> Result<(), AllocError>
+    requires { to.old.vars ≤ vars }
+    ensures ok { OnOk result (to.new ≡ record to.old { vars = vars }) }
+    ensures err { OnErr result (Continues to.old to.new) }
+{
+    for _ in to.vars()..vars {
+        to.fresh()?;
+    }
+    Ok(())
+}
+
+// Puts clauses behind others. They were made over the same variables, where there were none.
+#[tactic(auto, using(crate::proofs::ExtensionLaws::growing))]
+pub fn append(to: &mut Clauses, more: &Clauses) -> Result<(), AllocError>
+    requires { Continues (record { vars = to.old.vars; clauses = [] }) more.now }
+    ensures vars { OnOk result (to.new.vars ≡ more.now.vars) }
+    ensures clauses { OnOk result (to.new.clauses ≡ to.old.clauses ++ more.now.clauses) }
+    ensures err { OnErr result (Continues to.old to.new) }
+{
+    lengthen(to, more.vars())?;
+    for i in 0..more.len() {
+        to.push(more.get(i))?;
+    }
+    Ok(())
 }

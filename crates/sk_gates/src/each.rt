@@ -1,13 +1,13 @@
 ghost use Rattle.std.specs.Prelude.{◌≡◌, ℕ, ◌+◌, ◌*◌, ◌^◌, ◌≤◌, ◌<◌, Bool, length, if◌then◌else◌, IfOk, OnErr};
 ghost use Rattle.sk_gates.specs.Bits.{bit_true, reach, AreOver};
-ghost use Rattle.sk_gates.specs.Extension.{Adds, Continues};
+ghost use Rattle.sk_gates.specs.Extension.{Continues};
+ghost use Rattle.sk_gates.specs.Sharing.{Builds};
 ghost use Rattle.sk_gates.specs.Words.{digit, bits_word};
 
 use crate::bit::Bit;
-use crate::bits::{and_bits, mux_bits};
+use crate::shared::SharedGates;
 use crate::words::bit_at;
 use sk_base::List;
-use sk_clause::Clauses;
 use std::alloc::{AllocError, Global};
 
 /// The same number in more bits: those above are false.
@@ -52,7 +52,7 @@ pub fn not_each(alloc: Global, bits: &[Bit]) -> Result<List<Bit>, AllocError>
 #[tactic(auto, using(crate::proofs::ExtensionLaws::growing))]
 pub fn and_each(
     alloc: Global,
-    to: &mut Clauses,
+    to: &mut SharedGates,
     bits: &[Bit],
     bit: Bit,
 ) -> Result<List<Bit>, AllocError>
@@ -60,13 +60,13 @@ pub fn and_each(
     requires bit { reach bit ≤ to.old.vars }
     ensures length { IfOk result (λ r. length r ≡ length bits.now) }
     ensures within { IfOk result (λ r. AreOver to.new.vars r) }
-    ensures gate { IfOk result (λ r. Adds to.old to.new (λ v. bits_word v r ≡ digit (bit_true v bit) * bits_word v bits.now)) }
+    ensures gate { IfOk result (λ r. Builds to.old to.new (λ v. bits_word v r ≡ digit (bit_true v bit) * bits_word v bits.now)) }
     ensures err { OnErr result (Continues to.old to.new) }
 {
     let mut kept = List::new(alloc);
     for i in 0..bits.len() {
         let x = bit_at(bits, i);
-        let both = and_bits(to, x, bit)?;
+        let both = to.and(x, bit)?;
         kept.push(both)?;
     }
     Ok(kept)
@@ -76,7 +76,7 @@ pub fn and_each(
 #[tactic(auto, using(crate::proofs::ExtensionLaws::growing))]
 pub fn mux_each(
     alloc: Global,
-    to: &mut Clauses,
+    to: &mut SharedGates,
     condition: Bit,
     a: &[Bit],
     b: &[Bit],
@@ -87,14 +87,14 @@ pub fn mux_each(
     requires b { AreOver to.old.vars b.now }
     ensures length { IfOk result (λ r. length r ≡ length a.now) }
     ensures within { IfOk result (λ r. AreOver to.new.vars r) }
-    ensures gate { IfOk result (λ r. Adds to.old to.new (λ v. bits_word v r ≡ (if bit_true v condition then bits_word v a.now else bits_word v b.now))) }
+    ensures gate { IfOk result (λ r. Builds to.old to.new (λ v. bits_word v r ≡ (if bit_true v condition then bits_word v a.now else bits_word v b.now))) }
     ensures err { OnErr result (Continues to.old to.new) }
 {
     let mut chosen = List::new(alloc);
     for i in 0..a.len() {
         let x = bit_at(a, i);
         let y = bit_at(b, i);
-        let either = mux_bits(to, condition, x, y)?;
+        let either = to.mux(condition, x, y)?;
         chosen.push(either)?;
     }
     Ok(chosen)

@@ -7,7 +7,7 @@ ghost use Rattle.sk_gates.specs.Words.{digit, word, is_less, quotient_of, remain
 
 use crate::bit::Bit;
 use crate::bits::{and_bits, mux_bits, xor_bits};
-use crate::convert::{as_bits, as_literals, literal};
+use crate::convert::{apart, append, as_bits, as_literals, literal};
 use crate::product::mul_bits;
 use crate::quotient::div_bits;
 use crate::words::{add_bits, less_bits};
@@ -84,7 +84,15 @@ pub fn adder(
 {
     let x = as_bits(alloc, a)?;
     let y = as_bits(alloc, b)?;
-    let sum = add_bits(alloc, to, x.as_slice(), y.as_slice(), Bit::Literal(carry))?;
+    let mut gates = apart(alloc, to.vars())?;
+    let sum = add_bits(
+        alloc,
+        &mut gates,
+        x.as_slice(),
+        y.as_slice(),
+        Bit::Literal(carry),
+    )?;
+    append(to, gates.clauses())?;
     let r = as_literals(alloc, to, sum.as_slice())?;
     Ok(r)
 }
@@ -110,7 +118,9 @@ pub fn less(
 {
     let x = as_bits(alloc, a)?;
     let y = as_bits(alloc, b)?;
-    let below = less_bits(to, x.as_slice(), y.as_slice(), signed)?;
+    let mut gates = apart(alloc, to.vars())?;
+    let below = less_bits(&mut gates, x.as_slice(), y.as_slice(), signed)?;
+    append(to, gates.clauses())?;
     let r = literal(to, below)?;
     Ok(r)
 }
@@ -135,7 +145,9 @@ pub fn multiplier(
 {
     let x = as_bits(alloc, a)?;
     let y = as_bits(alloc, b)?;
-    let product = mul_bits(alloc, to, x.as_slice(), y.as_slice())?;
+    let mut gates = apart(alloc, to.vars())?;
+    let product = mul_bits(alloc, &mut gates, x.as_slice(), y.as_slice())?;
+    append(to, gates.clauses())?;
     let r = as_literals(alloc, to, product.as_slice())?;
     Ok(r)
 }
@@ -164,7 +176,9 @@ pub fn divider(
 {
     let x = as_bits(alloc, a)?;
     let y = as_bits(alloc, b)?;
-    let (quotient, remainder) = div_bits(alloc, to, x.as_slice(), y.as_slice())?;
+    let mut gates = apart(alloc, to.vars())?;
+    let (quotient, remainder) = div_bits(alloc, &mut gates, x.as_slice(), y.as_slice())?;
+    append(to, gates.clauses())?;
     let q = as_literals(alloc, to, quotient.as_slice())?;
     let r = as_literals(alloc, to, remainder.as_slice())?;
     Ok((q, r))

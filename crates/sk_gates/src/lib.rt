@@ -9,17 +9,22 @@ mod each;
 mod fold;
 mod gate;
 mod gates;
+mod key;
 mod product;
 mod quotient;
+mod shared;
+#[cfg(test)]
+mod shared_tests;
+mod sharing;
 #[cfg(test)]
 mod tests;
 mod words;
 
 pub use bit::Bit;
-pub use bits::{and_bits, full_adder, mux_bits, or_bits, sum_bit, xor_bits};
 pub use convert::literal;
 pub use each::{and_each, mux_each, not_each, padded, zeros};
 pub use gates::{adder, and, divider, less, multiplier, mux, xor};
 pub use product::mul_bits;
 pub use quotient::{div_bits, subtract_bits};
+pub use shared::{Made, SharedGates};
 pub use words::{add_bits, add_carry, less_bits};

@@ -1,14 +1,14 @@
 ghost use Rattle.std.specs.Prelude.{◌≡◌, ℕ, ◌+◌, ◌-◌, ◌*◌, ◌%◌, ◌^◌, ◌≤◌, ◌<◌, Bool, length, take, IfOk, OnErr};
 ghost use Rattle.sk_gates.specs.Bits.{bit_true, reach, AreOver};
-ghost use Rattle.sk_gates.specs.Extension.{Adds, Continues};
+ghost use Rattle.sk_gates.specs.Extension.{Continues};
+ghost use Rattle.sk_gates.specs.Sharing.{Builds};
 ghost use Rattle.sk_gates.specs.Words.{digit, bits_word};
 
 use crate::bit::Bit;
-use crate::bits::and_bits;
 use crate::each::zeros;
+use crate::shared::SharedGates;
 use crate::words::{add_bits, bit_at};
 use sk_base::List;
-use sk_clause::Clauses;
 use std::alloc::{AllocError, Global};
 
 // One row of a product: the word, moved up by so many bits, where the bit is true, else 0. Bits that would stand above
@@ -16,7 +16,7 @@ use std::alloc::{AllocError, Global};
 #[tactic(auto, using(crate::proofs::ExtensionLaws::growing))]
 fn row(
     alloc: Global,
-    to: &mut Clauses,
+    to: &mut SharedGates,
     a: &[Bit],
     bit: Bit,
     shift: usize,
@@ -26,14 +26,14 @@ fn row(
     requires bit { reach bit ≤ to.old.vars }
     ensures length { IfOk result (λ r. length r ≡ length a.now) }
     ensures within { IfOk result (λ r. AreOver to.new.vars r) }
-    ensures gate { IfOk result (λ r. Adds to.old to.new (λ v.
+    ensures gate { IfOk result (λ r. Builds to.old to.new (λ v.
         bits_word v r ≡ 2 ^ shift * (digit (bit_true v bit) * bits_word v (take (length a.now - shift) a.now)))) }
     ensures err { OnErr result (Continues to.old to.new) }
 {
     let mut moved = zeros(alloc, shift)?;
     for i in 0..a.len() - shift {
         let x = bit_at(a, i);
-        let both = and_bits(to, x, bit)?;
+        let both = to.and(x, bit)?;
         moved.push(both)?;
     }
     Ok(moved)
@@ -41,14 +41,19 @@ fn row(
 
 // The sum of a row for each bit of b. The row of a constant 0 is 0, and to add it makes no variable.
 #[tactic(auto, using(crate::proofs::ExtensionLaws::growing))]
-fn add_rows(alloc: Global, to: &mut Clauses, a: &[Bit], b: &[Bit]) -> Result<List<Bit>, AllocError>
+fn add_rows(
+    alloc: Global,
+    to: &mut SharedGates,
+    a: &[Bit],
+    b: &[Bit],
+) -> Result<List<Bit>, AllocError>
     requires some { 1 ≤ length a.now }
     requires lengths { length a.now ≡ length b.now }
     requires a { AreOver to.old.vars a.now }
     requires b { AreOver to.old.vars b.now }
     ensures length { IfOk result (λ r. length r ≡ length a.now) }
     ensures within { IfOk result (λ r. AreOver to.new.vars r) }
-    ensures gate { IfOk result (λ r. Adds to.old to.new (λ v. bits_word v r ≡ (bits_word v a.now * bits_word v b.now) % 2 ^ length a.now)) }
+    ensures gate { IfOk result (λ r. Builds to.old to.new (λ v. bits_word v r ≡ (bits_word v a.now * bits_word v b.now) % 2 ^ length a.now)) }
     ensures err { OnErr result (Continues to.old to.new) }
 {
     let mut sum = zeros(alloc, a.len())?;
@@ -83,7 +88,7 @@ fn literals(bits: &[Bit]) -> usize {
 #[tactic(auto, using(crate::proofs::ExtensionLaws::growing))]
 pub fn mul_bits(
     alloc: Global,
-    to: &mut Clauses,
+    to: &mut SharedGates,
     a: &[Bit],
     b: &[Bit],
 ) -> Result<List<Bit>, AllocError>
@@ -93,7 +98,7 @@ pub fn mul_bits(
     requires b { AreOver to.old.vars b.now }
     ensures length { IfOk result (λ r. length r ≡ length a.now) }
     ensures within { IfOk result (λ r. AreOver to.new.vars r) }
-    ensures gate { IfOk result (λ r. Adds to.old to.new (λ v. bits_word v r ≡ (bits_word v a.now * bits_word v b.now) % 2 ^ length a.now)) }
+    ensures gate { IfOk result (λ r. Builds to.old to.new (λ v. bits_word v r ≡ (bits_word v a.now * bits_word v b.now) % 2 ^ length a.now)) }
     ensures err { OnErr result (Continues to.old to.new) }
 {
     if literals(a) < literals(b) {

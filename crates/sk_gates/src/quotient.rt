@@ -1,16 +1,16 @@
 ghost use Rattle.std.specs.Prelude.{◌≡◌, ℕ, ◌+◌, ◌-◌, ◌*◌, ◌^◌, ◌≤◌, ◌<◌, Bool, false, length, take, min, slice_index_or, IsTrue, IfOk, OnErr};
 ghost use Rattle.sk_gates.specs.Bits.{bit_true, reach, AreOver};
-ghost use Rattle.sk_gates.specs.Extension.{Adds, Continues};
+ghost use Rattle.sk_gates.specs.Extension.{Continues};
+ghost use Rattle.sk_gates.specs.Sharing.{Builds};
 ghost use Rattle.sk_gates.specs.Words.{digit, bits_word, quotient_of, remainder_of};
 ghost use Rattle.sk_gates.specs.Division.{AreTops, IsDivided};
 ghost use Rattle.sk_gates.specs.declared.bit.Bit.TheVariants.{Constant};
 
 use crate::bit::Bit;
-use crate::bits::{and_bits, or_bits};
 use crate::each::{and_each, mux_each, not_each, padded, zeros};
+use crate::shared::SharedGates;
 use crate::words::{add_carry, bit_at, lowest};
 use sk_base::List;
-use sk_clause::Clauses;
 use std::alloc::{AllocError, Global};
 
 /// The difference of two words, of their length, and whether the second is at most the first. Where it is not, the
@@ -18,7 +18,7 @@ use std::alloc::{AllocError, Global};
 #[tactic(auto, using(crate::proofs::ExtensionLaws::growing))]
 pub fn subtract_bits(
     alloc: Global,
-    to: &mut Clauses,
+    to: &mut SharedGates,
     a: &[Bit],
     b: &[Bit],
 ) -> Result<(List<Bit>, Bit), AllocError>
@@ -28,7 +28,7 @@ pub fn subtract_bits(
     ensures length { IfOk result (λ r. length r.0 ≡ length a.now) }
     ensures difference_within { IfOk result (λ r. AreOver to.new.vars r.0) }
     ensures fits_within { IfOk result (λ r. reach r.1 ≤ to.new.vars) }
-    ensures gate { IfOk result (λ r. Adds to.old to.new (λ v.
+    ensures gate { IfOk result (λ r. Builds to.old to.new (λ v.
         bits_word v r.0 + 2 ^ length a.now * digit (bit_true v r.1) + bits_word v b.now ≡ bits_word v a.now + 2 ^ length a.now)) }
     ensures err { OnErr result (Continues to.old to.new) }
 {
@@ -39,11 +39,11 @@ pub fn subtract_bits(
 
 // For each j up to the length whether the j highest bits are all false.
 #[tactic(auto, using(crate::proofs::ExtensionLaws::growing))]
-fn tops_of(alloc: Global, to: &mut Clauses, bits: &[Bit]) -> Result<List<Bit>, AllocError>
+fn tops_of(alloc: Global, to: &mut SharedGates, bits: &[Bit]) -> Result<List<Bit>, AllocError>
     requires { AreOver to.old.vars bits.now }
     ensures length { IfOk result (λ r. length r ≡ length bits.now + 1) }
     ensures within { IfOk result (λ r. AreOver to.new.vars r) }
-    ensures gate { IfOk result (λ r. Adds to.old to.new (λ v. AreTops v bits.now r)) }
+    ensures gate { IfOk result (λ r. Builds to.old to.new (λ v. AreTops v bits.now r)) }
     ensures err { OnErr result (Continues to.old to.new) }
 {
     let mut tops = List::new(alloc);
@@ -51,7 +51,7 @@ fn tops_of(alloc: Global, to: &mut Clauses, bits: &[Bit]) -> Result<List<Bit>, A
     tops.push(clear)?;
     for k in 0..bits.len() {
         let x = bit_at(bits, bits.len() - 1 - k);
-        let more = and_bits(to, clear, x.negate())?;
+        let more = to.and(clear, x.negate())?;
         tops.push(more)?;
         clear = more;
     }
@@ -106,7 +106,7 @@ fn is_false(bit: Bit) -> bool
 #[tactic(auto, using(crate::proofs::ExtensionLaws::growing))]
 fn divide_step(
     alloc: Global,
-    to: &mut Clauses,
+    to: &mut SharedGates,
     next: Bit,
     left: &[Bit],
     divisor: &[Bit],
@@ -122,7 +122,7 @@ fn divide_step(
     ensures one { IfOk result (λ r. length r.1 ≤ length left.now + 1) }
     ensures digit_within { IfOk result (λ r. reach r.0 ≤ to.new.vars) }
     ensures left_within { IfOk result (λ r. AreOver to.new.vars r.1) }
-    ensures gate { IfOk result (λ r. Adds to.old to.new (λ v. AreTops v divisor.now tops.now → bits_word v left.now < bits_word v divisor.now
+    ensures gate { IfOk result (λ r. Builds to.old to.new (λ v. AreTops v divisor.now tops.now → bits_word v left.now < bits_word v divisor.now
         → IsDivided (digit (bit_true v next) + 2 * bits_word v left.now) (bits_word v divisor.now) (digit (bit_true v r.0)) (bits_word v r.1))) }
     ensures err { OnErr result (Continues to.old to.new) }
 {
@@ -137,8 +137,8 @@ fn divide_step(
     let lower = lowest(divisor, low);
     let (difference, fits) = subtract_bits(alloc, to, from, lower)?;
     let over = bit_or_false(taken.as_slice(), low);
-    let enough = or_bits(to, fits, over)?;
-    let digit = and_bits(to, enough, clear)?;
+    let enough = to.or(fits, over)?;
+    let digit = to.and(enough, clear)?;
     let rest = mux_each(alloc, to, digit, difference.as_slice(), from)?;
     Ok((digit, rest))
 }
@@ -147,7 +147,7 @@ fn divide_step(
 #[tactic(auto, using(crate::proofs::ExtensionLaws::growing))]
 fn divide(
     alloc: Global,
-    to: &mut Clauses,
+    to: &mut SharedGates,
     a: &[Bit],
     divisor: &[Bit],
     tops: &[Bit],
@@ -160,7 +160,7 @@ fn divide(
     ensures left_length { IfOk result (λ r. length r.1 ≤ length a.now) }
     ensures quotient_within { IfOk result (λ r. AreOver to.new.vars r.0) }
     ensures left_within { IfOk result (λ r. AreOver to.new.vars r.1) }
-    ensures gate { IfOk result (λ r. Adds to.old to.new (λ v. AreTops v divisor.now tops.now → 1 ≤ bits_word v divisor.now
+    ensures gate { IfOk result (λ r. Builds to.old to.new (λ v. AreTops v divisor.now tops.now → 1 ≤ bits_word v divisor.now
         → IsDivided (bits_word v a.now) (bits_word v divisor.now) (bits_word v r.0) (bits_word v r.1))) }
     ensures err { OnErr result (Continues to.old to.new) }
 {
@@ -209,7 +209,7 @@ fn trimmed(bits: &[Bit]) -> &[Bit]
 #[tactic(auto, using(crate::proofs::ExtensionLaws::growing))]
 pub fn div_bits(
     alloc: Global,
-    to: &mut Clauses,
+    to: &mut SharedGates,
     a: &[Bit],
     b: &[Bit],
 ) -> Result<(List<Bit>, List<Bit>), AllocError>
@@ -220,7 +220,7 @@ pub fn div_bits(
     ensures remainder_length { IfOk result (λ r. length r.1 ≡ length a.now) }
     ensures quotient_within { IfOk result (λ r. AreOver to.new.vars r.0) }
     ensures remainder_within { IfOk result (λ r. AreOver to.new.vars r.1) }
-    ensures gate { IfOk result (λ r. Adds to.old to.new (λ v.
+    ensures gate { IfOk result (λ r. Builds to.old to.new (λ v.
         (bits_word v r.0 ≡ quotient_of (bits_word v a.now) (bits_word v b.now)) × (bits_word v r.1 ≡ remainder_of (bits_word v a.now) (bits_word v b.now)))) }
     ensures err { OnErr result (Continues to.old to.new) }
 {

@@ -3,8 +3,8 @@ ghost use Rattle.sk_clause.specs.Problem.{IsWithin};
 ghost use Rattle.sk_gates.specs.Bits.{AreOver, reach};
 
 use crate::{
-    Bit, add_bits, adder, and, div_bits, divider, less, mul_bits, multiplier, mux, mux_each,
-    padded, xor,
+    Bit, SharedGates, add_bits, adder, and, div_bits, divider, less, mul_bits, multiplier, mux,
+    mux_each, padded, xor,
 };
 use sk_base::List;
 use sk_clause::{Clauses, Lit};
@@ -361,7 +361,7 @@ fn size(to: &Clauses) -> (usize, usize) {
 
 // A half adder, and four full ones: 2 + 4 * 3 and 7 + 4 * 12. The sixth bit is the carry.
 fn sum_size(alloc: Global) -> Result<(usize, usize), AllocError> {
-    let mut to = eleven(alloc)?;
+    let mut to = SharedGates::new(alloc, eleven(alloc)?);
     let x = first_word(alloc)?;
     let y = second_word(alloc)?;
     add_bits(
@@ -371,27 +371,27 @@ fn sum_size(alloc: Global) -> Result<(usize, usize), AllocError> {
         y.as_slice(),
         Bit::Constant(false),
     )?;
-    Ok(size(&to))
+    Ok(size(to.clauses()))
 }
 
 // Five rows of five bits: 25 and 75. The second row is added by a half adder, three full ones, and a half one for its top
 // bit and the carry: 13 and 50. Each later row by a half adder and four full ones, since the sum has a bit above: three
 // times 14 and 55.
 fn product_size(alloc: Global) -> Result<(usize, usize), AllocError> {
-    let mut to = eleven(alloc)?;
+    let mut to = SharedGates::new(alloc, eleven(alloc)?);
     let x = first_word(alloc)?;
     let y = second_word(alloc)?;
     mul_bits(alloc, &mut to, x.as_slice(), y.as_slice())?;
-    Ok(size(&to))
+    Ok(size(to.clauses()))
 }
 
 // The word moved up by one and the word moved up by three: their sum has a half adder, two full ones and two half ones.
 fn tenfold_size(alloc: Global) -> Result<(usize, usize), AllocError> {
-    let mut to = eleven(alloc)?;
+    let mut to = SharedGates::new(alloc, eleven(alloc)?);
     let x = ten(alloc)?;
     let y = first_word(alloc)?;
     mul_bits(alloc, &mut to, x.as_slice(), y.as_slice())?;
-    Ok(size(&to))
+    Ok(size(to.clauses()))
 }
 
 // Whether the upper bits of the divisor are false: 4 and 12. The five steps compare and subtract 1 to 5 bits, the lowest by
@@ -399,31 +399,31 @@ fn tenfold_size(alloc: Global) -> Result<(usize, usize), AllocError> {
 // bits of the divisor: 4 and 14, 8 and 30, 12 and 46, 16 and 62, 19 and 75. The five bits of both answers are 0 where
 // the divisor is: 10 and 30.
 fn division_size(alloc: Global) -> Result<(usize, usize), AllocError> {
-    let mut to = eleven(alloc)?;
+    let mut to = SharedGates::new(alloc, eleven(alloc)?);
     let x = first_word(alloc)?;
     let y = second_word(alloc)?;
     div_bits(alloc, &mut to, x.as_slice(), y.as_slice())?;
-    Ok(size(&to))
+    Ok(size(to.clauses()))
 }
 
 // No upper bits are asked for, since the divisor is known, and its highest bit makes the first three steps nothing. The
 // fourth: the third bit compares and subtracts by 2 and 7, and the fourth too; three bits are chosen: 7 and 26. The
 // fifth: the same, with a test of the bit above: 8 and 29.
 fn tenth_size(alloc: Global) -> Result<(usize, usize), AllocError> {
-    let mut to = eleven(alloc)?;
+    let mut to = SharedGates::new(alloc, eleven(alloc)?);
     let x = first_word(alloc)?;
     let y = ten(alloc)?;
     div_bits(alloc, &mut to, x.as_slice(), y.as_slice())?;
-    Ok(size(&to))
+    Ok(size(to.clauses()))
 }
 
 // A choice for each of five bits.
 fn choice_size(alloc: Global) -> Result<(usize, usize), AllocError> {
-    let mut to = eleven(alloc)?;
+    let mut to = SharedGates::new(alloc, eleven(alloc)?);
     let x = first_word(alloc)?;
     let y = second_word(alloc)?;
     mux_each(alloc, &mut to, Bit::Literal(K), x.as_slice(), y.as_slice())?;
-    Ok(size(&to))
+    Ok(size(to.clauses()))
 }
 
 #[test]

@@ -1,13 +1,13 @@
 ghost use Rattle.std.specs.Prelude.{◌≡◌, ℕ, ◌+◌, ◌*◌, ◌%◌, ◌^◌, ◌≤◌, ◌<◌, Bool, false, length, take, nat_lt, if◌then◌else◌, IfOk, OnErr, slice_index_or};
 ghost use Rattle.sk_gates.specs.Bits.{bit_true, reach, AreOver};
-ghost use Rattle.sk_gates.specs.Extension.{Adds, Continues};
+ghost use Rattle.sk_gates.specs.Extension.{Continues};
+ghost use Rattle.sk_gates.specs.Sharing.{Builds};
 ghost use Rattle.sk_gates.specs.Words.{digit, bits_word, is_less};
 ghost use Rattle.sk_gates.specs.declared.bit.Bit.TheVariants.{Constant};
 
 use crate::bit::Bit;
-use crate::bits::{full_adder, mux_bits, sum_bit, xor_bits};
+use crate::shared::SharedGates;
 use sk_base::List;
-use sk_clause::Clauses;
 use std::alloc::{AllocError, Global};
 
 // The bit of number i.
@@ -39,7 +39,7 @@ fn pick(condition: bool, a: Bit, b: Bit) -> Bit
 #[tactic(auto, using(crate::proofs::ExtensionLaws::growing))]
 pub fn add_carry(
     alloc: Global,
-    to: &mut Clauses,
+    to: &mut SharedGates,
     a: &[Bit],
     b: &[Bit],
     carry: Bit,
@@ -51,7 +51,7 @@ pub fn add_carry(
     ensures length { IfOk result (λ r. length r.0 ≡ length a.now) }
     ensures sum_within { IfOk result (λ r. AreOver to.new.vars r.0) }
     ensures carry_within { IfOk result (λ r. reach r.1 ≤ to.new.vars) }
-    ensures gate { IfOk result (λ r. Adds to.old to.new (λ v.
+    ensures gate { IfOk result (λ r. Builds to.old to.new (λ v.
         bits_word v r.0 + 2 ^ length a.now * digit (bit_true v r.1) ≡ bits_word v a.now + bits_word v b.now + digit (bit_true v carry))) }
     ensures err { OnErr result (Continues to.old to.new) }
 {
@@ -60,7 +60,7 @@ pub fn add_carry(
     for i in 0..a.len() {
         let x = bit_at(a, i);
         let y = bit_at(b, i);
-        let (digit, after) = full_adder(to, x, y, next)?;
+        let (digit, after) = to.full_adder(x, y, next)?;
         sum.push(digit)?;
         next = after;
     }
@@ -71,7 +71,7 @@ pub fn add_carry(
 #[tactic(auto, using(crate::proofs::ExtensionLaws::growing))]
 pub fn add_bits(
     alloc: Global,
-    to: &mut Clauses,
+    to: &mut SharedGates,
     a: &[Bit],
     b: &[Bit],
     carry: Bit,
@@ -83,7 +83,7 @@ pub fn add_bits(
     requires carry { reach carry ≤ to.old.vars }
     ensures length { IfOk result (λ r. length r ≡ length a.now) }
     ensures within { IfOk result (λ r. AreOver to.new.vars r) }
-    ensures gate { IfOk result (λ r. Adds to.old to.new (λ v.
+    ensures gate { IfOk result (λ r. Builds to.old to.new (λ v.
         bits_word v r ≡ (bits_word v a.now + bits_word v b.now + digit (bit_true v carry)) % 2 ^ length a.now)) }
     ensures err { OnErr result (Continues to.old to.new) }
 {
@@ -93,40 +93,45 @@ pub fn add_bits(
     let (mut sum, next) = add_carry(alloc, to, a_low, b_low, carry)?;
     let x = bit_at(a, low);
     let y = bit_at(b, low);
-    let top = sum_bit(to, x, y, next)?;
+    let top = to.sum(x, y, next)?;
     sum.push(top)?;
     Ok(sum)
 }
 
 // Whether the first number is below the second.
 #[tactic(auto, using(crate::proofs::ExtensionLaws::growing))]
-fn less_low(to: &mut Clauses, a: &[Bit], b: &[Bit]) -> Result<Bit, AllocError>
+fn less_low(to: &mut SharedGates, a: &[Bit], b: &[Bit]) -> Result<Bit, AllocError>
     requires lengths { length a.now ≡ length b.now }
     requires a { AreOver to.old.vars a.now }
     requires b { AreOver to.old.vars b.now }
     ensures within { IfOk result (λ r. reach r ≤ to.new.vars) }
-    ensures gate { IfOk result (λ r. Adds to.old to.new (λ v. bit_true v r ≡ nat_lt (bits_word v a.now) (bits_word v b.now))) }
+    ensures gate { IfOk result (λ r. Builds to.old to.new (λ v. bit_true v r ≡ nat_lt (bits_word v a.now) (bits_word v b.now))) }
     ensures err { OnErr result (Continues to.old to.new) }
 {
     let mut below = Bit::Constant(false);
     for i in 0..a.len() {
         let x = bit_at(a, i);
         let y = bit_at(b, i);
-        let apart = xor_bits(to, x, y)?;
-        below = mux_bits(to, apart, y, below)?;
+        let apart = to.xor(x, y)?;
+        below = to.mux(apart, y, below)?;
     }
     Ok(below)
 }
 
 /// Whether the first word is below the second, read in two's complement where `signed`.
 #[tactic(auto, using(crate::proofs::ExtensionLaws::growing))]
-pub fn less_bits(to: &mut Clauses, a: &[Bit], b: &[Bit], signed: bool) -> Result<Bit, AllocError>
+pub fn less_bits(
+    to: &mut SharedGates,
+    a: &[Bit],
+    b: &[Bit],
+    signed: bool,
+) -> Result<Bit, AllocError>
     requires some { 1 ≤ length a.now }
     requires lengths { length a.now ≡ length b.now }
     requires a { AreOver to.old.vars a.now }
     requires b { AreOver to.old.vars b.now }
     ensures within { IfOk result (λ r. reach r ≤ to.new.vars) }
-    ensures gate { IfOk result (λ r. Adds to.old to.new (λ v. bit_true v r ≡ is_less signed (length a.now) (bits_word v a.now) (bits_word v b.now))) }
+    ensures gate { IfOk result (λ r. Builds to.old to.new (λ v. bit_true v r ≡ is_less signed (length a.now) (bits_word v a.now) (bits_word v b.now))) }
     ensures err { OnErr result (Continues to.old to.new) }
 {
     let low = a.len() - 1;
@@ -135,8 +140,8 @@ pub fn less_bits(to: &mut Clauses, a: &[Bit], b: &[Bit], signed: bool) -> Result
     let below = less_low(to, a_low, b_low)?;
     let x = bit_at(a, low);
     let y = bit_at(b, low);
-    let apart = xor_bits(to, x, y)?;
+    let apart = to.xor(x, y)?;
     let top = pick(signed, x, y);
-    let r = mux_bits(to, apart, top, below)?;
+    let r = to.mux(apart, top, below)?;
     Ok(r)
 }

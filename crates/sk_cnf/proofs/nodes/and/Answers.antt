@@ -1,7 +1,7 @@
 use Rattle.std.proofs.Common.{◌∙◌, ◌&&◌, ap}
 use Rattle.sk_dag.specs.Eval.{value_of}
 use Rattle.sk_dag.specs.declared.value.Value.TheVariants.{Bit as BitValue}
-use Rattle.sk_gates.proofs.ExtensionLaws.{Adds-weaker}
+use Rattle.sk_gates.proofs.SharingLaws.{Builds-weaker}
 use Rattle.sk_cnf.proofs.nodes.and.Goals as goal
 
 pub returns-clause-code : goal.returns-clause-code
@@ -10,11 +10,11 @@ returns-clause-code c =
     let w = c.args.width in
     record {
       fits = c.in_ok-r.ensures.within;
-      gate = Adds-weaker _ _ c.in_ok-r.ensures.gate (λ v h e. ap BitValue (h ∙ (λ i. c.truth_of.ensures.value w v i && c.truth_of-2.ensures.value w v i)));
+      gate = Builds-weaker _ _ c.in_ok-r.ensures.gate (λ v h e. ap BitValue (h ∙ (λ i. c.truth_of.ensures.value w v i && c.truth_of-2.ensures.value w v i)));
     }
 
-pub and_bits-requires-clause-a : goal.and_bits-requires-clause-a
-and_bits-requires-clause-a c = c.truth_of.ensures.within c.args.width c.args.to.now.vars c.requires.table
+pub and-requires-clause-a : goal.and-requires-clause-a
+and-requires-clause-a c = c.truth_of.ensures.within c.args.width c.args.to.now.vars c.requires.table
 
-pub and_bits-requires-clause-b : goal.and_bits-requires-clause-b
-and_bits-requires-clause-b c = c.truth_of-2.ensures.within c.args.width c.args.to.now.vars c.requires.table
+pub and-requires-clause-b : goal.and-requires-clause-b
+and-requires-clause-b c = c.truth_of-2.ensures.within c.args.width c.args.to.now.vars c.requires.table

@@ -1,7 +1,7 @@
 use Rattle.std.proofs.Common.{◌∙◌, ap, arith}
 use Rattle.sk_dag.specs.Eval.{value_of, charge}
 use Rattle.sk_dag.specs.declared.value.Value.TheVariants.{Cost as CostValue}
-use Rattle.sk_gates.proofs.ExtensionLaws.{Adds-weaker}
+use Rattle.sk_gates.proofs.SharingLaws.{Builds-weaker}
 use Rattle.sk_cnf.proofs.nodes.cost_add.Goals as goal
 
 pub returns-clause-code : goal.returns-clause-code
@@ -11,7 +11,7 @@ returns-clause-code c =
     let lm = c.word_of-more.ensures.length _ c.requires.table in
     record {
       fits = (c.in_ok-r.ensures.length, c.in_ok-r.ensures.within);
-      gate = Adds-weaker _ _ c.in_ok-r.ensures.gate (λ v h e.
+      gate = Builds-weaker _ _ c.in_ok-r.ensures.gate (λ v h e.
           ap CostValue ((rw lm at h) ∙ (λ i. charge (c.cost_of-before.ensures.value w v i) (c.truth_of.ensures.value w v i) (c.word_of-more.ensures.value v i))));
     }
 

@@ -2,7 +2,7 @@ use Rattle.std.proofs.Common.{◌∙◌, not, ap, sym, arith}
 use Rattle.sk_dag.specs.Eval.{value_of}
 use Rattle.sk_dag.specs.declared.value.Value.TheVariants.{Bit as BitValue}
 use Rattle.sk_gates.specs.Words.{bits_word}
-use Rattle.sk_gates.proofs.ExtensionLaws.{Adds-weaker}
+use Rattle.sk_gates.proofs.SharingLaws.{Builds-weaker}
 use Rattle.sk_gates.proofs.WordLaws.{bits_below}
 use Rattle.std.proofs.Common.{nat_eq}
 use Rattle.std.specs.Ordering.{int_eq}
@@ -18,7 +18,7 @@ returns-clause-code c =
     let ly = c.word_of-y.ensures.length _ c.requires.table in
     record {
       fits = omega (arith, c.in_ok-r.ensures.within, c.negate.ensures.within);
-      gate = Adds-weaker _ _ c.in_ok-r.ensures.gate (λ v h e.
+      gate = Builds-weaker _ _ c.in_ok-r.ensures.gate (λ v h e.
           let bx = rw lx at (bits_below v c.word_of-x.result.now) in
           let by = rw ly at (bits_below v c.word_of-y.result.now) in
           ap BitValue (c.negate.ensures.value v ∙ ap not h ∙ not_not (nat_eq (bits_word v c.word_of-x.result.now) (bits_word v c.word_of-y.result.now))

@@ -1,7 +1,8 @@
 use Rattle.std.proofs.Common.{◌≡◌, ◌∙◌, length}
 use Rattle.sk_gates.specs.Words.{bits_word}
 use Rattle.sk_gates.specs.Bits.{bit_true}
-use Rattle.sk_gates.proofs.ExtensionLaws.{Adds-then, Adds-both, Continues-trans, Continues-adds, on_err}
+use Rattle.sk_gates.proofs.ExtensionLaws.{Continues-trans, Continues-adds, on_err}
+use Rattle.sk_gates.proofs.SharingLaws.{Builds-then, Builds-both}
 use Rattle.sk_gates.proofs.WordLaws.{bits_below}
 use Rattle.std.proofs.Common.{◌&&◌}
 use Rattle.sk_cnf.proofs.SignedLaws.{charged}
@@ -11,7 +12,7 @@ pub returns-clause-gate : goal.returns-clause-gate
 returns-clause-gate c =
     let w = length c.args.amount.now in
     let long : length c.in_ok-sum.sum ≡ 64 = c.in_ok-sum.ensures.length ∙ c.requires.cost_length in
-    Adds-then _ _ _ (Adds-both _ _ (Adds-both _ _ c.in_ok-counts.ensures.gate c.in_ok-more.ensures.gate) c.in_ok-sum.ensures.gate) c.in_ok-r.ensures.gate (λ v p q.
+    Builds-then _ _ _ (Builds-both _ _ (Builds-both _ _ c.in_ok-counts.ensures.gate c.in_ok-more.ensures.gate) c.in_ok-sum.ensures.gate) c.in_ok-r.ensures.gate (λ v p q.
     let cost_below = rw c.requires.cost_length at (bits_below v c.args.cost.now) in
     let sum_below = rw long at (bits_below v c.in_ok-sum.sum) in
     let top = c.sign.ensures.value v in

@@ -1,6 +1,7 @@
 use Rattle.std.proofs.Common.{◌≡◌, ◌∙◌, ap, length}
 use Rattle.sk_gates.specs.Words.{bits_word}
-use Rattle.sk_gates.proofs.ExtensionLaws.{Adds-then, Adds-both, Continues-trans, Continues-adds, on_err}
+use Rattle.sk_gates.proofs.ExtensionLaws.{Continues-trans, Continues-adds, on_err}
+use Rattle.sk_gates.proofs.SharingLaws.{Builds-then, Builds-both}
 use Rattle.sk_gates.proofs.WordLaws.{bits_below}
 use Rattle.sk_cnf.proofs.SignedLaws.{left_over}
 use Rattle.sk_cnf.proofs.signed.remainder_words.Goals as goal
@@ -11,7 +12,7 @@ returns-clause-gate c =
     let first = c.in_ok-dividend.ensures.gate in
     let second = c.in_ok-divisor.ensures.gate in
     let long : length c.in_ok-left.left ≡ w = c.in_ok-left.ensures.remainder_length ∙ ap length c.as_slice.ensures ∙ c.in_ok-dividend.ensures.length in
-    Adds-then _ _ _ (Adds-both _ _ (Adds-both _ _ first second) c.in_ok-left.ensures.gate) c.in_ok-r.ensures.gate (λ v p q.
+    Builds-then _ _ _ (Builds-both _ _ (Builds-both _ _ first second) c.in_ok-left.ensures.gate) c.in_ok-r.ensures.gate (λ v p q.
     let x = p.0.0 in
     let y = rw (← c.requires.lengths) at p.0.1 in
     let d = rw (c.as_slice.ensures, c.as_slice-2.ensures) at p.1.1 in

@@ -1,14 +1,15 @@
 use Rattle.std.proofs.Common.{◌*◌, ◌%◌, ◌^◌, arith, length, ap, ◌∙◌}
 use Rattle.std.proofs.lemmas.List.{take_all}
 use Rattle.sk_gates.specs.Words.{bits_word}
-use Rattle.sk_gates.proofs.ExtensionLaws.{Adds-none, Adds-then, Adds-both, Adds-weaker, Continues-refl, Continues-trans, Continues-adds, on_err}
+use Rattle.sk_gates.proofs.ExtensionLaws.{Continues-refl, Continues-trans, Continues-adds, on_err}
+use Rattle.sk_gates.proofs.SharingLaws.{Builds-same, Builds-then, Builds-both, Builds-weaker}
 use Rattle.sk_gates.proofs.BitLaws.{AreOver-later}
 use Rattle.sk_gates.proofs.ProductLaws.{product_none, product_step}
 use Rattle.sk_gates.proofs.product.add_rows.Goals as goal
 
 pub loop-i-init : goal.loop-i-init
 loop-i-init c = record {
-  gate = Adds-none _ _ (λ v. c.in_ok-sum.ensures.value v ∙ product_none v c.args.a.now c.args.b.now);
+  gate = Builds-same _ _ (λ v. c.in_ok-sum.ensures.value v ∙ product_none v c.args.a.now c.args.b.now);
   behind = Continues-refl _;
   long = c.in_ok-sum.ensures.length;
   a_within = c.requires.a;
@@ -22,7 +23,7 @@ loop-i-preserved c =
     let first = c.in_ok-more.ensures.gate in
     let second = c.in_ok-next.ensures.gate in
     record {
-      gate = Adds-then _ _ _ inv.gate (Adds-both _ _ first second) (λ v before p.
+      gate = Builds-then _ _ _ inv.gate (Builds-both _ _ first second) (λ v before p.
           product_step v c.args.a.now c.args.b.now c.loop-i.i _ _ _ _ _ _ (omega arith) (omega arith) inv.long c.bit_at-bit.ensures.bit c.as_slice.ensures c.as_slice-in-loop-i.ensures before p.0 p.1);
       behind = Continues-trans inv.behind (Continues-trans (Continues-adds first) (Continues-adds second));
       long = c.in_ok-next.ensures.length ∙ ap length c.as_slice.ensures ∙ inv.long;
@@ -34,7 +35,7 @@ loop-i-preserved c =
 pub returns-clause-gate : goal.returns-clause-gate
 returns-clause-gate c =
     let right = take_all c.loop-i.i c.args.b.now (omega arith) in
-    Adds-weaker _ _ c.loop-i.invariant.gate (λ v h. h ∙ ap (λ bs. (bits_word v c.args.a.now * bits_word v bs) % 2 ^ length c.args.a.now) right)
+    Builds-weaker _ _ c.loop-i.invariant.gate (λ v h. h ∙ ap (λ bs. (bits_word v c.args.a.now * bits_word v bs) % 2 ^ length c.args.a.now) right)
 
 pub returns-in_err-more-clause-err : goal.returns-in_err-more-clause-err
 returns-in_err-more-clause-err c = on_err _ (Continues-trans c.loop-i.invariant.behind c.in_err-more.ensures.err)

@@ -1,7 +1,8 @@
 use Rattle.std.proofs.Common.{◌≡◌, ◌+◌, ◌-◌, ◌^◌, arith, length, ap, ◌∙◌}
 use Rattle.std.proofs.lemmas.List.{length_push}
 use Rattle.std.proofs.lemmas.Nat.{pow-add}
-use Rattle.sk_gates.proofs.ExtensionLaws.{Adds-none, Adds-then, Continues-refl, Continues-trans, Continues-adds, on_err}
+use Rattle.sk_gates.proofs.ExtensionLaws.{Continues-refl, Continues-trans, Continues-adds, on_err}
+use Rattle.sk_gates.proofs.SharingLaws.{Builds-same, Builds-then}
 use Rattle.sk_gates.proofs.BitLaws.{AreOver-later, AreOver-push}
 use Rattle.sk_gates.proofs.EachLaws.{kept_step}
 use Rattle.sk_gates.proofs.ProductLaws.{row_none}
@@ -9,7 +10,7 @@ use Rattle.sk_gates.proofs.product.row.Goals as goal
 
 pub loop-i-init : goal.loop-i-init
 loop-i-init c = record {
-  gate = Adds-none _ _ (λ v. c.in_ok-moved.ensures.value v ∙ row_none v c.args.a.now c.args.bit c.args.shift);
+  gate = Builds-same _ _ (λ v. c.in_ok-moved.ensures.value v ∙ row_none v c.args.a.now c.args.bit c.args.shift);
   behind = Continues-refl _;
   long = omega (arith, c.in_ok-moved.ensures.length);
   a_within = c.requires.a;
@@ -22,7 +23,7 @@ loop-i-preserved c =
     let inv = c.loop-i.invariant in
     let step = c.in_ok-both.ensures.gate in
     record {
-      gate = Adds-then _ _ _ inv.gate step (λ v before both. rw c.in_ok-push.ensures.ok
+      gate = Builds-then _ _ _ inv.gate step (λ v before both. rw c.in_ok-push.ensures.ok
           (kept_step v c.loop-i.moved c.args.a.now c.loop-i.i (c.args.shift + c.loop-i.i) (2 ^ c.args.shift) _ _ c.args.bit inv.long (pow-add 2 c.args.shift c.loop-i.i) (omega arith) c.bit_at-x.ensures.bit both before));
       behind = Continues-trans inv.behind (Continues-adds step);
       long = ap length c.in_ok-push.ensures.ok ∙ length_push c.loop-i.moved c.in_ok-both.both ∙ omega (arith, inv.long);

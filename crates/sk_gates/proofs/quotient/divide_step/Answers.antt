@@ -2,13 +2,14 @@ use Rattle.std.proofs.Common.{◌+◌, ◌*◌, ◌<◌, length, ap, ◌∙◌, 
 use Rattle.sk_gates.specs.Bits.{bit_true}
 use Rattle.sk_gates.specs.Words.{digit, bits_word}
 use Rattle.sk_gates.specs.Division.{AreTops, IsDivided}
-use Rattle.sk_gates.proofs.ExtensionLaws.{Adds-none, Adds-then, Adds-both, Continues-trans, Continues-adds, on_err}
+use Rattle.sk_gates.proofs.ExtensionLaws.{Continues-trans, Continues-adds, on_err}
+use Rattle.sk_gates.proofs.SharingLaws.{Builds-same, Builds-then, Builds-both}
 use Rattle.sk_gates.proofs.BitLaws.{AreOver-later}
 use Rattle.sk_gates.proofs.DivisionLaws.{divided_step, divided_shut, AreOver-same}
 use Rattle.sk_gates.proofs.quotient.divide_step.Goals as goal
 
-pub or_bits-requires-clause-b : goal.or_bits-requires-clause-b
-or_bits-requires-clause-b c =
+pub or-requires-clause-b : goal.or-requires-clause-b
+or-requires-clause-b c =
     c.bit_or_false-over.ensures.within _ (AreOver-same _ _ _ c.as_slice-2.ensures (AreOver-later _ _ _ c.in_ok-difference.ensures.gate.vars (c.in_ok-taken.ensures.within _ c.requires.next c.requires.left)))
 
 pub mux_each-requires-clause-b : goal.mux_each-requires-clause-b
@@ -18,7 +19,7 @@ mux_each-requires-clause-b c =
 
 pub returns-clause-gate : goal.returns-clause-gate
 returns-clause-gate c =
-    Adds-then _ _ _ (Adds-both _ _ c.in_ok-difference.ensures.gate c.in_ok-enough.ensures.gate) (Adds-both _ _ c.in_ok-digit.ensures.gate c.in_ok-rest.ensures.gate)
+    Builds-then _ _ _ (Builds-both _ _ c.in_ok-difference.ensures.gate c.in_ok-enough.ensures.gate) (Builds-both _ _ c.in_ok-digit.ensures.gate c.in_ok-rest.ensures.gate)
     (λ v p q tops below.
     divided_step v c.args.left.now c.args.divisor.now c.args.tops.now c.in_ok-taken.taken _ _ _ c.lowest-from.result.now c.lowest-lower.result.now c.in_ok-difference.difference c.in_ok-rest.rest
     c.args.next c.in_ok-difference.fits c.bit_or_false-over.result c.in_ok-enough.enough c.bit_at-clear.result c.in_ok-digit.digit c.lesser-low.result
@@ -28,7 +29,7 @@ returns-clause-gate c =
 
 pub returns-then-is_false-clause-gate : goal.returns-then-is_false-clause-gate
 returns-then-is_false-clause-gate c =
-    Adds-none _ (λ v. AreTops v c.args.divisor.now c.args.tops.now → bits_word v c.args.left.now < bits_word v c.args.divisor.now
+    Builds-same _ (λ v. AreTops v c.args.divisor.now c.args.tops.now → bits_word v c.args.left.now < bits_word v c.args.divisor.now
     → IsDivided (digit (bit_true v c.args.next) + 2 * bits_word v c.args.left.now) (bits_word v c.args.divisor.now) (digit (bit_true v c.bit_at-clear.result)) (bits_word v c.in_ok-unchanged.unchanged))
     (λ v tops below.
     divided_shut v c.args.left.now c.args.divisor.now c.args.tops.now c.in_ok-taken.taken _ c.lowest-from.result.now c.in_ok-unchanged.unchanged c.args.next c.bit_at-clear.result c.lesser-low.result

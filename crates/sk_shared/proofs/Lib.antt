@@ -1,3 +1,0 @@
-pub mod GateEq
-pub mod TableLaws
-pub mod SharingLaws

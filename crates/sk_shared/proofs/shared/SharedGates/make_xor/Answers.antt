@@ -1,4 +1,0 @@
-use Rattle.sk_shared.proofs.shared.SharedGates.make_xor.Goals as goal
-
-pub returns-clause-gate : goal.returns-clause-gate
-returns-clause-gate c = rw (← c.self.view_is) c.in_ok-r.ensures.gate
