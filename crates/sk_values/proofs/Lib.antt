@@ -1,0 +1,4 @@
+pub mod Numbers
+pub mod Scalars
+pub mod Values
+pub mod Joined
