@@ -1,4 +1,5 @@
 pub mod Lists
+pub mod Lengths
 pub mod Counts
 pub mod StmtCounts
 pub mod RangeLaws
