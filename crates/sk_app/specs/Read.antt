@@ -7,8 +7,8 @@ use Rattle.sk_parser.specs.Parses.{IsTreeOf, ReadsAsNone, ReadsWithTooMany, Read
 use Rattle.sk_app.specs.declared.ending.TextFault.TheVariants.{Lex, Parse}
 use Rattle.sk_app.specs.declared.tree.Read.{Read}
 use Rattle.sk_app.specs.declared.tree.Read.TheVariants as read
-use Rattle.sk_app.specs.declared.complete.Built.{Built}
-use Rattle.sk_app.specs.declared.complete.Built.TheVariants as built
+use Rattle.sk_app.specs.declared.complete.Building.{Building}
+use Rattle.sk_app.specs.declared.complete.Building.TheVariants as built
 use Rattle.sk_app.specs.Built.{default_bounds, IsOnly}
 use Rattle.sk_app.specs.Filling.{IsEarlyExpansion}
 use Rattle.sk_app.specs.Prepared.{IsNotBuilt}
@@ -35,7 +35,7 @@ abbrev pub IsRead : Read → List ℕ → Type 0
 IsRead (read.Tree tree) text = HasTree text tree
 IsRead (read.Fault fault) text = IsTextFault fault text
 
-abbrev pub IsBuilding : Built → List ℕ → Type 0
+abbrev pub IsBuilding : Building → List ℕ → Type 0
 IsBuilding (built.NotText fault) text = IsTextFault fault text
 IsBuilding built.NotBuilt text = IsNotBuilt text
 IsBuilding (built.Whole e) text = IsOnly text e × IsEarlyExpansion e default_bounds

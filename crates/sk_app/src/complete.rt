@@ -31,7 +31,7 @@ const MOST_NODES: usize = 4096;
 
 /// What is built of a text.
 #[derive(Drop)]
-pub enum Built {
+pub enum Building {
     /// It reads as no tree.
     NotText(TextFault),
     /// It reads as a tree that is not taken so far.
@@ -106,15 +106,15 @@ fn expanded_of(alloc: Global, tree: &Tree) -> Result<Option<Expanded>, AllocErro
 }
 
 /// What is built of a text: the expansion of one that is taken, or why there is none.
-fn built(alloc: Global, text: &[u8]) -> Result<Built, AllocError>
+fn built(alloc: Global, text: &[u8]) -> Result<Building, AllocError>
     requires { length text.now ≤ most_bytes }
     ensures { IfOk result (λ built. IsBuilding built text.now) }
 {
     match tree_of(alloc, text)? {
-        Read::Fault(fault) => Ok(Built::NotText(fault)),
+        Read::Fault(fault) => Ok(Building::NotText(fault)),
         Read::Tree(tree) => match expanded_of(alloc, &tree)? {
-            Some(expanded) => Ok(Built::Whole(expanded)),
-            None => Ok(Built::NotBuilt),
+            Some(expanded) => Ok(Building::Whole(expanded)),
+            None => Ok(Building::NotBuilt),
         },
     }
 }
@@ -164,9 +164,9 @@ pub fn complete(alloc: Global, text: &[u8]) -> Result<Found, AllocError>
 {
     let bounds = default_bounds();
     match built(alloc, text)? {
-        Built::NotText(fault) => Ok(Found::NotText(fault)),
-        Built::NotBuilt => Ok(Found::NotBuilt),
-        Built::Whole(expanded) => match search(alloc, &expanded, &bounds)? {
+        Building::NotText(fault) => Ok(Found::NotText(fault)),
+        Building::NotBuilt => Ok(Found::NotBuilt),
+        Building::Whole(expanded) => match search(alloc, &expanded, &bounds)? {
             Some(choice) => {
                 let out = completed(alloc, &expanded, &choice)?;
                 Ok(Found::Completion(out))
