@@ -28,7 +28,10 @@ fn tells_the_first_fault_of_the_bytes(rt: HostRuntime) -> Result<(), Fail> {
     let rows: [(&[u8], &[u8]); 8] = [
         (b"int N = 8; /* x", b"text OpenComment 11"),
         (b"harness void f() { } $", b"text BadByte 21"),
-        (b"harness void f() { x = 2147483648; }", b"text LiteralTooLarge 23"),
+        (
+            b"harness void f() { x = 2147483648; }",
+            b"text LiteralTooLarge 23",
+        ),
         (b"pragma options \"--bnd-cbits 5", b"text OpenString 15"),
         // A text ends in its line.
         (b"pragma options \"\n\"", b"text OpenString 15"),
