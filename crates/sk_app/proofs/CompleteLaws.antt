@@ -1,13 +1,10 @@
 -- What was found of a text, put together.
-use Rattle.std.proofs.Common.{◌≡◌, ℕ, ◌≤◌, List, [], ◌∷◌, ◌++◌, Option, Some, None, length, refl, sym, ap, subst, ◌∙◌, arith}
+use Rattle.std.proofs.Common.{◌≡◌, false, ℕ, ◌≤◌, List, [], ◌∷◌, ◌++◌, Option, Some, None, length, refl, sym, ap, subst, ◌∙◌, arith}
 use Rattle.std.specs.Prelude.{IsTrue, IfSome}
 use Rattle.std.proofs.lemmas.Bool.{false≢true}
 use Rattle.std.proofs.lemmas.List.{append_assoc}
 use Rattle.sk_base.specs.declared.bounds.Bounds.{Bounds}
-use Rattle.sk_tree.specs.declared.token.Token.{Token}
 use Rattle.sk_tree.specs.declared.item.Tree.{Tree}
-use Rattle.sk_tree.specs.Tokens.{AreTokens}
-use Rattle.sk_tree.specs.Reads.{Reads}
 use Rattle.sk_types.specs.Types.{Types}
 use Rattle.sk_prog.specs.declared.prog.Fun.{Fun}
 use Rattle.sk_prog.specs.declared.prog.Prog.{Prog}
@@ -20,9 +17,10 @@ use Rattle.sk_print.specs.Layout.{layout}
 use Rattle.sk_print.specs.Shows.{Shows}
 use Rattle.sk_app.specs.Early.{is_early, early_prog, early_funs}
 use Rattle.sk_app.specs.Streams.{most_bytes}
-use Rattle.sk_app.specs.Built.{default_bounds, params_count, bits_count, most_bits, IsSmall, IsTree, IsTyped, IsBuilt, IsOnly}
+use Rattle.sk_app.specs.Built.{default_bounds, params_count, bits_count, most_bits, IsSmall, IsTyped, IsBuilt, IsOnly, IsBuiltOf, IsOnlyOf, IsUnbuiltOf, IsMeant}
 use Rattle.sk_app.specs.ResultText.{completed_text, none_text, IsCompletion, IsNone}
-use Rattle.sk_app.specs.Prepared.{IsUnbuilt}
+use Rattle.sk_app.specs.Prepared.{IsNotBuilt}
+use Rattle.sk_app.specs.TextFaults.{HasTree}
 use Rattle.sk_app.specs.Filling.{IsPlain, IsEarlyExpansion}
 use Rattle.sk_app.specs.Running.{first_params}
 use Rattle.sk_app.specs.Searching.{search_bits}
@@ -34,6 +32,7 @@ use Rattle.sk_app.proofs.FillingPlain.{prog_plain}
 use Rattle.sk_app.proofs.FillingWhole.{expand_whole, fill_whole, filled_is_early}
 use Rattle.sk_app.proofs.CostLaws.{costs_nothing, early_funs_of, some_is, none_is}
 use Rattle.sk_app.proofs.ShownFilling.{shown_filling}
+use Rattle.sk_app.proofs.TextFaultLaws.{one_tree, early_tree}
 
 first_is_all : (funs : List Fun) → IsTrue (early_funs funs) → params_count funs ≡ first_params funs
 first_is_all [] h = absurd (false≢true h)
@@ -85,56 +84,82 @@ completion_of {text} {e} {a} {out} only x range meets is = record {
 pub none_of : {text : List ℕ} {e : Expanded} {out : List ℕ} → IsOnly text e → ((b : Choice) → InRange e b → Meets (fill e b) default_bounds → ⊥) → out ≡ none_text → IsNone text out
 none_of {text} {e} only none is = record { e = e; only = only; none = none; is = is }
 
--- the expansion of the only program that a text means
-pub only_of : (text : List ℕ) (prog : Prog) (e : Expanded) → length text ≤ most_bytes → IsTyped text prog → ((p : Prog) → IsTyped text p → ◌≡◌ {A = Option Prog} (Some prog) (Some p)) → e ≡ expand prog default_bounds → IsSmall e → IsOnly text e
-only_of text prog e short typed once is small = record {
-  built = record { prog = prog; short = short; typed = typed; expanded = is; small = small };
-  only = λ f b. b.expanded ∙ ap (λ p. expand p default_bounds) (sym (some_is (once b.prog b.typed))) ∙ sym is;
+-- A tree that means a program
+
+-- the program of a tree whose expansion is taken
+meaning : (tree : Tree) (e : Expanded) (b : IsBuiltOf tree e) → IsMeant tree b.prog
+meaning tree e b = record { early = b.early; types = b.types }
+
+meant_is : (tree : Tree) (p : Prog) → IsMeant tree p → IsTrue (early_prog p)
+meant_is tree p m = prog_early default_bounds tree p m.early (to_early tree default_bounds p m.early m.types)
+
+pub meant_plain : (tree : Tree) (p : Prog) → IsMeant tree p → IsPlain p
+meant_plain tree p m = prog_plain default_bounds tree p (to_early tree default_bounds p m.early m.types) (meant_is tree p m)
+
+-- a program that was found to be meant
+pub meant_found : (tree : Tree) (bounds : Bounds) (o : Option Prog) → IsTrue (is_early tree) → bounds ≡ default_bounds → IfSome o (λ p. Types tree bounds p × IsTrue (early_prog p)) → IfSome o (IsMeant tree)
+meant_found tree bounds None early same h = tt
+meant_found tree bounds (Some p) early same h = record { early = early; types = subst (λ b. Types tree b p) same h.0 }
+
+pub meant_early : (tree : Tree) (bounds : Bounds) (o : Option Prog) → IfSome o (λ p. Types tree bounds p × IsTrue (early_prog p)) → IfSome o (λ p. IsTrue (early_prog p))
+meant_early tree bounds None h = tt
+meant_early tree bounds (Some p) h = h.1
+
+-- a tree that is not early means no program that is taken
+pub meant_not_early : (tree : Tree) (p : Prog) → is_early tree ≡ false → IsMeant tree p → ◌≡◌ {A = Option Prog} None (Some p)
+meant_not_early tree p not m = absurd (false≢true (sym not ∙ m.early))
+
+-- the expansion of the only program that a tree means
+pub only_of : (tree : Tree) (prog : Prog) (e : Expanded) → IsMeant tree prog → ((p : Prog) → IsMeant tree p → ◌≡◌ {A = Option Prog} (Some prog) (Some p)) → e ≡ expand prog default_bounds → IsSmall e → IsOnlyOf tree e
+only_of tree prog e meant once is small = record {
+  built = record { early = meant.early; prog = prog; types = meant.types; expanded = is; small = small };
+  only = λ f b. b.expanded ∙ ap (λ p. expand p default_bounds) (sym (some_is (once b.prog (meaning tree f b)))) ∙ sym is;
 }
 
--- a text that means no program is none that is taken
-pub unbuilt_untyped : (text : List ℕ) → ((p : Prog) → IsTyped text p → ◌≡◌ {A = Option Prog} None (Some p)) → IsUnbuilt text
-unbuilt_untyped text once e b = none_is (once b.prog b.typed)
+-- a tree that means no program is none that is taken
+pub unbuilt_untyped : (tree : Tree) → ((p : Prog) → IsMeant tree p → ◌≡◌ {A = Option Prog} None (Some p)) → IsUnbuiltOf tree
+unbuilt_untyped tree once e b = none_is (once b.prog (meaning tree e b))
 
--- a text whose expansion is too large is none that is taken
-pub unbuilt_large : (text : List ℕ) (prog : Prog) (e : Expanded) → ((p : Prog) → IsTyped text p → ◌≡◌ {A = Option Prog} (Some prog) (Some p)) → e ≡ expand prog default_bounds → (IsSmall e → ⊥) → IsUnbuilt text
-unbuilt_large text prog e once is large f b =
-    let same : f ≡ e = b.expanded ∙ ap (λ p. expand p default_bounds) (sym (some_is (once b.prog b.typed))) ∙ sym is in
+-- a tree whose expansion is too large is none that is taken
+pub unbuilt_large : (tree : Tree) (prog : Prog) (e : Expanded) → ((p : Prog) → IsMeant tree p → ◌≡◌ {A = Option Prog} (Some prog) (Some p)) → e ≡ expand prog default_bounds → (IsSmall e → ⊥) → IsUnbuiltOf tree
+unbuilt_large tree prog e once is large f b =
+    let same : f ≡ e = b.expanded ∙ ap (λ p. expand p default_bounds) (sym (some_is (once b.prog (meaning tree f b)))) ∙ sym is in
     large (subst IsSmall same b.small)
 
+-- A text that reads as a tree
+
+-- what is built of the tree is built of the text
+of_tree : (text : List ℕ) (tree : Tree) (e : Expanded) → length text ≤ most_bytes → HasTree text tree → IsBuiltOf tree e → IsBuilt text e
+of_tree text tree e short has b = record {
+  prog = b.prog;
+  short = short;
+  typed = record {
+    tree = tree;
+    is_tree = record { tokens = has.tokens; lexed = has.lexed; reads = has.reads.reads; early = b.early };
+    types = b.types;
+  };
+  expanded = b.expanded;
+  small = b.small;
+}
+
+-- and nothing else is
+to_tree : (text : List ℕ) (tree : Tree) (e : Expanded) → HasTree text tree → IsBuilt text e → IsBuiltOf tree e
+to_tree text tree e has b =
+    let same = one_tree text b.typed.tree tree (early_tree text b.typed.tree b.typed.is_tree) has in
+    subst (λ t. IsBuiltOf t e) same (record { early = b.typed.is_tree.early; prog = b.prog; types = b.typed.types; expanded = b.expanded; small = b.small })
+
+pub whole_of : (text : List ℕ) (tree : Tree) (e : Expanded) → length text ≤ most_bytes → HasTree text tree → IsOnlyOf tree e → IsOnly text e
+whole_of text tree e short has only = record { built = of_tree text tree e short has only.built; only = λ f b. only.only f (to_tree text tree f has b) }
+
+pub not_built_of : (text : List ℕ) (tree : Tree) → HasTree text tree → IsUnbuiltOf tree → IsNotBuilt text
+not_built_of text tree has none = record { tree = tree; reads = has; unbuilt = λ e b. none e (to_tree text tree e has b) }
+
 -- a choice that was found gives a completion
-pub completion_found : (text : List ℕ) (oe : Option Expanded) (e : Expanded) (oa : Option Choice) (a : Choice) (bounds : Bounds) (out : List ℕ) → oe ≡ Some e → oa ≡ Some a → bounds ≡ default_bounds → IfSome oe (IsOnly text) → IfSome oe (λ x. IsEarlyExpansion x default_bounds) → IfSome oa (λ b. InRange e b × Meets (fill e b) bounds) → out ≡ completed_text e a 0 → IsCompletion text out
-completion_found text oe e oa a bounds out ie ia same only early found is =
+pub completion_found : (text : List ℕ) (e : Expanded) (oa : Option Choice) (a : Choice) (bounds : Bounds) (out : List ℕ) → oa ≡ Some a → bounds ≡ default_bounds → IsOnly text e → IsEarlyExpansion e default_bounds → IfSome oa (λ b. InRange e b × Meets (fill e b) bounds) → out ≡ completed_text e a 0 → IsCompletion text out
+completion_found text e oa a bounds out ia same only early found is =
     let f = subst (λ o. IfSome o (λ b. InRange e b × Meets (fill e b) bounds)) ia found in
-    completion_of {text = text} {e = e} {a = a} {out = out} (subst (λ o. IfSome o (IsOnly text)) ie only) (subst (λ o. IfSome o (λ x. IsEarlyExpansion x default_bounds)) ie early) f.0 (subst (λ b. Meets (fill e a) b) same f.1) is
+    completion_of {text = text} {e = e} {a = a} {out = out} only early f.0 (subst (λ b. Meets (fill e a) b) same f.1) is
 
 -- the parts of the lines of a completion, one behind the other
 pub lines_join : (o a d b s c : List ℕ) → ((((o ++ a) ++ d) ++ b) ++ s) ++ c ≡ o ++ ((((a ++ d) ++ b) ++ s) ++ c)
 lines_join o a d b s c = simp append_assoc refl
-
--- A tree that was read is the tree of the text.
-pub tree_found : (text : List ℕ) (ts : List Token) (o : Option Tree) → AreTokens text ts → IfSome o (λ t. Reads ts t × IsTrue (is_early t)) → IfSome o (IsTree text)
-tree_found text ts None lexed h = tt
-tree_found text ts (Some t) lexed h = record { tokens = ts; lexed = lexed; reads = h.0; early = h.1 }
-
--- no other is
-pub tree_only : (text : List ℕ) (ts : List Token) (o : Option Tree) → ((us : List Token) → AreTokens text us → ◌≡◌ {A = Option (List Token)} (Some ts) (Some us)) → ((t : Tree) → Reads ts t → IsTrue (is_early t) → o ≡ Some t) → (t : Tree) → IsTree text t → o ≡ Some t
-tree_only text ts o once read t is = read t (subst (λ z. Reads z t) (sym (some_is (once is.tokens is.lexed))) is.reads) is.early
-
-pub tree_none : (text : List ℕ) → ((us : List Token) → AreTokens text us → ◌≡◌ {A = Option (List Token)} None (Some us)) → (t : Tree) → IsTree text t → ◌≡◌ {A = Option Tree} None (Some t)
-tree_none text once t is = absurd (none_is (once is.tokens is.lexed))
-
--- A program that a tree was found to mean is the program of the text.
-pub prog_found : (text : List ℕ) (t : Tree) (o : Option Prog) → IsTree text t → IfSome o (λ p. Types t default_bounds p × IsTrue (early_prog p)) → IfSome o (IsTyped text)
-prog_found text t None is h = tt
-prog_found text t (Some p) is h = record { tree = t; is_tree = is; types = h.0 }
-
-pub prog_is_early : (t : Tree) (o : Option Prog) → IfSome o (λ p. Types t default_bounds p × IsTrue (early_prog p)) → IfSome o (λ p. IsTrue (early_prog p))
-prog_is_early t None h = tt
-prog_is_early t (Some p) h = h.1
-
-pub prog_only : (text : List ℕ) (t : Tree) (o : Option Prog) → ((u : Tree) → IsTree text u → ◌≡◌ {A = Option Tree} (Some t) (Some u)) → ((p : Prog) → Types t default_bounds p → o ≡ Some p) → (p : Prog) → IsTyped text p → o ≡ Some p
-prog_only text t o once typed p is = typed p (subst (λ z. Types z default_bounds p) (sym (some_is (once is.tree is.is_tree))) is.types)
-
-pub prog_none : (text : List ℕ) → ((u : Tree) → IsTree text u → ◌≡◌ {A = Option Tree} None (Some u)) → (p : Prog) → IsTyped text p → ◌≡◌ {A = Option Prog} None (Some p)
-prog_none text once p is = absurd (none_is (once is.tree is.is_tree))

@@ -66,7 +66,7 @@ same_nothing {P} = record { to = λ ts h. subst P (sym (h.2 ∙ ap (λ ys. h.0 +
 same_by : {P P' Q Q' : Phrase} → P ≡ P' → Q ≡ Q' → Same P' Q' → Same P Q
 same_by {P} {P'} {Q} {Q'} e f h = subst (λ R. Same R Q) (sym e) (subst (λ R. Same P' R) (sym f) h)
 
-both_true : (a b : Bool) → (a && b) ≡ true → (a ≡ true) × (b ≡ true)
+pub both_true : (a b : Bool) → (a && b) ≡ true → (a ≡ true) × (b ≡ true)
 both_true true b h = (refl, h)
 both_true false b h = cc
 
@@ -138,16 +138,16 @@ operator_known mark.Star a b h = operands_known a b h
 operator_known mark.Equal a b h = sums_known a b h
 operator_known _ a b h = cc
 
-abbrev form_rank : EForm → Rank
+abbrev pub form_rank : EForm → Rank
 form_rank = fold-EForm Rank Rank (Unit {0}) eform_rank (λ x. x.form) (λ x. tt)
 
-abbrev field_rank : NewField → Unit {0}
+abbrev pub field_rank : NewField → Unit {0}
 field_rank = fold-NewField Rank Rank (Unit {0}) eform_rank (λ x. x.form) (λ x. tt)
 
-form_rank_is : (l : E.EForm-F EForm Expr NewField) → form_rank (roll-EForm l) ≡ eform_rank (map-EForm EForm Expr NewField Rank Rank (Unit {0}) form_rank rank field_rank l)
+pub form_rank_is : (l : E.EForm-F EForm Expr NewField) → form_rank (roll-EForm l) ≡ eform_rank (map-EForm EForm Expr NewField Rank Rank (Unit {0}) form_rank rank field_rank l)
 form_rank_is l = fold-roll-EForm Rank Rank (Unit {0}) eform_rank (λ x. x.form) (λ x. tt) l
 
-rank_is : (e : Expr) → rank e ≡ form_rank e.form
+pub rank_is : (e : Expr) → rank e ≡ form_rank e.form
 rank_is e = fold-roll-Expr Rank Rank (Unit {0}) eform_rank (λ x. x.form) (λ x. tt) (record { span = e.span; form = e.form })
 
 abbrev whole_place : EForm → standing.Place
@@ -242,7 +242,7 @@ base_same (base.Named x) ls h = cc
 ty_same : (t : TyTree) → is_int t ≡ true → Same (whole.SpeltTy t) (early.SpeltTy t)
 ty_same t h = base_same t.base t.lengths h
 
-no_lengths : (b : Base) (ls : List Expr) → is_int_base b ls ≡ true → ls ≡ []
+pub no_lengths : (b : Base) (ls : List Expr) → is_int_base b ls ≡ true → ls ≡ []
 no_lengths base.Int [] h = refl
 no_lengths base.Int (e ∷ ls) h = cc
 no_lengths base.Bit ls h = cc
@@ -265,7 +265,7 @@ value_same (Some e) h =
     let f = expr_same e (known_sum (rank e) h) in
     record { spelt = same_then same f.spelt; placed = ap (λ (p : standing.Place). p.placed) f.place; levels = f.levels }
 
-one_name : (names : List Declared) → is_one_value names ≡ true → (d : Declared) × (names ≡ d ∷ []) × (is_sum_value d.value ≡ true)
+pub one_name : (names : List Declared) → is_one_value names ≡ true → (d : Declared) × (names ≡ d ∷ []) × (is_sum_value d.value ≡ true)
 one_name [] h = cc
 one_name (d ∷ []) h = (d, refl, h)
 one_name (d ∷ e ∷ ds) h = cc
@@ -275,7 +275,7 @@ word_of (eform.Word x) h = (x, refl)
 word_of _ h = cc
 
 -- a name is a target, and it is known
-name_target : (e : Expr) → is_name e.form ≡ true → (whole.is_target e ≡ true) × (is_known (rank e) ≡ true)
+pub name_target : (e : Expr) → is_name e.form ≡ true → (whole.is_target e ≡ true) × (is_known (rank e) ≡ true)
 name_target e h =
     let w = word_of e.form h in
     let is : e ≡ record { span = e.span; form = eform.Word w.0 } = (λ i. record { span = e.span; form = w.1 i }) in (
@@ -399,15 +399,15 @@ record ItemsSame (items : List Item) : Type 0 where
 one_fun : (f : FunItem) → FunSame f → ItemsSame (item.Fun f ∷ [])
 one_fun f is = record { spelt = same_then is.spelt same; placed = ap (λ b. b && true) is.placed; levels = ap (λ n. max (suc n) 0) is.levels }
 
-record OneFun (items : List Item) : Type 0 where
-  fun : FunItem
-  is : items ≡ item.Fun fun ∷ []
-  early : early_fun fun ≡ true
+pub record OneFun (items : List Item) : Type 0 where
+  pub fun : FunItem
+  pub is : items ≡ item.Fun fun ∷ []
+  pub early : early_fun fun ≡ true
 
 refuse : (items : List Item) → false ≡ true → OneFun items
 refuse items h = cc
 
-one_item : (items : List Item) → early_items items ≡ true → OneFun items
+pub one_item : (items : List Item) → early_items items ≡ true → OneFun items
 one_item [] h = refuse [] h
 one_item (item.Fun f ∷ []) h = record { fun = f; is = refl; early = h }
 one_item (item.Fun f ∷ x ∷ more) h = refuse (item.Fun f ∷ x ∷ more) h

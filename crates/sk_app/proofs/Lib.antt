@@ -5,11 +5,9 @@ pub mod FillingLaws
 pub mod CostLaws
 pub mod ReadingLayers
 pub mod EarlyTrees
-pub mod ReadingTokens
-pub mod ReadingExprs
-pub mod ReadingItems
-pub mod ReadingStmts
-pub mod ReadingTrees
+pub mod EarlyRanks
+pub mod EarlyShallow
+pub mod TextFaultLaws
 pub mod ShownMeans
 pub mod ShownLayers
 pub mod ShownSpell

@@ -71,3 +71,25 @@ pub record IsBuilt (text : List ℕ) (e : Expanded) : Type 0 where
 pub record IsOnly (text : List ℕ) (e : Expanded) : Type 0 where
   pub built : IsBuilt text e
   pub only : (f : Expanded) → IsBuilt text f → f ≡ e
+
+-- The tree is early and means a program, e is its expansion, and that is small enough to try.
+pub record IsBuiltOf (tree : Tree) (e : Expanded) : Type 0 where
+  pub early : IsTrue (is_early tree)
+  pub prog : Prog
+  pub types : Types tree default_bounds prog
+  pub expanded : e ≡ expand prog default_bounds
+  pub small : IsSmall e
+
+-- the expansion of a tree that is taken; the tree has no other
+pub record IsOnlyOf (tree : Tree) (e : Expanded) : Type 0 where
+  pub built : IsBuiltOf tree e
+  pub only : (f : Expanded) → IsBuiltOf tree f → f ≡ e
+
+-- the tree has no expansion that the program takes so far
+abbrev pub IsUnbuiltOf : Tree → Type 0
+IsUnbuiltOf tree = (e : Expanded) → IsBuiltOf tree e → ⊥
+
+-- the early tree means this program
+pub record IsMeant (tree : Tree) (prog : Prog) : Type 0 where
+  pub early : IsTrue (is_early tree)
+  pub types : Types tree default_bounds prog

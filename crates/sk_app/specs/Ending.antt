@@ -1,12 +1,31 @@
 -- The status and the message of each ending.
 use Rattle.std.specs.Prelude.{ℕ, List, [], codes}
+use Rattle.sk_lexer.specs.declared.fault.LexFault.TheVariants as lex
+use Rattle.sk_parser.specs.declared.fault.ParseFault.TheVariants as parse
+use Rattle.sk_texts.specs.Messages.{Refusal, refusal_status, refusal_message}
+use Rattle.sk_texts.specs.Messages as said
+use Rattle.sk_app.specs.declared.ending.TextFault.{TextFault}
+use Rattle.sk_app.specs.declared.ending.TextFault.TheVariants.{Lex, Parse}
 use Rattle.sk_app.specs.declared.ending.Ending.{Ending}
-use Rattle.sk_app.specs.declared.ending.Ending.TheVariants.{Completed, NoCompletion, NotALine, ReadFault, WriteFault, TooLong, Memory, NotBuilt}
+use Rattle.sk_app.specs.declared.ending.Ending.TheVariants.{Completed, NoCompletion, NotALine, NotText, ReadFault, WriteFault, TooLong, Memory, NotBuilt}
+
+-- The refusal for a fault of a text. Want of memory, which `run` answers as `Memory`, is no fault of it.
+abbrev pub text_refusal : TextFault → Refusal
+text_refusal (Lex (lex.BadByte at)) = said.NotText said.BadByte at
+text_refusal (Lex (lex.OpenComment at)) = said.NotText said.OpenComment at
+text_refusal (Lex (lex.LiteralTooLarge at)) = said.NotText said.LiteralTooLarge at
+text_refusal (Lex (lex.OpenString at)) = said.NotText said.OpenString at
+text_refusal (Lex lex.Memory) = said.Memory
+text_refusal (Parse (parse.NoReading at)) = said.NotText said.NoReading at
+text_refusal (Parse (parse.BadAlternative at)) = said.NotText said.BadAlternative at
+text_refusal (Parse (parse.TooManyStrings at)) = said.NotText said.TooManyStrings at
+text_refusal (Parse parse.Memory) = said.Memory
 
 abbrev pub status_of : Ending → ℕ
 status_of Completed = 0
 status_of NoCompletion = 1
 status_of NotALine = 10
+status_of (NotText fault) = refusal_status (text_refusal fault)
 status_of ReadFault = 14
 status_of WriteFault = 15
 status_of TooLong = 16
@@ -17,6 +36,7 @@ abbrev pub message_of : Ending → List ℕ
 message_of Completed = []
 message_of NoCompletion = []
 message_of NotALine = codes "usage"
+message_of (NotText fault) = refusal_message (text_refusal fault)
 message_of ReadFault = codes "read fault"
 message_of WriteFault = codes "write fault"
 message_of TooLong = codes "too long"

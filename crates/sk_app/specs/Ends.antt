@@ -2,7 +2,9 @@
 use Rattle.std.specs.Prelude.{ℕ, ◌≡◌, Bool, true, false, List, Option}
 use Rattle.sk_base.specs.Stream.{Rose}
 use Rattle.sk_app.specs.declared.ending.Ending.{Ending}
-use Rattle.sk_app.specs.declared.ending.Ending.TheVariants.{Completed, NoCompletion, ReadFault, WriteFault, TooLong, Memory, NotBuilt}
+use Rattle.sk_app.specs.declared.ending.Ending.TheVariants.{Completed, NoCompletion, NotText, ReadFault, WriteFault, TooLong, Memory, NotBuilt}
+use Rattle.sk_app.specs.declared.ending.TextFault.{TextFault}
+use Rattle.sk_app.specs.TextFaults.{IsSameFault}
 use Rattle.sk_app.specs.Streams.{Appends, AppendsPrefix}
 
 -- a text of this kind was appended to what the sink held
@@ -49,7 +51,14 @@ EndsBuilt ReadFault source_old source_new sink_old sink_new = Rose source_old so
 EndsBuilt WriteFault source_old source_new sink_old sink_new = Rose sink_old sink_new
 EndsBuilt _ source_old source_new sink_old sink_new = ⊥
 
--- A text that is not taken is refused, unless the source failed or memory was wanting.
+-- A text with this fault is refused for it, unless the source failed or memory was wanting.
+abbrev pub EndsFaulty : TextFault → Ending → ℕ → ℕ → Type 0
+EndsFaulty fault (NotText told) source_old source_new = IsSameFault fault told
+EndsFaulty fault Memory source_old source_new = Unit {0}
+EndsFaulty fault ReadFault source_old source_new = Rose source_old source_new
+EndsFaulty fault _ source_old source_new = ⊥
+
+-- A text that reads as a tree and is not taken is refused, unless the source failed or memory was wanting.
 abbrev pub EndsUnbuilt : Ending → ℕ → ℕ → Type 0
 EndsUnbuilt NotBuilt source_old source_new = Unit {0}
 EndsUnbuilt Memory source_old source_new = Unit {0}

@@ -13,11 +13,12 @@ pub mod Built
 pub mod ResultText
 pub mod SpentText
 pub mod Within
+pub mod TextFaults
+pub mod Read
 pub mod Prepared
 pub mod EarlyFit
 pub mod Ends
 pub mod Typing
-pub mod Reading
 pub mod Filling
 pub mod Searching
 pub mod Running

@@ -6,8 +6,10 @@ ghost use Rattle.sk_model.specs.declared.expanded.Expanded.{Expanded};
 ghost use Rattle.sk_app.specs.Built.{IsSynth, IsBuilt};
 ghost use Rattle.sk_app.specs.ResultText.{IsCompletion, IsNone};
 ghost use Rattle.sk_app.specs.Streams.{Appends, AppendsPrefix, TakesFew, most_bytes};
-ghost use Rattle.sk_app.specs.Prepared.{IsUnbuilt};
-ghost use Rattle.sk_app.specs.Ends.{IsDelivered, Writes, WritesPart, writes_nothing, EndsBuilt, EndsLong, EndsUnbuilt};
+ghost use Rattle.sk_app.specs.Prepared.{IsNotBuilt};
+ghost use Rattle.sk_app.specs.TextFaults.{IsTextFault};
+ghost use Rattle.sk_app.specs.declared.ending.TextFault.{TextFault};
+ghost use Rattle.sk_app.specs.Ends.{IsDelivered, Writes, WritesPart, writes_nothing, EndsBuilt, EndsFaulty, EndsLong, EndsUnbuilt};
 
 use crate::ending::Ending;
 use crate::output::write_all;
@@ -69,7 +71,10 @@ pub fn run<S: Source, K: Sink>(
     // None: no filling meets it.
     ensures none { result ≡ Ending.NoCompletion → IfSome (S.left source.old) (λ text. Writes (IsNone text) (K.held sink.old) (K.held sink.new)) }
 
-    ensures not_built { result ≡ Ending.NotBuilt → IfSome (S.left source.old) IsUnbuilt }
+    // The text has this fault: its first as bytes, or what its tokens read as.
+    ensures not_text { (fault : TextFault) → result ≡ Ending.NotText fault → IfSome (S.left source.old) (IsTextFault fault) }
+    // The text reads as a tree, and that is not taken.
+    ensures not_built { result ≡ Ending.NotBuilt → IfSome (S.left source.old) IsNotBuilt }
     ensures too_long { result ≡ Ending.TooLong → IfSome (S.left source.old) (λ text. most_bytes < length text) }
     ensures read_fault { result ≡ Ending.ReadFault → Rose (S.faults source.old) (S.faults source.new) }
     ensures write_fault { result ≡ Ending.WriteFault → Rose (K.faults sink.old) (K.faults sink.new) }
@@ -83,7 +88,8 @@ pub fn run<S: Source, K: Sink>(
 
     // The other direction of the causes: which endings there are for a text.
     ensures ends_built { IsSynth (map string_bytes words.now) → IfSome (S.left source.old) (λ text. (e : Expanded) → IsBuilt text e → EndsBuilt result (S.faults source.old) (S.faults source.new) (K.faults sink.old) (K.faults sink.new)) }
-    ensures ends_unbuilt { IsSynth (map string_bytes words.now) → IfSome (S.left source.old) (λ text. length text ≤ most_bytes → IsUnbuilt text → EndsUnbuilt result (S.faults source.old) (S.faults source.new)) }
+    ensures ends_faulty { IsSynth (map string_bytes words.now) → IfSome (S.left source.old) (λ text. length text ≤ most_bytes → (fault : TextFault) → IsTextFault fault text → EndsFaulty fault result (S.faults source.old) (S.faults source.new)) }
+    ensures ends_unbuilt { IsSynth (map string_bytes words.now) → IfSome (S.left source.old) (λ text. length text ≤ most_bytes → IsNotBuilt text → EndsUnbuilt result (S.faults source.old) (S.faults source.new)) }
     ensures ends_long { IsSynth (map string_bytes words.now) → IfSome (S.left source.old) (λ text. most_bytes < length text → EndsLong result (S.faults source.old) (S.faults source.new)) }
 {
     if !is_synth(words) {
@@ -93,6 +99,7 @@ pub fn run<S: Source, K: Sink>(
         Err(_) => Ending::Memory,
         Ok(Prepared::ReadFault) => Ending::ReadFault,
         Ok(Prepared::TooLong) => Ending::TooLong,
+        Ok(Prepared::Found(Found::NotText(fault))) => Ending::NotText(fault),
         Ok(Prepared::Found(Found::NotBuilt)) => Ending::NotBuilt,
         Ok(Prepared::Found(Found::Nothing(out))) => {
             deliver(sink, out.as_slice(), Ending::NoCompletion)

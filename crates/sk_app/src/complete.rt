@@ -1,34 +1,44 @@
 //! The completion of a text.
 
-ghost use Rattle.std.specs.Prelude.{ℕ, List as Listed, ◌≡◌, ◌≤◌, ◌↔◌, ◌++◌, Some, length, IsTrue, IsNone, IfOk, OnOk, IfSome};
+ghost use Rattle.std.specs.Prelude.{ℕ, ◌≡◌, ◌≤◌, ◌↔◌, ◌++◌, Some, length, IsTrue, IsNone, IfOk, OnOk, IfSome};
 ghost use Rattle.sk_base.specs.declared.bounds.Bounds.{Bounds};
-ghost use Rattle.sk_tree.specs.declared.item.Tree.{Tree};
-ghost use Rattle.sk_tree.specs.declared.token.Token.{Token};
-ghost use Rattle.sk_tree.specs.Tokens.{AreTokens};
 ghost use Rattle.sk_prog.specs.declared.prog.Prog.{Prog};
 ghost use Rattle.sk_model.specs.Fill.{InRange, fill};
 ghost use Rattle.sk_app.specs.Streams.{most_bytes};
-ghost use Rattle.sk_app.specs.Built.{default_bounds, bits_count, most_bits, IsSmall, IsTree, IsTyped, IsBuilt, IsOnly};
+ghost use Rattle.sk_app.specs.Built.{default_bounds, bits_count, most_bits, IsSmall, IsMeant, IsOnlyOf, IsUnbuiltOf};
 ghost use Rattle.sk_app.specs.ResultText.{spaced, completion_lines, completed_text, none_text};
 ghost use Rattle.sk_app.specs.Early.{early_prog};
 ghost use Rattle.sk_app.specs.Filling.{IsEarlyExpansion};
-ghost use Rattle.sk_app.specs.Prepared.{IsFound, IsUnbuilt};
+ghost use Rattle.sk_app.specs.Prepared.{IsFound};
+ghost use Rattle.sk_app.specs.Read.{IsBuilding};
 
+use crate::early::is_early;
+use crate::ending::TextFault;
 use crate::filling::{expand_early, fill_early, is_within};
 use crate::prepare::Found;
-use crate::reader::read_early;
 use crate::search::{is_searchable, search};
+use crate::tree::{Read, tree_of};
 use crate::typing::check_early;
-use sk_base::{Bounds, List, push_number};
-use sk_lexer::{LexFault, tokens};
+use sk_base::{Bounds, push_number};
 use sk_model::{Choice, Expanded};
 use sk_print::print;
 use sk_prog::Prog;
-use sk_tree::{Token, Tree};
+use sk_tree::Tree;
 use std::alloc::{AllocError, Global};
 
 /// The greatest number of nodes of an expansion that is taken so far.
 const MOST_NODES: usize = 4096;
+
+/// What is built of a text.
+#[derive(Drop)]
+pub enum Building {
+    /// It reads as no tree.
+    NotText(TextFault),
+    /// It reads as a tree that is not taken so far.
+    NotBuilt,
+    /// The expansion.
+    Whole(Expanded),
+}
 
 /// The bounds that hold where nothing sets them.
 fn default_bounds() -> Bounds
@@ -43,52 +53,18 @@ fn default_bounds() -> Bounds
     }
 }
 
-/// The tokens of a text, or none where it has a fault.
-fn tokens_of(alloc: Global, text: &[u8]) -> Result<Option<List<Token>>, AllocError>
-    requires { length text.now ≤ most_bytes }
-    ensures found { IfOk result (λ o. IfSome o (AreTokens text.now)) }
-    ensures only { IfOk result (λ o. (ts : Listed Token) → AreTokens text.now ts → o ≡ Some ts) }
-{
-    match tokens(alloc, text) {
-        Ok(tokens) => Ok(Some(tokens)),
-        Err(LexFault::Memory) => Err(AllocError),
-        Err(LexFault::BadByte { .. }) => Ok(None),
-        Err(LexFault::OpenComment { .. }) => Ok(None),
-        Err(LexFault::LiteralTooLarge { .. }) => Ok(None),
-        Err(LexFault::OpenString { .. }) => Ok(None),
-    }
-}
-
-/// The early tree of a text, or none.
-fn tree_of(alloc: Global, text: &[u8]) -> Result<Option<Tree>, AllocError>
-    requires { length text.now ≤ most_bytes }
-    ensures found { IfOk result (λ o. IfSome o (IsTree text.now)) }
-    ensures only { IfOk result (λ o. (tree : Tree) → IsTree text.now tree → o ≡ Some tree) }
-{
-    match tokens_of(alloc, text)? {
-        Some(tokens) => {
-            let tree = read_early(alloc, tokens.as_slice())?;
-            Ok(tree)
-        }
-        None => Ok(None),
-    }
-}
-
-/// The program that a text means, or none.
-fn prog_of(alloc: Global, text: &[u8]) -> Result<Option<Prog>, AllocError>
-    requires { length text.now ≤ most_bytes }
-    ensures found { IfOk result (λ o. IfSome o (IsTyped text.now)) }
+/// The program that an early tree means, or none.
+fn prog_of(alloc: Global, tree: &Tree) -> Result<Option<Prog>, AllocError>
+    ensures found { IfOk result (λ o. IfSome o (IsMeant tree.now)) }
     ensures early { IfOk result (λ o. IfSome o (λ prog. IsTrue (early_prog prog))) }
-    ensures only { IfOk result (λ o. (prog : Prog) → IsTyped text.now prog → o ≡ Some prog) }
+    ensures only { IfOk result (λ o. (prog : Prog) → IsMeant tree.now prog → o ≡ Some prog) }
 {
-    let bounds = default_bounds();
-    match tree_of(alloc, text)? {
-        Some(tree) => {
-            let prog = check_early(alloc, &tree, &bounds)?;
-            Ok(prog)
-        }
-        None => Ok(None),
+    if !is_early(tree) {
+        return Ok(None);
     }
+    let bounds = default_bounds();
+    let prog = check_early(alloc, tree, &bounds)?;
+    Ok(prog)
 }
 
 /// Whether the holes and the arguments have few enough bits to try all.
@@ -109,15 +85,14 @@ fn is_small(expanded: &Expanded) -> bool
     is_within(&expanded.prog, MOST_NODES) && has_few_bits(expanded)
 }
 
-/// The expansion of a text that is taken, or none.
-fn built(alloc: Global, text: &[u8]) -> Result<Option<Expanded>, AllocError>
-    requires { length text.now ≤ most_bytes }
-    ensures found { IfOk result (λ o. IfSome o (IsOnly text.now)) }
+/// The expansion of a tree that is taken, or none.
+fn expanded_of(alloc: Global, tree: &Tree) -> Result<Option<Expanded>, AllocError>
+    ensures found { IfOk result (λ o. IfSome o (IsOnlyOf tree.now)) }
     ensures early { IfOk result (λ o. IfSome o (λ e. IsEarlyExpansion e default_bounds)) }
-    ensures none { IfOk result (λ o. IsNone o → IsUnbuilt text.now) }
+    ensures none { IfOk result (λ o. IsNone o → IsUnbuiltOf tree.now) }
 {
     let bounds = default_bounds();
-    match prog_of(alloc, text)? {
+    match prog_of(alloc, tree)? {
         Some(prog) => {
             let expanded = expand_early(alloc, prog, &bounds)?;
             if is_small(&expanded) {
@@ -127,6 +102,20 @@ fn built(alloc: Global, text: &[u8]) -> Result<Option<Expanded>, AllocError>
             }
         }
         None => Ok(None),
+    }
+}
+
+/// What is built of a text: the expansion of one that is taken, or why there is none.
+fn built(alloc: Global, text: &[u8]) -> Result<Building, AllocError>
+    requires { length text.now ≤ most_bytes }
+    ensures { IfOk result (λ built. IsBuilding built text.now) }
+{
+    match tree_of(alloc, text)? {
+        Read::Fault(fault) => Ok(Building::NotText(fault)),
+        Read::Tree(tree) => match expanded_of(alloc, &tree)? {
+            Some(expanded) => Ok(Building::Whole(expanded)),
+            None => Ok(Building::NotBuilt),
+        },
     }
 }
 
@@ -174,17 +163,18 @@ pub fn complete(alloc: Global, text: &[u8]) -> Result<Found, AllocError>
     ensures { IfOk result (λ found. IsFound found text.now) }
 {
     let bounds = default_bounds();
-    let Some(expanded) = built(alloc, text)? else {
-        return Ok(Found::NotBuilt);
-    };
-    match search(alloc, &expanded, &bounds)? {
-        Some(choice) => {
-            let out = completed(alloc, &expanded, &choice)?;
-            Ok(Found::Completion(out))
-        }
-        None => {
-            let out = Vec::from_slice(alloc, b"//@ none\n")?;
-            Ok(Found::Nothing(out))
-        }
+    match built(alloc, text)? {
+        Building::NotText(fault) => Ok(Found::NotText(fault)),
+        Building::NotBuilt => Ok(Found::NotBuilt),
+        Building::Whole(expanded) => match search(alloc, &expanded, &bounds)? {
+            Some(choice) => {
+                let out = completed(alloc, &expanded, &choice)?;
+                Ok(Found::Completion(out))
+            }
+            None => {
+                let out = Vec::from_slice(alloc, b"//@ none\n")?;
+                Ok(Found::Nothing(out))
+            }
+        },
     }
 }

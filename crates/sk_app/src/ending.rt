@@ -1,10 +1,22 @@
 //! How a call ends.
 
-ghost use Rattle.std.specs.Prelude.{◌≡◌, IfOk};
-ghost use Rattle.sk_app.specs.Ending.{status_of, message_of};
+ghost use Rattle.std.specs.Prelude.{◌≡◌, ◌++◌, codes, IfOk};
+ghost use Rattle.std.specs.Fmt.{decimal};
+ghost use Rattle.sk_texts.specs.Messages.{refusal_status, refusal_message};
+ghost use Rattle.sk_app.specs.declared.ending.TextFault.TheVariants.{Lex, Parse};
+ghost use Rattle.sk_app.specs.Ending.{text_refusal, status_of, message_of};
 
-use sk_base::Name;
+use sk_base::{Name, push_number};
+use sk_lexer::LexFault;
+use sk_parser::ParseFault;
 use std::alloc::{AllocError, Global};
+
+/// What is wrong with a text, with a byte of it: its first fault as bytes, or why its tokens read as no tree.
+#[derive(Debug, Drop, Clone, Copy, PartialEq, Eq)]
+pub enum TextFault {
+    Lex(LexFault),
+    Parse(ParseFault),
+}
 
 /// How `run` ends.
 #[derive(Debug, Drop, Clone, Copy, PartialEq, Eq)]
@@ -15,6 +27,8 @@ pub enum Ending {
     NoCompletion,
     /// The words are no command line.
     NotALine,
+    /// The text has no tokens, or these read as no tree.
+    NotText(TextFault),
     /// The source failed.
     ReadFault,
     /// The sink failed. It may hold a prefix of the result text.
@@ -23,7 +37,7 @@ pub enum Ending {
     TooLong,
     /// Memory was wanting.
     Memory,
-    /// The text is none that the program takes so far.
+    /// The text reads as a tree, and is none that the program takes so far.
     NotBuilt,
 }
 
@@ -35,6 +49,7 @@ pub fn status(ending: &Ending) -> u8
         Ending::Completed => 0,
         Ending::NoCompletion => 1,
         Ending::NotALine => 10,
+        Ending::NotText(fault) => text_status(fault),
         Ending::ReadFault => 14,
         Ending::WriteFault => 15,
         Ending::TooLong => 16,
@@ -47,15 +62,75 @@ pub fn status(ending: &Ending) -> u8
 pub fn message(alloc: Global, ending: &Ending) -> Result<Name, AllocError>
     ensures { IfOk result (λ name. name ≡ message_of ending.now) }
 {
-    let text: &[u8] = match ending {
-        Ending::Completed | Ending::NoCompletion => b"",
-        Ending::NotALine => b"usage",
-        Ending::ReadFault => b"read fault",
-        Ending::WriteFault => b"write fault",
-        Ending::TooLong => b"too long",
-        Ending::Memory => b"no memory",
-        Ending::NotBuilt => b"not built",
-    };
-    let name = Name::from_slice(alloc, text)?;
+    match ending {
+        Ending::Completed | Ending::NoCompletion => said(alloc, b""),
+        Ending::NotALine => said(alloc, b"usage"),
+        Ending::NotText(fault) => text_message(alloc, fault),
+        Ending::ReadFault => said(alloc, b"read fault"),
+        Ending::WriteFault => said(alloc, b"write fault"),
+        Ending::TooLong => said(alloc, b"too long"),
+        Ending::Memory => said(alloc, b"no memory"),
+        Ending::NotBuilt => said(alloc, b"not built"),
+    }
+}
+
+// The status for a fault of a text. Want of memory is none.
+fn text_status(fault: &TextFault) -> u8
+    ensures { result ≡ refusal_status (text_refusal fault.now) }
+{
+    match fault {
+        TextFault::Lex(LexFault::Memory) => 17,
+        TextFault::Parse(ParseFault::Memory) => 17,
+        _ => 11,
+    }
+}
+
+fn text_message(alloc: Global, fault: &TextFault) -> Result<Name, AllocError>
+    ensures { IfOk result (λ name. name ≡ refusal_message (text_refusal fault.now)) }
+{
+    match fault {
+        TextFault::Lex(fault) => lex_message(alloc, fault),
+        TextFault::Parse(fault) => parse_message(alloc, fault),
+    }
+}
+
+fn lex_message(alloc: Global, fault: &LexFault) -> Result<Name, AllocError>
+    ensures { IfOk result (λ name. name ≡ refusal_message (text_refusal (Lex fault.now))) }
+{
+    match fault {
+        LexFault::BadByte { at } => placed(alloc, b"BadByte", *at),
+        LexFault::OpenComment { at } => placed(alloc, b"OpenComment", *at),
+        LexFault::LiteralTooLarge { at } => placed(alloc, b"LiteralTooLarge", *at),
+        LexFault::OpenString { at } => placed(alloc, b"OpenString", *at),
+        LexFault::Memory => said(alloc, b"no memory"),
+    }
+}
+
+fn parse_message(alloc: Global, fault: &ParseFault) -> Result<Name, AllocError>
+    ensures { IfOk result (λ name. name ≡ refusal_message (text_refusal (Parse fault.now))) }
+{
+    match fault {
+        ParseFault::NoReading { at } => placed(alloc, b"NoReading", *at),
+        ParseFault::BadAlternative { at } => placed(alloc, b"BadAlternative", *at),
+        ParseFault::TooManyStrings { at } => placed(alloc, b"TooManyStrings", *at),
+        ParseFault::Memory => said(alloc, b"no memory"),
+    }
+}
+
+fn said(alloc: Global, words: &[u8]) -> Result<Name, AllocError>
+    ensures { IfOk result (λ name. name ≡ words.now) }
+{
+    let name = Name::from_slice(alloc, words)?;
     Ok(name)
+}
+
+// The name of a fault of the text, and its place.
+fn placed(alloc: Global, name: &[u8], at: u32) -> Result<Name, AllocError>
+    ensures { IfOk result (λ text. text ≡ codes "text " ++ name.now ++ codes " " ++ decimal at) }
+{
+    let mut out = Vec::from_slice(alloc, b"text ")?;
+    out.extend_from_slice(name)?;
+    out.push(b' ')?;
+    push_number(&mut out, u64::from(at))?;
+    Ok(Name::from_vec(out))
 }

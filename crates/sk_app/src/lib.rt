@@ -3,19 +3,20 @@
 
 mod command;
 mod complete;
+mod early;
 mod early_rules;
 mod ending;
 mod filling;
 pub mod laws;
 mod output;
 mod prepare;
-mod reader;
 mod running;
 mod search;
 mod std_streams;
 mod text;
+mod tree;
 mod typing;
 
 pub use command::run;
-pub use ending::{Ending, message, status};
+pub use ending::{Ending, TextFault, message, status};
 pub use std_streams::{StdSink, StdSource};

@@ -5,6 +5,7 @@ ghost use Rattle.sk_app.specs.Streams.{TakesFew, most_bytes};
 ghost use Rattle.sk_app.specs.Prepared.{IsFound, IsPrepared};
 
 use crate::complete::complete;
+use crate::ending::TextFault;
 use crate::text::{Reading, read_text};
 use sk_base::Source;
 use std::alloc::{AllocError, Global};
@@ -12,7 +13,9 @@ use std::alloc::{AllocError, Global};
 /// What a text comes to.
 #[derive(Drop)]
 pub enum Found {
-    /// It is none that the program takes so far.
+    /// It reads as no tree.
+    NotText(TextFault),
+    /// It reads as none that the program takes so far.
     NotBuilt,
     /// There is no completion: the result text that says so.
     Nothing(Vec<u8>),

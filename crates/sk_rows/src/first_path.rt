@@ -1,6 +1,8 @@
 //! One harness of the early language, from bytes to bytes.
-use sk_app::{Ending, message, run, status};
+use sk_app::{Ending, TextFault, message, run, status};
 use sk_base::{CalmSink, CalmSource, List, MemSink, MemSource};
+use sk_lexer::LexFault;
+use sk_parser::ParseFault;
 use std::alloc::Global;
 use std::process::Abort;
 use std::test::Fail;
@@ -83,7 +85,7 @@ fn wraps_at_sixteen_bits(rt: HostRuntime) -> Result<(), Fail> {
 
 #[test]
 fn refuses_what_is_not_taken(rt: HostRuntime) -> Result<(), Fail> {
-    let texts: [&[u8]; 16] = [
+    let texts: [&[u8]; 15] = [
         b"",
         b"void f() { }",
         b"harness int f() { }",
@@ -91,15 +93,14 @@ fn refuses_what_is_not_taken(rt: HostRuntime) -> Result<(), Fail> {
         b"harness void f(int x) { assert y == x; }",
         b"harness void f(int x) { int x = 1; }",
         b"harness void f(int x, int x) { }",
-        b"harness void f(int x) { x = x; ",
         b"harness void f(int x) { assert x; }",
         b"harness void f(int x) { x = x + x + x; }",
         b"harness void f(int x) { int y = y; }",
         b"harness void f(int x) { x = 32768; }",
-        b"harness void f(int x) { x = 2147483648; }",
-        b"harness void f(int x) { x = 1; } /* open",
-        b"harness void f(int x) { x = 1; } $",
         b"harness void f(int a, int b) { a = ??; b = ??; }",
+        b"harness void f(int x) { x = {| x | ?? + x |}; }",
+        b"int N = 2; harness void f(int x) { x = N; }",
+        b"harness void f(int x) { } harness void g(int x) { }",
     ];
     for text in texts {
         expect_synth(&rt, rt.alloc(), text, Ending::NotBuilt, b"")?;
@@ -182,10 +183,14 @@ fn reads_and_writes_in_steps(rt: HostRuntime) -> Result<(), Fail> {
 
 #[test]
 fn names_each_ending(rt: HostRuntime) -> Result<(), Fail> {
-    let rows: [(Ending, u8, &[u8]); 8] = [
+    let lexed = Ending::NotText(TextFault::Lex(LexFault::OpenString { at: 15 }));
+    let parsed = Ending::NotText(TextFault::Parse(ParseFault::NoReading { at: 1_048_576 }));
+    let rows: [(Ending, u8, &[u8]); 10] = [
         (Ending::Completed, 0, b""),
         (Ending::NoCompletion, 1, b""),
         (Ending::NotALine, 10, b"usage"),
+        (lexed, 11, b"text OpenString 15"),
+        (parsed, 11, b"text NoReading 1048576"),
         (Ending::ReadFault, 14, b"read fault"),
         (Ending::WriteFault, 15, b"write fault"),
         (Ending::TooLong, 16, b"too long"),

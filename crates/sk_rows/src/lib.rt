@@ -3,3 +3,5 @@
 
 #[cfg(test)]
 mod first_path;
+#[cfg(test)]
+mod text_faults;

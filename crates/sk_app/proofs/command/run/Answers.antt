@@ -1,21 +1,62 @@
-use Rattle.sk_app.specs.Ends.{EndsUnbuilt}
-use Rattle.sk_app.proofs.EndingLemmas.{found_of, unbuilt_of, nothing_is_built, completion_is_built}
+use Rattle.sk_app.proofs.EndingLemmas.{found_of, told_is, built_not_text, built_not_built, unbuilt_not_text, unbuilt_nothing, unbuilt_completion, faulty_not_text, faulty_not_built, faulty_nothing, faulty_completion}
 use Rattle.sk_app.proofs.command.run.Goals as goal
+
+pub returns-in-Ok-Found-NotText-clause-not_text :
+    goal.returns-in-Ok-Found-NotText-clause-not_text
+returns-in-Ok-Found-NotText-clause-not_text g c =
+    let m = c.in-Ok-Found-NotText in
+    λ fault e. told_is (g.S.Source.left c.args.source.now) m.fault fault (found_of m.field-0 m.field-0-0 _ (g.S.Source.left c.args.source.now) _ _ m.field-0-is m.field-0-0-is m.ensures.cause) e
+
+pub returns-in-Ok-Found-NotText-clause-ends_built :
+    goal.returns-in-Ok-Found-NotText-clause-ends_built
+returns-in-Ok-Found-NotText-clause-ends_built g c =
+    let m = c.in-Ok-Found-NotText in
+    λ synth. built_not_text (g.S.Source.left c.args.source.now) m.fault _ (found_of m.field-0 m.field-0-0 _ (g.S.Source.left c.args.source.now) _ _ m.field-0-is m.field-0-0-is m.ensures.cause)
+
+pub returns-in-Ok-Found-NotText-clause-ends_faulty :
+    goal.returns-in-Ok-Found-NotText-clause-ends_faulty
+returns-in-Ok-Found-NotText-clause-ends_faulty g c =
+    let m = c.in-Ok-Found-NotText in
+    λ synth. faulty_not_text (g.S.Source.left c.args.source.now) m.fault (found_of m.field-0 m.field-0-0 _ (g.S.Source.left c.args.source.now) _ _ m.field-0-is m.field-0-0-is m.ensures.cause)
+
+pub returns-in-Ok-Found-NotText-clause-ends_unbuilt :
+    goal.returns-in-Ok-Found-NotText-clause-ends_unbuilt
+returns-in-Ok-Found-NotText-clause-ends_unbuilt g c =
+    let m = c.in-Ok-Found-NotText in
+    λ synth. unbuilt_not_text (g.S.Source.left c.args.source.now) m.fault _ (found_of m.field-0 m.field-0-0 _ (g.S.Source.left c.args.source.now) _ _ m.field-0-is m.field-0-0-is m.ensures.cause)
 
 pub returns-in-Ok-Found-NotBuilt-clause-ends_built :
     goal.returns-in-Ok-Found-NotBuilt-clause-ends_built
 returns-in-Ok-Found-NotBuilt-clause-ends_built g c =
     let m = c.in-Ok-Found-NotBuilt in
-    λ synth. unbuilt_of (g.S.Source.left c.args.source.now) (found_of m.field-0 m.field-0-0 _ (g.S.Source.left c.args.source.now) _ _ m.field-0-is m.field-0-0-is m.ensures.cause)
+    λ synth. built_not_built (g.S.Source.left c.args.source.now) _ (found_of m.field-0 m.field-0-0 _ (g.S.Source.left c.args.source.now) _ _ m.field-0-is m.field-0-0-is m.ensures.cause)
+
+pub returns-in-Ok-Found-NotBuilt-clause-ends_faulty :
+    goal.returns-in-Ok-Found-NotBuilt-clause-ends_faulty
+returns-in-Ok-Found-NotBuilt-clause-ends_faulty g c =
+    let m = c.in-Ok-Found-NotBuilt in
+    λ synth. faulty_not_built (g.S.Source.left c.args.source.now) _ (found_of m.field-0 m.field-0-0 _ (g.S.Source.left c.args.source.now) _ _ m.field-0-is m.field-0-0-is m.ensures.cause)
+
+pub returns-in-Ok-Found-Nothing-clause-ends_faulty :
+    goal.returns-in-Ok-Found-Nothing-clause-ends_faulty
+returns-in-Ok-Found-Nothing-clause-ends_faulty g c =
+    let m = c.in-Ok-Found-Nothing in
+    λ synth. faulty_nothing (g.S.Source.left c.args.source.now) m.out _ (found_of m.field-0 m.field-0-0 _ (g.S.Source.left c.args.source.now) _ _ m.field-0-is m.field-0-0-is m.ensures.cause)
 
 pub returns-in-Ok-Found-Nothing-clause-ends_unbuilt :
     goal.returns-in-Ok-Found-Nothing-clause-ends_unbuilt
 returns-in-Ok-Found-Nothing-clause-ends_unbuilt g c =
     let m = c.in-Ok-Found-Nothing in
-    λ synth. nothing_is_built (g.S.Source.left c.args.source.now) m.out (λ text. EndsUnbuilt c.deliver.result (g.S.Source.faults c.args.source.now) (g.S.Source.faults c.prepare.new.source)) (found_of m.field-0 m.field-0-0 _ (g.S.Source.left c.args.source.now) _ _ m.field-0-is m.field-0-0-is m.ensures.cause)
+    λ synth. unbuilt_nothing (g.S.Source.left c.args.source.now) m.out _ (found_of m.field-0 m.field-0-0 _ (g.S.Source.left c.args.source.now) _ _ m.field-0-is m.field-0-0-is m.ensures.cause)
+
+pub returns-in-Ok-Found-Completion-clause-ends_faulty :
+    goal.returns-in-Ok-Found-Completion-clause-ends_faulty
+returns-in-Ok-Found-Completion-clause-ends_faulty g c =
+    let m = c.in-Ok-Found-Completion in
+    λ synth. faulty_completion (g.S.Source.left c.args.source.now) m.out _ (found_of m.field-0 m.field-0-0 _ (g.S.Source.left c.args.source.now) _ _ m.field-0-is m.field-0-0-is m.ensures.cause)
 
 pub returns-in-Ok-Found-Completion-clause-ends_unbuilt :
     goal.returns-in-Ok-Found-Completion-clause-ends_unbuilt
 returns-in-Ok-Found-Completion-clause-ends_unbuilt g c =
     let m = c.in-Ok-Found-Completion in
-    λ synth. completion_is_built (g.S.Source.left c.args.source.now) m.out (λ text. EndsUnbuilt c.deliver-in-Ok-Found-Completion.result (g.S.Source.faults c.args.source.now) (g.S.Source.faults c.prepare.new.source)) (found_of m.field-0 m.field-0-0 _ (g.S.Source.left c.args.source.now) _ _ m.field-0-is m.field-0-0-is m.ensures.cause)
+    λ synth. unbuilt_completion (g.S.Source.left c.args.source.now) m.out _ (found_of m.field-0 m.field-0-0 _ (g.S.Source.left c.args.source.now) _ _ m.field-0-is m.field-0-0-is m.ensures.cause)

@@ -1,26 +1,20 @@
-use Rattle.std.proofs.Common.{sym, ap, subst, ◌∙◌}
-use Rattle.std.specs.Prelude.{IfSome}
-use Rattle.std.proofs.lemmas.Bool.{false≢true}
-use Rattle.sk_model.specs.Expand.{expand}
-use Rattle.sk_app.specs.Built.{IsTyped}
-use Rattle.sk_app.proofs.CompleteLaws.{typed_plain, only_of, unbuilt_untyped, unbuilt_large}
+use Rattle.std.proofs.Common.{ap, subst}
+use Rattle.std.specs.Prelude.{IfSome, is_some}
+use Rattle.sk_app.specs.Built.{default_bounds, IsOnlyOf}
+use Rattle.sk_app.specs.Filling.{IsEarlyExpansion}
+use Rattle.sk_app.specs.Read.{IsRead}
+use Rattle.sk_app.proofs.CompleteLaws.{whole_of, not_built_of}
 use Rattle.sk_app.proofs.complete.built.Goals as goal
 
-pub expand_early-requires-clause-plain : goal.expand_early-requires-clause-plain
-expand_early-requires-clause-plain c = typed_plain c.args.text.now c.in-Some.prog (subst (λ o. IfSome o (IsTyped c.args.text.now)) c.in-Some.is c.in_ok-prog.ensures.found)
+pub returns-in-Some : goal.returns-in-Some
+returns-in-Some c = (
+  whole_of c.args.text.now c.in-Tree.tree c.in-Some.expanded c.requires
+      (subst (λ r. IsRead r c.args.text.now) c.in-Tree.is c.in_ok-fault.ensures)
+      (subst (λ o. IfSome o (IsOnlyOf c.in-Tree.tree)) c.in-Some.is c.in_ok-expanded-in-Tree.ensures.found),
+  subst (λ o. IfSome o (λ e. IsEarlyExpansion e default_bounds)) c.in-Some.is c.in_ok-expanded-in-Tree.ensures.early,
+)
 
-pub returns-then-is_small-clause-found : goal.returns-then-is_small-clause-found
-returns-then-is_small-clause-found c = only_of c.args.text.now c.in-Some.prog c.in_ok-expanded-in-Some.expanded c.requires
-    (subst (λ o. IfSome o (IsTyped c.args.text.now)) c.in-Some.is c.in_ok-prog.ensures.found)
-    (λ p t. sym c.in-Some.is ∙ c.in_ok-prog.ensures.only p t)
-    (c.in_ok-expanded-in-Some.ensures.expanded ∙ ap (expand c.in-Some.prog) c.default_bounds-bounds.ensures)
-    (c.is_small.ensures.0 c.if-is_small.true)
-
-pub returns-else-is_small-clause-none : goal.returns-else-is_small-clause-none
-returns-else-is_small-clause-none c = λ _. unbuilt_large c.args.text.now c.in-Some.prog c.in_ok-expanded-in-Some.expanded
-    (λ p t. sym c.in-Some.is ∙ c.in_ok-prog.ensures.only p t)
-    (c.in_ok-expanded-in-Some.ensures.expanded ∙ ap (expand c.in-Some.prog) c.default_bounds-bounds.ensures)
-    (λ small. false≢true (sym c.if-is_small.false ∙ c.is_small.ensures.1 small))
-
-pub returns-in-None-clause-none : goal.returns-in-None-clause-none
-returns-in-None-clause-none c = λ _. unbuilt_untyped c.args.text.now (λ p t. sym c.in-None.is ∙ c.in_ok-prog.ensures.only p t)
+pub returns : goal.returns
+returns c = not_built_of c.args.text.now c.in-Tree.tree
+    (subst (λ r. IsRead r c.args.text.now) c.in-Tree.is c.in_ok-fault.ensures)
+    (c.in_ok-expanded-in-Tree.ensures.none (ap is_some c.in-None.is))

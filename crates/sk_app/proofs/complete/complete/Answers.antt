@@ -1,10 +1,9 @@
-use Rattle.std.proofs.Common.{ap}
-use Rattle.std.specs.Prelude.{is_some}
+use Rattle.std.proofs.Common.{subst}
+use Rattle.sk_app.specs.Read.{IsBuilding}
 use Rattle.sk_app.proofs.CompleteLaws.{completion_found}
 use Rattle.sk_app.proofs.complete.complete.Goals as goal
 
-pub returns-in_default : goal.returns-in_default
-returns-in_default c = c.in_ok-expanded.ensures.none (ap is_some c.in_default.is)
-
-pub returns-in-Some-2 : goal.returns-in-Some-2
-returns-in-Some-2 c = completion_found c.args.text.now c.in_ok-expanded.field-0 c.in-Some.expanded c.in_ok-choice.field-0 c.in-Some-2.choice c.default_bounds-bounds.result c.in_ok-out-in-Some-2.out.items c.in-Some.is c.in-Some-2.is c.default_bounds-bounds.ensures c.in_ok-expanded.ensures.found c.in_ok-expanded.ensures.early c.in_ok-choice.ensures.found c.in_ok-out-in-Some-2.ensures
+pub returns-in-Some : goal.returns-in-Some
+returns-in-Some c =
+    let whole = subst (λ b. IsBuilding b c.args.text.now) c.in-Whole.is c.in_ok-fault.ensures in
+    completion_found c.args.text.now c.in-Whole.expanded c.in_ok-choice-in-Whole.field-0 c.in-Some.choice c.default_bounds-bounds.result c.in_ok-out-in-Some.out.items c.in-Some.is c.default_bounds-bounds.ensures whole.0 whole.1 c.in_ok-choice-in-Whole.ensures.found c.in_ok-out-in-Some.ensures
