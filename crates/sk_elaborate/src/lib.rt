@@ -1,0 +1,8 @@
+//! Typing of expressions: what an expression becomes where a type is wanted.
+#![tactic(auto)]
+
+mod elaborate;
+mod parts;
+
+pub use elaborate::{at, called, meant_at};
+pub use parts::variable;

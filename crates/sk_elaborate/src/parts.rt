@@ -1,0 +1,84 @@
+//! What the parts of an expression are typed by, apart from the parts themselves.
+ghost use Rattle.std.specs.Prelude.{◌≡◌, Some, map};
+ghost use Rattle.std.specs.List.{list_any};
+ghost use Rattle.std.specs.Str.{bytes_eq};
+ghost use Rattle.sk_types.specs.Scope.{all_distinct};
+ghost use Rattle.sk_typing.specs.Gives.{Gives};
+ghost use Rattle.sk_typing.specs.Envs.{top_seen, context_of};
+ghost use Rattle.sk_check.specs.Elaborate.{firm_any, member_found};
+ghost use Rattle.sk_check.specs.Parts.{form_part};
+
+use sk_base::{Name, Span, at as item_at};
+use sk_check::{Found, Rule, Typing};
+use sk_prog::{PEForm, PExpr, StructId, Ty};
+use sk_tree::{EForm, NewField};
+use sk_typing::{Env, Scope, fault, field_found, firm, is_same};
+use std::alloc::Global;
+
+#[tactic(auto, using(sk_typing::proofs::Places::split_at))]
+fn is_set(fields: &[NewField], name: &Name) -> bool
+    ensures { result ≡ list_any (bytes_eq name.now) (map (λ (x : NewField). x.name) fields.now) }
+{
+    for field in fields {
+        if is_same(name, &field.name) {
+            return true;
+        }
+    }
+    false
+}
+
+/// Whether no field is set twice.
+#[tactic(auto, using(sk_typing::proofs::Places::split_at))]
+pub fn all_distinct(fields: &[NewField]) -> bool
+    ensures { result ≡ all_distinct (map (λ (x : NewField). x.name) fields.now) }
+{
+    for (i, field) in fields.iter().enumerate() {
+        if is_set(&fields[i + 1..], &field.name) {
+            return false;
+        }
+    }
+    true
+}
+
+/// The type of the variable that an expression names, where it is a name of one.
+pub fn variable(env: &Env, scope: &Scope, form: &EForm) -> Option<Ty>
+    ensures { result ≡ (form_part (context_of env.now) scope.now form.now).variable }
+{
+    match form {
+        EForm::Word(name) => match scope.lookup(name) {
+            None => None,
+            Some(place) => Some(place.ty),
+        },
+        _ => None,
+    }
+}
+
+/// A form where a type is wanted, which stands nowhere where it has no type of its own.
+pub fn firm_any(
+    alloc: Global,
+    own: Option<Ty>,
+    form: PEForm,
+    span: Span,
+    ty: Ty,
+) -> Result<PExpr, Typing>
+    ensures { Gives result (firm_any own (Some form) span ty) }
+{
+    match own {
+        None => Err(fault(Rule::Mismatch, span)),
+        Some(own) => {
+            let e = firm(alloc, own, form, span, ty)?;
+            Ok(e)
+        }
+    }
+}
+
+/// The field of the records of a struct that has this name.
+pub fn member_found(env: &Env, s: StructId, name: &Name, span: Span) -> Result<Found, Typing>
+    ensures { Gives result (member_found (top_seen env.now.top.now) s name.now) }
+{
+    let Some(def) = item_at(env.top.structs.as_slice(), s.index as usize) else {
+        return Err(fault(Rule::UnknownName, span));
+    };
+    let found = field_found(def, name, span)?;
+    Ok(found)
+}
