@@ -1,2 +1,3 @@
 pub mod TargetLaws
 pub mod RoomLaws
+pub mod TypeLaws

@@ -1,16 +1,15 @@
 -- Parts of what statements become.
-use Rattle.std.specs.Prelude.{ℕ, nat_le, List, [], ◌∷◌, Option}
+use Rattle.std.specs.Prelude.{ℕ, nat_le, List, Option}
 use Rattle.sk_base.specs.declared.span.Span.{Span}
 use Rattle.sk_tree.specs.declared.expr.Expr.{Expr}
 use Rattle.sk_prog.specs.declared.expr.PExpr.{PExpr}
 use Rattle.sk_prog.specs.declared.expr.PEForm.TheVariants as pform
-use Rattle.sk_prog.specs.declared.stmt.PStmt.{PStmt}
 use Rattle.sk_prog.specs.declared.stmt.PForm.{PForm}
 use Rattle.sk_types.specs.declared.scope.Variable.{Variable}
 use Rattle.sk_types.specs.Rules.{◌>>=◌, only_if, int}
 use Rattle.sk_types.specs.Scope.{Context}
 use Rattle.sk_check.specs.Elaborate.{typed}
-use Rattle.sk_check.specs.Making.{Made, makes, target_at, assign_to}
+use Rattle.sk_check.specs.Making.{Made, target_at, assign_to}
 
 -- a constant count, which is at most 64
 abbrev pub counted : Span → Option ℕ → Option PExpr
@@ -19,7 +18,3 @@ counted s count = count >>= λ n. only_if (nat_le n 64) (typed s int (pform.Numb
 -- a value that is assigned to a target
 abbrev pub assigned : Context → List Variable → Expr → Expr → Option (Made PForm)
 assigned context scope x e = target_at context scope x >>= λ p. assign_to context scope e p
-
--- a body as the one copy of a repeat before expansion
-abbrev pub one_copy : Option (Made PStmt) → Option (Made (List PStmt))
-one_copy m = m >>= λ a. makes (a.made ∷ []) a.scope

@@ -4,9 +4,8 @@ ghost use Rattle.sk_tree.specs.declared.stmt.Form.TheVariants as form;
 ghost use Rattle.sk_check.specs.Making.{inside, any_inside, block, make_form, make, make_all};
 ghost use Rattle.sk_typing.specs.Envs.{context_of, IsEnv};
 ghost use Rattle.sk_typing.specs.Leaves.{Leaves};
-ghost use Rattle.sk_bodies.specs.Statements.{one_copy};
 
-use crate::single::{assign, call_of, count_at, declare_one, may_reorder, returned};
+use crate::single::{alone, assign, call_of, count_at, declare_one, may_reorder, returned};
 use crate::target::value_at;
 use sk_base::{Boxed, List, Span};
 use sk_check::{Rule, Typing};
@@ -51,24 +50,6 @@ fn any_inside(
             Ok(Some(made))
         }
     }
-}
-
-/// A body as the only copy of a repeat.
-#[cycle(making)]
-fn copies(
-    env: &Env,
-    returns: Option<Ty>,
-    scope: &mut Scope,
-    from: usize,
-    stmt: &Stmt,
-) -> Result<List<PStmt>, Typing>
-    requires { IsEnv env.now }
-    ensures { Leaves result scope.new (one_copy (inside (make (context_of env.now) returns stmt.now) from scope.old)) }
-{
-    let made = inside(env, returns, scope, from, stmt)?;
-    let mut copies = List::new(env.alloc);
-    copies.push(made)?;
-    Ok(copies)
 }
 
 /// Statements that follow each other in one block. What a function gives back is of the type `returns`.
@@ -212,11 +193,13 @@ fn make_form(
         }
         Form::Repeat { count, body } => {
             let count = count_at(env, scope, count)?;
-            let copies = copies(env, returns, scope, from, body.get())?;
+            let body = inside(env, returns, scope, from, body.get())?;
+            let copies = alone(env.alloc, body)?;
             Ok(PForm::Repeat { count, copies })
         }
         Form::MinRepeat(body) => {
-            let copies = copies(env, returns, scope, from, body.get())?;
+            let body = inside(env, returns, scope, from, body.get())?;
+            let copies = alone(env.alloc, body)?;
             Ok(PForm::MinRepeat(copies))
         }
         Form::Reorder(stmts) => { make_reorder(env, returns, scope, from, span, stmts.as_slice()) }

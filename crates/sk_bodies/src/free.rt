@@ -35,7 +35,7 @@ fn is_copy_mark(bytes: &[u8]) -> bool
     ensures { result ≡ is_copy_mark bytes.now }
 {
     match bytes {
-        [95, 95, digits @ ..] => is_digits(digits),
+        [first, second, digits @ ..] => *first == 95 && *second == 95 && is_digits(digits),
         _ => false,
     }
 }

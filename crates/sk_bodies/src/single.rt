@@ -1,5 +1,5 @@
 //! Statements that hold no statements.
-ghost use Rattle.std.specs.Prelude.{◌≡◌, ◌++◌, [], ◌∷◌, map};
+ghost use Rattle.std.specs.Prelude.{◌≡◌, ◌++◌, [], ◌∷◌, ◌≤◌, Some, IsTrue, map};
 ghost use Rattle.std.specs.List.{list_any};
 ghost use Rattle.sk_types.specs.Rules.{only_if, is_length, is_grid};
 ghost use Rattle.sk_prog.specs.declared.ty.Ty.TheVariants as ty;
@@ -32,7 +32,8 @@ pub fn enter(alloc: Global, scope: &mut Scope, name: &Name, ty: Ty) -> Result<()
 }
 
 fn is_length(n: u32) -> bool
-    ensures { result ≡ is_length n }
+    ensures value { result ≡ is_length n }
+    ensures small { IsTrue result → n ≤ 64 }
 {
     1 <= n && n <= 64
 }
@@ -40,7 +41,19 @@ fn is_length(n: u32) -> bool
 fn is_grid(n: u32, m: u32) -> bool
     ensures { result ≡ is_grid n m }
 {
-    is_length(n) && (is_length(m) && n * m <= 256)
+    if !is_length(n) || !is_length(m) {
+        return false;
+    }
+    n * m <= 256
+}
+
+/// A body as the only copy of a repeat.
+pub fn alone(alloc: Global, stmt: PStmt) -> Result<List<PStmt>, Typing>
+    ensures { Gives result (Some (stmt ∷ [])) }
+{
+    let mut copies = List::new(alloc);
+    copies.push(stmt)?;
+    Ok(copies)
 }
 
 fn is_declaration(stmt: &PStmt) -> bool
@@ -110,14 +123,35 @@ fn grid(elem: Elem, n: u32, m: u32) -> Option<Ty>
     }
 }
 
+fn with_length(env: &Env, scope: &Scope, elem: Elem, length: Option<u32>) -> Option<Ty>
+    ensures { result ≡ with_lengths (context_of env.now) scope.now elem (length ∷ []) }
+{
+    array(elem, length?)
+}
+
+fn with_both(
+    env: &Env,
+    scope: &Scope,
+    elem: Elem,
+    first: Option<u32>,
+    second: Option<u32>,
+) -> Option<Ty>
+    ensures { result ≡ with_lengths (context_of env.now) scope.now elem (first ∷ second ∷ []) }
+{
+    grid(elem, first?, second?)
+}
+
+#[tactic(auto, using(crate::proofs::TypeLaws::too_many))]
 fn with_lengths(env: &Env, scope: &Scope, elem: Elem, lengths: &[Option<u32>]) -> Option<Ty>
     ensures { result ≡ with_lengths (context_of env.now) scope.now elem lengths.now }
 {
+    if 2 < lengths.len() {
+        return None;
+    }
     match lengths {
         [] => Some(Ty::One(elem)),
-        [Some(n)] => array(elem, *n),
-        [Some(n), Some(m)] => grid(elem, *n, *m),
-        _ => None,
+        [first] => with_length(env, scope, elem, *first),
+        [first, second, ..] => with_both(env, scope, elem, *first, *second),
     }
 }
 

@@ -3,6 +3,8 @@
 
 mod elaborate;
 mod parts;
+#[cfg(test)]
+mod tests;
 
 pub use elaborate::{at, called, meant_at};
 pub use parts::variable;

@@ -4,7 +4,7 @@ use Rattle.std.specs.Prelude.{map}
 use Rattle.std.proofs.lemmas.List.{append-nil}
 use Rattle.sk_tree.specs.declared.item.Item.{Item}
 use Rattle.sk_tree.specs.declared.item.Item.TheVariants as item
-use Rattle.sk_types.specs.Scope.{Top}
+use Rattle.sk_types.specs.Scope.{Signature, Top}
 use Rattle.sk_check.specs.declared.env.Heading.{Heading}
 use Rattle.sk_check.specs.Envs.{signature}
 use Rattle.sk_check.specs.Whole.{no_top, named_top}
@@ -14,7 +14,7 @@ use Rattle.sk_typing.proofs.Places.{split_at}
 pub append_none : {X : Type 0} (xs : List X) → xs ++ [] ≡ xs
 append_none xs = append-nil xs
 
-pub map_added : (hs : List Heading) (h : Heading) → map signature (hs ++ h ∷ []) ≡ map signature hs ++ signature h ∷ []
+map_added : (hs : List Heading) (h : Heading) → map signature (hs ++ h ∷ []) ≡ map signature hs ++ signature h ∷ []
 map_added [] h = refl
 map_added (g ∷ hs) h = ap (λ rest. signature g ∷ rest) (map_added hs h)
 
@@ -33,6 +33,20 @@ named_split (item.Fun g) xs = refl
 pub named_next : (a : Top) (x : Item) (xs : List Item) → joined a (named_top (x ∷ xs)) ≡ joined (joined a (named_top (x ∷ []))) (named_top xs)
 named_next a x xs = ap (joined a) (named_split x xs) ∙ sym (joined_assoc a (named_top (x ∷ [])) (named_top xs))
 
+-- one more name
+pub one_more : {X : Type 0} (xs : List X) (x : X) (rest : List X) → xs ++ x ∷ rest ≡ (xs ++ x ∷ []) ++ rest
+one_more xs x rest = sym (append_assoc xs (x ∷ []) rest)
+
+names_seen : (hs : List Heading) → map (λ (h : Heading). h.name) hs ≡ map (λ (s : Signature). s.name) (map signature hs)
+names_seen [] = refl
+names_seen (h ∷ hs) = ap (λ rest. h.name ∷ rest) (names_seen hs)
+
+-- the names of functions behind others
+pub all_names : (a b : List (List ℕ)) (hs : List Heading) → (a ++ b) ++ map (λ (h : Heading). h.name) hs ≡ a ++ (b ++ map (λ (s : Signature). s.name) (map signature hs))
+all_names a b hs = append_assoc a b (map (λ (h : Heading). h.name) hs) ∙ ap (λ rest. a ++ (b ++ rest)) (names_seen hs)
+
 pub ruleset adding = (append_none, map_added)
+
+pub ruleset rows = (split_at, one_more)
 
 pub ruleset naming = (split_at, named_next, joined_none)

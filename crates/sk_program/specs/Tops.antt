@@ -46,7 +46,7 @@ GivesTop (Ok names) o = o ≡ Some (top_seen names)
 GivesTop (Err fault) o = Fails fault o
 
 -- one more constant
-abbrev pub Knows : Result (Unit {0}) Typing → List Constant → List Constant → List ℕ → ℕ → Type 0
+abbrev pub Knows : Result (Unit {0}) Typing → List Known → List Known → List ℕ → ℕ → Type 0
 Knows (Ok a) old new x n = new ≡ old ++ record { name = x; number = n } ∷ []
 Knows (Err Memory) old new x n = Unit {0}
 Knows (Err (Fault f)) old new x n = ⊥
@@ -55,3 +55,7 @@ Knows (Err (Fault f)) old new x n = ⊥
 abbrev pub GivesBodies : Result Whole Typing → Option Bodies → Type 0
 GivesBodies (Ok w) o = o ≡ Some (bodies_seen w)
 GivesBodies (Err fault) o = Fails fault o
+
+abbrev pub IsFault : Typing → Type 0
+IsFault Memory = ⊥
+IsFault (Fault f) = Unit {0}

@@ -1,5 +1,6 @@
 //! The values of constants and the bodies of functions.
 ghost use Rattle.std.specs.Prelude.{◌≡◌, map, []};
+ghost use Rattle.sk_tree.specs.declared.item.Item.TheVariants as item;
 ghost use Rattle.sk_types.specs.Scope.{meaning_of};
 ghost use Rattle.sk_types.specs.Types.{parameters, variable_of};
 ghost use Rattle.sk_check.specs.Envs.{known, signature};
@@ -146,6 +147,45 @@ fn fun_in(
     fun_of(&env, item, heading)
 }
 
+/// One more constant, which is known from then on.
+fn make_const(
+    alloc: Global,
+    bounds: &Bounds,
+    top: &Names,
+    whole: &mut Whole,
+    name: &Name,
+    value: &Expr,
+) -> Result<(), Typing>
+    requires width { IsWidth bounds.now }
+    requires numbered { IsNumbered top.now }
+    ensures { Steps result (bodies_after bounds.now (top_seen top.now) whole.old) (bodies_after bounds.now (top_seen top.now) whole.new) (item.Const name.now value.now) }
+{
+    let number = number_in(alloc, bounds, top, whole.known.as_slice(), value)?;
+    let known = whole.known.as_slice();
+    let def = const_in(alloc, bounds, top, known, name, value, number)?;
+    know(alloc, &mut whole.known, name, number)?;
+    whole.consts.push(def)?;
+    Ok(())
+}
+
+/// One more function.
+fn make_fun(
+    alloc: Global,
+    bounds: &Bounds,
+    top: &Names,
+    whole: &mut Whole,
+    item: &FunItem,
+) -> Result<(), Typing>
+    requires width { IsWidth bounds.now }
+    requires numbered { IsNumbered top.now }
+    ensures { Steps result (bodies_after bounds.now (top_seen top.now) whole.old) (bodies_after bounds.now (top_seen top.now) whole.new) (item.Fun item.now) }
+{
+    let heading = heading_in(alloc, bounds, top, whole.known.as_slice(), item)?;
+    let fun = fun_in(alloc, bounds, top, whole.known.as_slice(), item, heading)?;
+    whole.funs.push(fun)?;
+    Ok(())
+}
+
 /// One more item.
 fn make_item(
     alloc: Global,
@@ -161,32 +201,13 @@ fn make_item(
     match item {
         Item::Pragma { word: _, text: _ } => Err(fault(Rule::UnknownName, NOWHERE)),
         Item::Struct { name: _, fields: _ } => Ok(()),
-        Item::Const { name, value } => {
-            let number = number_in(alloc, bounds, top, whole.known.as_slice(), value)?;
-            let def = const_in(
-                alloc,
-                bounds,
-                top,
-                whole.known.as_slice(),
-                name,
-                value,
-                number,
-            )?;
-            whole.consts.push(def)?;
-            know(alloc, &mut whole.known, name, number)?;
-            Ok(())
-        }
-        Item::Fun(item) => {
-            let heading = heading_in(alloc, bounds, top, whole.known.as_slice(), item)?;
-            let fun = fun_in(alloc, bounds, top, whole.known.as_slice(), item, heading)?;
-            whole.funs.push(fun)?;
-            Ok(())
-        }
+        Item::Const { name, value } => make_const(alloc, bounds, top, whole, name, value),
+        Item::Fun(item) => make_fun(alloc, bounds, top, whole, item),
     }
 }
 
 /// The constants and the functions of items.
-#[tactic(auto, using(crate::proofs::ItemLaws::making))]
+#[tactic(auto, using(crate::proofs::ItemLaws::steps))]
 pub fn bodies_of(
     alloc: Global,
     bounds: &Bounds,

@@ -1,5 +1,6 @@
 //! What stands at the top, with the types of fields and of signatures.
 ghost use Rattle.std.specs.Prelude.{◌≡◌, map, []};
+ghost use Rattle.sk_tree.specs.declared.item.Item.TheVariants as item;
 ghost use Rattle.sk_types.specs.Constants.{constant_number};
 ghost use Rattle.sk_check.specs.Envs.{known};
 ghost use Rattle.sk_check.specs.Whole.{context_in, typed_top, struct_of, heading_of};
@@ -91,16 +92,72 @@ pub fn heading_in(
 }
 
 /// One more constant that stands earlier.
+#[tactic(auto, using(crate::proofs::ItemLaws::known_added))]
 pub fn know(
     alloc: Global,
     known: &mut List<Constant>,
     name: &Name,
     number: u32,
 ) -> Result<(), Typing>
-    ensures { Knows result known.old known.new name.now number }
+    ensures { Knows result (map known known.old) (map known known.new) name.now number }
 {
     let name = copied(alloc, name)?;
     known.push(Constant { name, number })?;
+    Ok(())
+}
+
+/// One more struct.
+fn type_struct(
+    alloc: Global,
+    bounds: &Bounds,
+    top: &Names,
+    typed: &mut Typed,
+    name: &Name,
+    fields: &[Field],
+) -> Result<(), Typing>
+    requires width { IsWidth bounds.now }
+    requires numbered { IsNumbered top.now }
+    ensures { Steps result (typed_after bounds.now (top_seen top.now) typed.old) (typed_after bounds.now (top_seen top.now) typed.new) (item.Struct name.now fields.now) }
+{
+    let def = struct_in(alloc, bounds, top, typed.known.as_slice(), name, fields)?;
+    typed.names.structs.push(def)?;
+    Ok(())
+}
+
+/// One more constant, which is known from then on.
+fn type_const(
+    alloc: Global,
+    bounds: &Bounds,
+    top: &Names,
+    typed: &mut Typed,
+    name: &Name,
+    value: &Expr,
+) -> Result<(), Typing>
+    requires width { IsWidth bounds.now }
+    requires numbered { IsNumbered top.now }
+    ensures { Steps result (typed_after bounds.now (top_seen top.now) typed.old) (typed_after bounds.now (top_seen top.now) typed.new) (item.Const name.now value.now) }
+{
+    let number = number_in(alloc, bounds, top, typed.known.as_slice(), value)?;
+    let copy = copied(alloc, name)?;
+    know(alloc, &mut typed.known, name, number)?;
+    typed.names.consts.push(copy)?;
+    Ok(())
+}
+
+/// One more function.
+fn type_fun(
+    alloc: Global,
+    bounds: &Bounds,
+    top: &Names,
+    typed: &mut Typed,
+    item: &FunItem,
+) -> Result<(), Typing>
+    requires width { IsWidth bounds.now }
+    requires numbered { IsNumbered top.now }
+    ensures { Steps result (typed_after bounds.now (top_seen top.now) typed.old) (typed_after bounds.now (top_seen top.now) typed.new) (item.Fun item.now) }
+{
+    let heading = heading_in(alloc, bounds, top, typed.known.as_slice(), item)?;
+    typed.names.funs.push(heading)?;
     Ok(())
 }
 
@@ -119,34 +176,15 @@ fn type_item(
     match item {
         Item::Pragma { word: _, text: _ } => Err(fault(Rule::UnknownName, NOWHERE)),
         Item::Struct { name, fields } => {
-            let def = struct_in(
-                alloc,
-                bounds,
-                top,
-                typed.known.as_slice(),
-                name,
-                fields.as_slice(),
-            )?;
-            typed.names.structs.push(def)?;
-            Ok(())
+            type_struct(alloc, bounds, top, typed, name, fields.as_slice())
         }
-        Item::Const { name, value } => {
-            let number = number_in(alloc, bounds, top, typed.known.as_slice(), value)?;
-            know(alloc, &mut typed.known, name, number)?;
-            let name = copied(alloc, name)?;
-            typed.names.consts.push(name)?;
-            Ok(())
-        }
-        Item::Fun(item) => {
-            let heading = heading_in(alloc, bounds, top, typed.known.as_slice(), item)?;
-            typed.names.funs.push(heading)?;
-            Ok(())
-        }
+        Item::Const { name, value } => type_const(alloc, bounds, top, typed, name, value),
+        Item::Fun(item) => type_fun(alloc, bounds, top, typed, item),
     }
 }
 
 /// What stands at the top, where the names at the top are known.
-#[tactic(auto, using(crate::proofs::ItemLaws::typing))]
+#[tactic(auto, using(crate::proofs::ItemLaws::steps))]
 pub fn typed_top(
     alloc: Global,
     bounds: &Bounds,

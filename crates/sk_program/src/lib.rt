@@ -1,1 +1,10 @@
-//! x
+//! The program that a tree means: names at the top, items, bodies, and `check`.
+#![tactic(auto)]
+
+mod bodies;
+mod items;
+mod meant;
+mod names;
+mod signature;
+
+pub use meant::check;

@@ -13,7 +13,7 @@ ghost use Rattle.sk_typing.specs.Gives.{Gives};
 ghost use Rattle.sk_typing.specs.Leaves.{GivesHeading};
 ghost use Rattle.sk_typing.specs.Envs.{context_of, IsEnv};
 
-use sk_base::{List, Name, Span};
+use sk_base::{List, Name, Span, at as item_at};
 use sk_bodies::written;
 use sk_check::{Heading, Rule, Typing};
 use sk_prog::{Elem, FieldDef, FunKind as PFunKind, ParamDef, StructDef, Ty};
@@ -117,24 +117,22 @@ fn same_param(a: &ParamDef, b: &ParamDef) -> bool
 }
 
 /// Whether parameters have the same types and the same marks `ref`, in order.
-#[tactic(auto, using(crate::proofs::SignatureLaws::parameters))]
+#[tactic(auto, using(crate::proofs::SignatureLaws::rows))]
 fn same_params(a: &[ParamDef], b: &[ParamDef]) -> bool
     ensures { result ≡ same_params a.now b.now }
 {
-    let (mut a, mut b) = (a, b);
-    loop {
-        match (a, b) {
-            ([], []) => return true,
-            ([first, rest @ ..], [other, more @ ..]) => {
-                if !same_param(first, other) {
-                    return false;
-                }
-                a = rest;
-                b = more;
-            }
-            _ => return false,
+    for (i, param) in a.iter().enumerate() {
+        let Some(other) = item_at(b, i) else {
+            return false;
+        };
+        if !same_param(param, other) {
+            return false;
         }
     }
+    if a.len() < b.len() {
+        return false;
+    }
+    true
 }
 
 fn same_result(a: Option<Ty>, b: Option<Ty>) -> bool

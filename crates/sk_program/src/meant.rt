@@ -1,5 +1,5 @@
 //! The program that a tree means.
-ghost use Rattle.std.specs.Prelude.{◌≡◌, not, ◌&&◌, ◌||◌, ◌^◌, ◌<◌, length, map, IfOk, MatchResult};
+ghost use Rattle.std.specs.Prelude.{◌≡◌, not, ◌&&◌, ◌||◌, ◌^◌, ◌<◌, length, map, IfOk, IfErr, MatchResult};
 ghost use Rattle.std.specs.List.{list_any, list_all};
 ghost use Rattle.std.specs.Str.{bytes_eq};
 ghost use Rattle.sk_prog.specs.declared.prog.Prog.{Prog};
@@ -11,7 +11,7 @@ ghost use Rattle.sk_types.specs.Types.{Types, is_generator, is_free, fun_free, s
 ghost use Rattle.sk_check.specs.Whole.{named_top, typed_top, bodies_of, may_keep_names, prog_in, items_of, prog_of};
 ghost use Rattle.sk_typing.specs.Envs.{top_seen, IsNumbered};
 ghost use Rattle.sk_typing.specs.Gives.{Gives, Makes, IsWidth, IsMemory};
-ghost use Rattle.sk_program.specs.Tops.{numbered};
+ghost use Rattle.sk_program.specs.Tops.{IsFault};
 
 use crate::bodies::{Whole, bodies_of};
 use crate::items::typed_top;
@@ -162,7 +162,7 @@ fn items_of(alloc: Global, bounds: &Bounds, items: &[Item]) -> Result<Prog, Typi
     ensures { Gives result (items_of bounds.now items.now) }
 {
     let names = named_top(alloc, items)?;
-    if !are_distinct(&names) {
+    if !are_distinct(alloc, &names)? {
         return Err(fault(Rule::Twice, NOWHERE));
     }
     if !is_numbered(&names) {
@@ -192,6 +192,7 @@ pub fn check(alloc: Global, tree: &Tree, bounds: &Bounds) -> Result<Prog, Typing
     requires { IsWidth bounds.now }
     ensures found { IfOk result (λ prog. Types tree.now bounds.now prog) }
     ensures only { (prog : Prog) → Types tree.now bounds.now prog → MatchResult result (λ made. made ≡ prog) IsMemory }
+    ensures fault { IfErr result (λ why. IsFault why → (prog : Prog) → Types tree.now bounds.now prog → ⊥) }
 {
     let prog = prog_of(alloc, tree, bounds)?;
     Ok(prog)

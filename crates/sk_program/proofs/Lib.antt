@@ -1,0 +1,5 @@
+pub mod TopLaws
+pub mod ItemLaws
+pub mod SignatureLaws
+pub mod FreeLaws
+pub mod CheckLaws
