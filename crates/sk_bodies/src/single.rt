@@ -151,7 +151,8 @@ fn with_lengths(env: &Env, scope: &Scope, elem: Elem, lengths: &[Option<u32>]) -
     match lengths {
         [] => Some(Ty::One(elem)),
         [first] => with_length(env, scope, elem, *first),
-        [first, second, ..] => with_both(env, scope, elem, *first, *second),
+        [first, second] => with_both(env, scope, elem, *first, *second),
+        _ => None,
     }
 }
 

@@ -7,8 +7,8 @@ ghost use Rattle.sk_types.specs.Types.{IsAt};
 ghost use Rattle.sk_typing.specs.Gives.{Gives, Makes, IsMemory};
 ghost use Rattle.sk_check.specs.Envs.{AreDistinct};
 ghost use Rattle.sk_typing.specs.Envs.{top_seen, context_of, IsEnv};
-ghost use Rattle.sk_check.specs.Elaborate.{string_at, strings_at, arguments_at, settings_at, callee_meant, called, all_at};
-ghost use Rattle.sk_check.specs.Parts.{item_part, form_part, part, ats, items, arguments, settings};
+ghost use Rattle.sk_check.specs.Elaborate.{string_at, strings_at, argument_at, arguments_at, settings_at, callee_meant, called, all_at};
+ghost use Rattle.sk_check.specs.Parts.{item_part, argument_part, form_part, part, ats, items, arguments, settings};
 
 use crate::parts::{all_distinct, firm_any, member_found, variable};
 use sk_base::{Boxed, List, Name, Span, at as item_at};
@@ -88,8 +88,21 @@ fn strings(env: &Env, scope: &Scope, ty: Ty, es: &[Expr]) -> Result<List<PExpr>,
     Ok(kept)
 }
 
+/// An argument, at the type of its parameter.
 #[cycle(typing)]
-#[tactic(auto, using(sk_typing::proofs::Follows::passes))]
+fn argument(env: &Env, scope: &Scope, param: &ParamDef, e: &Expr) -> Result<PExpr, Typing>
+    requires { IsEnv env.now }
+    ensures { Gives result (argument_at param.now (argument_part (part (context_of env.now) scope.now e.now))) }
+{
+    if !may_pass(param, variable(env, scope, &e.form)) {
+        return Err(fault(Rule::NotTarget, e.span));
+    }
+    let p = at(env, scope, param.ty, e)?;
+    Ok(p)
+}
+
+#[cycle(typing)]
+#[tactic(auto, using(crate::proofs::PartLaws::passes))]
 fn arguments(
     env: &Env,
     scope: &Scope,
@@ -105,10 +118,7 @@ fn arguments(
         let Some(param) = item_at(params, i) else {
             return Err(fault(Rule::Mismatch, span));
         };
-        if !may_pass(param, variable(env, scope, &e.form)) {
-            return Err(fault(Rule::NotTarget, e.span));
-        }
-        let p = at(env, scope, param.ty, e)?;
+        let p = argument(env, scope, param, e)?;
         made.push(p)?;
     }
     if es.len() < params.len() {
@@ -171,6 +181,7 @@ pub fn called(
 }
 
 #[cycle(typing)]
+#[tactic(auto, using(crate::proofs::PartLaws::names_set))]
 fn made_new(
     env: &Env,
     scope: &Scope,

@@ -6,5 +6,7 @@ mod items;
 mod meant;
 mod names;
 mod signature;
+#[cfg(test)]
+mod tests;
 
 pub use meant::check;
