@@ -102,7 +102,7 @@ fn argument(env: &Env, scope: &Scope, param: &ParamDef, e: &Expr) -> Result<PExp
 }
 
 #[cycle(typing)]
-#[tactic(auto, using(crate::proofs::PartLaws::passes))]
+#[tactic(auto, using(crate::proofs::PartLaws::all_arguments))]
 fn arguments(
     env: &Env,
     scope: &Scope,
@@ -181,7 +181,6 @@ pub fn called(
 }
 
 #[cycle(typing)]
-#[tactic(auto, using(crate::proofs::PartLaws::names_set))]
 fn made_new(
     env: &Env,
     scope: &Scope,
