@@ -232,13 +232,7 @@ fn member(
 
 #[cycle(typing)]
 #[tactic(auto, using(sk_typing::proofs::Follows::length_map))]
-fn braces(
-    env: &Env,
-    scope: &Scope,
-    span: Span,
-    es: &[Expr],
-    ty: Ty,
-) -> Result<PExpr, Typing>
+fn braces(env: &Env, scope: &Scope, span: Span, es: &[Expr], ty: Ty) -> Result<PExpr, Typing>
     requires { IsEnv env.now }
     ensures { Gives result ((form_part (context_of env.now) scope.now (eform.Braces es.now)).at span ty) }
 {

@@ -24,19 +24,13 @@ fn expr(form: EForm) -> Expr {
     }
 }
 
-// one function `f` with no parameters, which answers an integer
-fn names(alloc: Global) -> Result<Names, AllocError> {
-    let mut funs = List::new(alloc);
-    funs.push(Heading {
+// `int f()`
+fn heading(alloc: Global) -> Result<Heading, AllocError> {
+    Ok(Heading {
         name: Name::from_slice(alloc, b"f")?,
         kind: FunKind::Plain,
         result: Some(Ty::One(Elem::Int)),
         params: List::new(alloc),
-    })?;
-    Ok(Names {
-        structs: List::new(alloc),
-        consts: List::new(alloc),
-        funs,
     })
 }
 
@@ -64,7 +58,11 @@ fn is_binary(form: &PEForm) -> bool {
 
 #[test]
 fn a_hole_beside_a_number_is_an_integer(rt: HostRuntime) -> Result<(), AllocError> {
-    let top = names(rt.alloc())?;
+    let top = Names {
+        structs: List::new(rt.alloc()),
+        consts: List::new(rt.alloc()),
+        funs: List::new(rt.alloc()),
+    };
     let env = Env {
         alloc: rt.alloc(),
         bounds: BOUNDS,
@@ -86,7 +84,13 @@ fn a_hole_beside_a_number_is_an_integer(rt: HostRuntime) -> Result<(), AllocErro
 
 #[test]
 fn a_call_has_the_type_of_its_function(rt: HostRuntime) -> Result<(), AllocError> {
-    let top = names(rt.alloc())?;
+    let mut funs = List::new(rt.alloc());
+    funs.push(heading(rt.alloc())?)?;
+    let top = Names {
+        structs: List::new(rt.alloc()),
+        consts: List::new(rt.alloc()),
+        funs,
+    };
     let env = Env {
         alloc: rt.alloc(),
         bounds: BOUNDS,

@@ -11,7 +11,7 @@ pub use env::{Env, Names, field_place, is_same};
 pub use own::{is_harness, reference_meant, reference_to, struct_meant};
 pub use rules::{
     BIT, INT, binary_wants, boxed, copied, cut, element_wanted, fault, field_found, firm, hole_at,
-    indexed, is_type, may_keep, may_pass, named_at, null_at, number_at, numbered, pattern_at, typed,
-    unary_wants,
+    indexed, is_type, may_keep, may_pass, named_at, null_at, number_at, numbered, pattern_at,
+    typed, unary_wants,
 };
 pub use scope::Scope;
