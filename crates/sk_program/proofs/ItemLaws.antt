@@ -22,15 +22,12 @@ use Rattle.sk_check.specs.Envs.{known, signature}
 use Rattle.sk_check.specs.Whole.{Bodies, no_top, with_struct, with_const, with_fun, context_in, struct_of, heading_of, const_of, fun_of, typed_top, bodies_of}
 use Rattle.sk_typing.specs.Gives.{Fails}
 use Rattle.sk_program.specs.Tops.{joined, joined_bodies, Steps}
+use Rattle.sk_program.proofs.TopLaws.{map_added, joined_none}
 use Rattle.sk_typing.proofs.Places.{split_at}
 
 pub known_added : (ks : List Constant) (k : Constant) → map known (ks ++ k ∷ []) ≡ map known ks ++ known k ∷ []
 known_added [] k = refl
 known_added (c ∷ ks) k = ap (λ rest. known c ∷ rest) (known_added ks k)
-
-map_added : (hs : List Heading) (h : Heading) → map signature (hs ++ h ∷ []) ≡ map signature hs ++ signature h ∷ []
-map_added [] h = refl
-map_added (g ∷ hs) h = ap (λ rest. signature g ∷ rest) (map_added hs h)
 
 -- what items become behind a top, and behind bodies
 
@@ -146,10 +143,7 @@ pub bodies_first : (o : Option Bodies) → (o >>= λ rest. Some (joined_bodies (
 bodies_first None = refl
 bodies_first (Some r) = refl
 
-pub joined_last : (a : Top) → joined a no_top ≡ a
-joined_last a = λ i. record { structs = append-nil a.structs i; consts = append-nil a.consts i; funs = append-nil a.funs i }
-
 pub bodies_last : (a : Bodies) → joined_bodies a (record { consts = []; funs = [] }) ≡ a
 bodies_last a = λ i. record { consts = append-nil a.consts i; funs = append-nil a.funs i }
 
-pub ruleset steps = (split_at, joined_first, joined_last, bodies_first, bodies_last)
+pub ruleset steps = (split_at, joined_first, joined_none, bodies_first, bodies_last)

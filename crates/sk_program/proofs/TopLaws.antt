@@ -14,7 +14,7 @@ use Rattle.sk_typing.proofs.Places.{split_at}
 pub append_none : {X : Type 0} (xs : List X) → xs ++ [] ≡ xs
 append_none xs = append-nil xs
 
-map_added : (hs : List Heading) (h : Heading) → map signature (hs ++ h ∷ []) ≡ map signature hs ++ signature h ∷ []
+pub map_added : (hs : List Heading) (h : Heading) → map signature (hs ++ h ∷ []) ≡ map signature hs ++ signature h ∷ []
 map_added [] h = refl
 map_added (g ∷ hs) h = ap (λ rest. signature g ∷ rest) (map_added hs h)
 
