@@ -88,7 +88,7 @@ pub struct Filler<'a> {
 
 impl Filler<'_> {
     /// The value of the site at a place, which is passed.
-    fn next(&self, at: &mut usize) -> u32
+    pub fn next(&self, at: &mut usize) -> u32
         requires { at.old < length self.now.values.now }
         ensures value { result ≡ value_at self.now at.old }
         ensures at { at.new ≡ at.old + 1 }
@@ -217,7 +217,7 @@ impl Filler<'_> {
 
     /// An expression whose first site has the place.
     #[cycle(expr)]
-    fn expr(&self, at: &mut usize, e: &PExpr) -> Result<PExpr, AllocError>
+    pub fn expr(&self, at: &mut usize, e: &PExpr) -> Result<PExpr, AllocError>
         requires { Reaches self.now at.old ((expr self.now e.now).count) }
         ensures filled { IfOk result (λ x. x ≡ (expr self.now e.now).at at.old) }
         ensures at { OnOk result (at.new ≡ at.old + ((expr self.now e.now).count)) }

@@ -1,9 +1,12 @@
 //! Fills the sites of expanded programs.
 #![tactic(auto)]
 
+mod copy;
 mod fault;
 mod filler;
 mod range;
 mod ranks;
+mod slots;
+mod statement;
 
 pub use fault::FillFault;

@@ -1,5 +1,6 @@
 //! The new numbers of functions where some are left out.
-ghost use Rattle.std.specs.Prelude.{◌≡◌, ◌<◌, IfOk, length};
+ghost use Rattle.std.specs.Prelude.{◌≡◌, ◌+◌, IfOk};
+ghost use Rattle.sk_model.specs.Parts.{one_if};
 ghost use Rattle.sk_holes.specs.Ranks.{ranks_from, count_true};
 
 use std::alloc::{AllocError, Global};
@@ -11,9 +12,22 @@ pub struct Ranks {
     pub last: u32,
 }
 
+/// The next number after that of a function, if it stands. No memory holds so many functions that they
+/// cannot be numbered.
+fn after(number: u32, stands: bool) -> Result<u32, AllocError>
+    ensures { IfOk result (λ next. next ≡ number + one_if stands) }
+{
+    if !stands {
+        return Ok(number);
+    }
+    match number.checked_add(1) {
+        Some(next) => Ok(next),
+        None => Err(AllocError),
+    }
+}
+
 /// The new numbers of functions, given which of them stand.
 pub fn number_functions(alloc: Global, stands: &[bool]) -> Result<Ranks, AllocError>
-    requires { length stands.now < 4294967296 }
     ensures table { IfOk result (λ r. r.table.items ≡ ranks_from 0 stands.now) }
     ensures last { IfOk result (λ r. r.last ≡ count_true stands.now) }
 {
@@ -21,9 +35,7 @@ pub fn number_functions(alloc: Global, stands: &[bool]) -> Result<Ranks, AllocEr
     let mut last = 0u32;
     for stand in stands {
         table.push(last)?;
-        if *stand {
-            last += 1;
-        }
+        last = after(last, *stand)?;
     }
     Ok(Ranks { table, last })
 }

@@ -1,4 +1,4 @@
-use Rattle.std.proofs.Common.{◌≡◌, drop, ◌++◌, ◌+◌, ◌≤◌}
+use Rattle.std.proofs.Common.{◌≡◌, drop, ◌++◌, ◌+◌}
 use Rattle.sk_holes.specs.Ranks.{ranks_from, count_true}
 use Rattle.sk_holes.proofs.ranks.number_functions.Given as goal
 
@@ -7,5 +7,4 @@ abbrev pub invariant-loop-stand : goal.invariant-loop-stand
 invariant-loop-stand l = record {
   table : l.table.items ++ ranks_from l.last (drop l.stand-index l.stands) ≡ ranks_from 0 l.stands;
   last : l.last + count_true (drop l.stand-index l.stands) ≡ count_true l.stands;
-  few : l.last ≤ l.stand-index;
 }
