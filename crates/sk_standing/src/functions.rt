@@ -1,10 +1,10 @@
 //! Which functions of a program stand under a choice.
-ghost use Rattle.std.specs.Prelude.{◌≡◌, ◌≤◌, ◌+◌, ◌++◌, ◌∷◌, [], IfOk, OnOk, length, map};
+ghost use Rattle.std.specs.Prelude.{◌≡◌, ◌≤◌, ◌+◌, ◌++◌, ◌∷◌, [], IfOk, OnOk, length, map, drop};
 ghost use Rattle.sk_model.specs.Parts.{total};
 ghost use Rattle.sk_model.specs.Stands.{standing_from, funs_stand, all_paid};
 ghost use Rattle.sk_standing.specs.Marks.{marked, kept_if};
 ghost use Rattle.sk_standing.specs.Standing.{Has, stmts};
-ghost use Rattle.sk_standing.specs.Functions.{sites_in, stands_by};
+ghost use Rattle.sk_standing.specs.Functions.{sites_in, stands_by, stood_in};
 
 use crate::met::Met;
 use crate::walker::Walker;
@@ -76,7 +76,42 @@ fn body(
     Ok(())
 }
 
+/// Marks the functions in a table that are met behind a number of others.
+fn mark_new(table: &mut [bool], met: &Met, from: usize)
+    requires { from ≤ length met.now.called }
+    ensures { table.new ≡ marked table.old (drop from met.now.called) }
+{
+    let called = met.called();
+    mark(table, &called[from..]);
+}
+
+/// Whether one more function stands, which has a number and whose first site has the place, and what stands in it.
+#[tactic(auto, using(crate::proofs::StandLaws::drop_front))]
+fn step(
+    walker: &Walker,
+    ordinary: u32,
+    n: usize,
+    f: &Fun,
+    at: &mut usize,
+    table: &mut [bool],
+    met: &mut Met,
+) -> Result<bool, AllocError>
+    requires { Has walker.now at.old (sites_in walker.now.values.now f.now) }
+    ensures stands { IfOk result (λ b. b ≡ stands_by ordinary table.old n) }
+    ensures called { OnOk result (met.new.called ≡ met.old.called ++ (stood_in walker.now.values.now ordinary table.old n f.now at.old).called) }
+    ensures payments { OnOk result (met.new.payments ≡ met.old.payments ++ (stood_in walker.now.values.now ordinary table.old n f.now at.old).paid) }
+    ensures table { OnOk result (table.new ≡ marked table.old (stood_in walker.now.values.now ordinary table.old n f.now at.old).called) }
+    ensures at { OnOk result (at.new ≡ at.old + sites_in walker.now.values.now f.now) }
+{
+    let from = met.called().len();
+    let stand = stands(table, ordinary, n);
+    body(walker, stand, at, met, f.body.as_slice())?;
+    mark_new(table, met, from);
+    Ok(stand)
+}
+
 /// What stands of functions, of which the first, so many, are ordinary, under the values of a walker.
+#[tactic(auto, using(crate::proofs::StandLaws::progress))]
 pub fn what_stands(
     alloc: Global,
     walker: &Walker,
@@ -94,10 +129,9 @@ pub fn what_stands(
     let mut table = vec![in alloc; false; funs.len()]?;
     let mut at = 0;
     for (n, f) in funs.iter().enumerate() {
-        let (first, from) = (at, met.called().len());
-        let stand = stands(table.as_slice(), ordinary, n);
-        body(walker, stand, &mut at, &mut met, f.body.as_slice())?;
-        mark(table.as_mut_slice(), &met.called()[from..]);
+        let first = at;
+        let marks = table.as_mut_slice();
+        let stand = step(walker, ordinary, n, f, &mut at, marks, &mut met)?;
         all.push(stand)?;
         counts.push(at - first)?;
     }
