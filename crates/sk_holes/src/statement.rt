@@ -125,8 +125,8 @@ impl Filler<'_> {
     fn repeated(
         &self,
         at: &mut usize,
-        count: &PExpr,
         copies: &[PStmt],
+        count: &PExpr,
     ) -> Result<Vec<PStmt>, AllocError>
         requires { Reaches self.now at.old ((repeated self.now count.now copies.now).count) }
         ensures filled { IfOk result (λ x. sform.Block x.items ≡ (repeated self.now count.now copies.now).at at.old) }
@@ -174,25 +174,7 @@ impl Filler<'_> {
     }
 
     #[cycle(stmt)]
-    fn branched(
-        &self,
-        at: &mut usize,
-        cond: &PExpr,
-        then: &PStmt,
-        other: &Option<Boxed<PStmt>>,
-    ) -> Result<PForm, AllocError>
-        requires { Reaches self.now at.old ((expr self.now cond.now).count + ((stmt self.now then.now).count + (branch self.now other.now).count)) }
-        ensures filled { IfOk result (λ x. x ≡ sform.If ((expr self.now cond.now).at at.old) ((stmt self.now then.now).at (at.old + (expr self.now cond.now).count)) ((branch self.now other.now).at (at.old + (expr self.now cond.now).count + (stmt self.now then.now).count))) }
-        ensures at { OnOk result (at.new ≡ at.old + ((expr self.now cond.now).count + ((stmt self.now then.now).count + (branch self.now other.now).count))) }
-    {
-        let cond = self.expr(at, cond)?;
-        let then = self.boxed_stmt(at, then)?;
-        let other = self.other(at, other)?;
-        Ok(PForm::If { cond, then, other })
-    }
-
-    #[cycle(stmt)]
-    fn looped(&self, at: &mut usize, cond: &PExpr, body: &PStmt) -> Result<PForm, AllocError>
+    fn looped(&self, at: &mut usize, body: &PStmt, cond: &PExpr) -> Result<PForm, AllocError>
         requires { Reaches self.now at.old ((expr self.now cond.now).count + (stmt self.now body.now).count) }
         ensures filled { IfOk result (λ x. x ≡ sform.While ((expr self.now cond.now).at at.old) ((stmt self.now body.now).at (at.old + (expr self.now cond.now).count))) }
         ensures at { OnOk result (at.new ≡ at.old + ((expr self.now cond.now).count + (stmt self.now body.now).count)) }
@@ -202,9 +184,10 @@ impl Filler<'_> {
         Ok(PForm::While { cond, body })
     }
 
-    /// A form whose first site has the place. Each arm is one call: the borrows of a long function take
+    /// A form whose first site has the place. Most arms are one call: the borrows of a long function take
     /// minutes to check.
     #[cycle(stmt)]
+    #[tactic(auto, using(crate::proofs::Lengths::mapped))]
     fn form(&self, at: &mut usize, of: &PForm) -> Result<PForm, AllocError>
         requires { Reaches self.now at.old ((form self.now of.now).count) }
         ensures filled { IfOk result (λ x. x ≡ (form self.now of.now).at at.old) }
@@ -220,14 +203,19 @@ impl Filler<'_> {
             } => self.declared(at, *slot, name, *ty, value),
             PForm::Assign { target, value } => self.assigned(at, target, value),
             PForm::Call(e) => Ok(PForm::Call(self.expr(at, e)?)),
-            PForm::If { cond, then, other } => self.branched(at, cond, then.get(), other),
-            PForm::While { cond, body } => self.looped(at, cond, body.get()),
+            PForm::If { cond, then, other } => {
+                let cond = self.expr(at, cond)?;
+                let then = self.boxed_stmt(at, then.get())?;
+                let other = self.other(at, other)?;
+                Ok(PForm::If { cond, then, other })
+            }
+            PForm::While { cond, body } => self.looped(at, body.get(), cond),
             PForm::Return(e) => Ok(PForm::Return(self.optional(at, e)?)),
             PForm::Assert(e) => Ok(PForm::Assert(self.expr(at, e)?)),
             PForm::Assume(e) => Ok(PForm::Assume(self.expr(at, e)?)),
             PForm::Minimize(e) => Ok(PForm::Minimize(self.expr(at, e)?)),
             PForm::Repeat { count, copies } => {
-                Ok(block(self.repeated(at, count, copies.as_slice())?))
+                Ok(block(self.repeated(at, copies.as_slice(), count)?))
             }
             PForm::MinRepeat(copies) => Ok(block(self.kept(at, copies.as_slice())?)),
             PForm::Reorder(ss) => Ok(block(self.reordered(at, ss.as_slice())?)),

@@ -1,7 +1,7 @@
 use Rattle.std.proofs.Common.{◌≡◌, drop, ◌++◌, ◌+◌, ◌-◌, [], length}
 use Rattle.sk_model.specs.Fill.{arrange}
 use Rattle.sk_holes.specs.Filling.{stmts}
-use Rattle.sk_holes.proofs.statement.Filler.+stmt.Given as goal
+use Rattle.sk_holes.proofs.filler.Filler.+stmt.Given as goal
 
 -- what is filled from here, after what is filled so far, is all that is filled
 abbrev pub invariant-stmts-loop-s : goal.invariant-stmts-loop-s
