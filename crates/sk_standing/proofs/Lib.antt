@@ -1,2 +1,4 @@
 pub mod MarkLaws
 pub mod StandLaws
+pub mod Lengths
+pub mod Rows

@@ -1,8 +1,9 @@
 -- The table of called functions says which copies stand.
-use Rattle.std.proofs.Common.{◌≡◌, ℕ, zero, suc, ◌+◌, ◌-◌, ◌<◌, ◌≤◌, Bool, true, false, List, [], ◌∷◌, ◌++◌, map, length, drop, get_or, refl, sym, ap, subst, ◌∙◌, append_assoc, arith, inl, inr}
+use Rattle.std.proofs.Common.{◌≡◌, ℕ, zero, suc, ◌+◌, ◌-◌, ◌<◌, ◌≤◌, Bool, true, false, List, [], ◌∷◌, ◌++◌, map, length, take, drop, get_or, refl, sym, ap, subst, ◌∙◌, append_assoc, arith, inl, inr}
 use Rattle.std.specs.Prelude.{◌==◌, ◌||◌, nat_lt, slice_set, slice_index_or, replicate}
 use Rattle.std.proofs.lemmas.List.{append-nil, length-set, get_or-set_same, get_or-set_other, drop_more, drop_all, length-replicate}
 use Rattle.std.proofs.lemmas.List.Folds.{list_any-append}
+use Rattle.std.proofs.Math.Seq.{take-append_seam}
 use Rattle.std.proofs.lemmas.Bool.Decides.{eqb_tells}
 use Rattle.std.proofs.Math.Bool.{or-false}
 use Rattle.sk_prog.specs.declared.prog.Fun.{Fun}
@@ -81,7 +82,7 @@ begun values ordinary funs = record {
   stands = refl;
   pays = refl;
   counted = refl;
-  place = refl;
+  place = omega arith;
 }
 
 -- one more function
@@ -151,4 +152,26 @@ stepped values ordinary funs table all counts called paid n i f table' b called'
     let many : j - i ≡ sites_in values f = omega (arith, place) in
     rw (many, is, calls, pays, marks, place) (one_more values ordinary funs table all counts called paid n i f below item h)
 
-pub ruleset progress = (begun, stepped, room, all_known)
+-- what a slice of a whole list holds after it is written
+written_back : (after table : List Bool) (len : ℕ) → len ≡ length after → take len (after ++ drop (length after) table) ≡ after
+written_back after table len e = ap (λ n. take n (after ++ drop (length after) table)) e ∙ take-append_seam after (drop (length after) table)
+
+-- one more function, where its table is written in place
+pub turned : (values : List ℕ) (ordinary : ℕ) (funs : List Fun) (table all : List Bool) (counts called : List ℕ) (paid : List Payment) (n i : ℕ) (f : Fun)
+    (before after all' : List Bool) (counts' : List ℕ) (b : Bool) (called' : List ℕ) (paid' : List Payment) (j len : ℕ)
+    → n < length funs → f ≡ get_or funs n f → Progress values ordinary funs table all counts called paid n i
+    → before ≡ table → len ≡ length table
+    → b ≡ stands_by ordinary before n
+    → called' ≡ called ++ (stood_in values ordinary before n f i).called
+    → paid' ≡ paid ++ (stood_in values ordinary before n f i).paid
+    → after ≡ marked before (stood_in values ordinary before n f i).called
+    → j ≡ i + sites_in values f
+    → all' ≡ all ++ b ∷ [] → counts' ≡ counts ++ (j - i) ∷ []
+    → Progress values ordinary funs (take len (after ++ drop (length after) table)) all' counts' called' paid' (n + 1) j
+turned values ordinary funs table all counts called paid n i f before after all' counts' b called' paid' j len below item h same whole is calls pays marks place alls many =
+    let known : Progress values ordinary funs before all counts called paid n i = subst (λ (t : List Bool). Progress values ordinary funs t all counts called paid n i) (sym same) h in
+    let next : Progress values ordinary funs after (all ++ b ∷ []) (counts ++ (j - i) ∷ []) called' paid' (n + 1) j = stepped values ordinary funs before all counts called paid n i f after b called' paid' j below item known is calls pays marks place in
+    let kept : len ≡ length after = omega (arith, whole, h.width, next.width) in
+    rw (written_back after table len kept, alls, many) next
+
+pub ruleset progress = (begun, room, all_known)

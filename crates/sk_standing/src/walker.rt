@@ -152,7 +152,7 @@ impl Walker<'_> {
     }
 
     #[cycle(skip_stmt)]
-    fn skip_repeated(&self, at: &mut usize, count: &PExpr, ss: &[PStmt])
+    fn skip_repeated(&self, at: &mut usize, ss: &[PStmt], count: &PExpr)
         requires { Has self.now at.old ((repeated self.now count.now ss.now).count) }
         ensures { at.new ≡ at.old + ((repeated self.now count.now ss.now).count) }
     {
@@ -172,6 +172,7 @@ impl Walker<'_> {
     }
 
     #[cycle(skip_stmt)]
+    #[tactic(auto, using(crate::proofs::Lengths::mapped))]
     fn skip_stmt(&self, at: &mut usize, s: &PStmt)
         requires { Has self.now at.old ((stmt self.now s.now).count) }
         ensures { at.new ≡ at.old + ((stmt self.now s.now).count) }
@@ -202,7 +203,7 @@ impl Walker<'_> {
             PForm::Assert(e) => self.skip_expr(at, e),
             PForm::Assume(e) => self.skip_expr(at, e),
             PForm::Minimize(e) => self.skip_expr(at, e),
-            PForm::Repeat { count, copies } => self.skip_repeated(at, count, copies.as_slice()),
+            PForm::Repeat { count, copies } => self.skip_repeated(at, copies.as_slice(), count),
             PForm::MinRepeat(copies) => self.skip_kept(at, copies.as_slice()),
             PForm::Reorder(ss) => self.skip_reordered(at, ss.as_slice()),
         }
@@ -488,8 +489,8 @@ impl Walker<'_> {
         &self,
         at: &mut usize,
         met: &mut Met,
-        count: &PExpr,
         ss: &[PStmt],
+        count: &PExpr,
     ) -> Result<(), AllocError>
         requires { Has self.now at.old ((repeated self.now count.now ss.now).count) }
         ensures called { OnOk result (met.new.called ≡ met.old.called ++ ((repeated self.now count.now ss.now).at at.old).called) }
@@ -522,6 +523,7 @@ impl Walker<'_> {
 
     /// A statement that stands, whose first site has the place.
     #[cycle(stmt)]
+    #[tactic(auto, using(crate::proofs::Lengths::mapped))]
     fn stmt(&self, at: &mut usize, met: &mut Met, s: &PStmt) -> Result<(), AllocError>
         requires { Has self.now at.old ((stmt self.now s.now).count) }
         ensures called { OnOk result (met.new.called ≡ met.old.called ++ ((stmt self.now s.now).at at.old).called) }
@@ -579,7 +581,7 @@ impl Walker<'_> {
                 Ok(())
             }
             PForm::Repeat { count, copies } => {
-                self.repeated(at, met, count, copies.as_slice())?;
+                self.repeated(at, met, copies.as_slice(), count)?;
                 Ok(())
             }
             PForm::MinRepeat(copies) => {
