@@ -5,7 +5,6 @@ use Rattle.std.proofs.Math.Nat.{max-le}
 use Rattle.sk_base.specs.declared.span.Span.{Span}
 use Rattle.sk_tree.specs.declared.token.Mark.{Mark}
 use Rattle.sk_tree.specs.declared.token.Mark.TheVariants as mark
-use Rattle.sk_tree.specs.declared.pattern.Pattern.{Pattern}
 use Rattle.sk_tree.specs.declared.expr.Expr.{Expr}
 use Rattle.sk_tree.specs.declared.expr.EForm.{EForm}
 use Rattle.sk_tree.specs.declared.expr.NewField.{NewField}
@@ -17,18 +16,17 @@ use Rattle.sk_tree.specs.declared.stmt.Form.{Form}
 use Rattle.sk_tree.specs.declared.stmt.Form.TheOpen as F
 use Rattle.sk_tree.specs.declared.stmt.Form.TheViews.{roll-Form}
 use Rattle.sk_tree.specs.declared.stmt.Form.TheFolds.{map-Form, fold-Form, fold-roll-Form, fold-roll-Stmt}
-use Rattle.sk_tree.specs.declared.stmt.Declared.{Declared}
 use Rattle.sk_tree.specs.declared.item.TyTree.{TyTree}
 use Rattle.sk_tree.specs.declared.item.Param.{Param}
 use Rattle.sk_tree.specs.declared.item.FunItem.{FunItem}
 use Rattle.sk_tree.specs.declared.item.Item.{Item}
 use Rattle.sk_tree.specs.declared.item.Item.TheVariants as item
 use Rattle.sk_tree.specs.declared.item.Tree.{Tree}
-use Rattle.sk_tree.specs.Depth.{eform_depth, expr_depth, ty_depth, declared_depth, form_depth, stmt_depth, param_depth, fun_depth, item_depth, tree_depth, deepest, any_depth, most_levels}
-use Rattle.sk_tree.specs.Patterns.{Patterns, any_patterns, eform_patterns, expr_patterns, ty_patterns, declared_patterns, form_patterns, stmt_patterns, param_patterns, fun_patterns, item_patterns, patterns_of}
+use Rattle.sk_tree.specs.Depth.{eform_depth, expr_depth, ty_depth, form_depth, stmt_depth, param_depth, fun_depth, item_depth, tree_depth, deepest, any_depth, most_levels}
+use Rattle.sk_tree.specs.Patterns.{Patterns, any_patterns, eform_patterns, expr_patterns, ty_patterns, form_patterns, stmt_patterns, param_patterns, fun_patterns, item_patterns, patterns_of}
 use Rattle.sk_tree.specs.Reads.{HasTooManyStrings, HasBadAlternative}
 use Rattle.sk_tree.proofs.Layers.{expr_law}
-use Rattle.sk_app.specs.Early.{Rank, Operand, Sum, Equation, Other, is_sum, is_equation, of_operands, of_sums, operator_rank, eform_rank, rank, is_name, is_int, is_sum_value, is_one_value, early_form, early_stmt, early_param, is_harness, is_absent, early_fun, is_early}
+use Rattle.sk_app.specs.Early.{Rank, Operand, Sum, Equation, Other, is_sum, of_operands, of_sums, operator_rank, eform_rank, rank, is_name, is_int, is_sum_value, is_one_value, early_form, early_stmt, early_param, is_harness, is_absent, early_fun, is_early}
 use Rattle.sk_app.proofs.ReadingLayers.{layer_stmt, by_form, bool_layer, early_is}
 use Rattle.sk_app.proofs.EarlyTrees.{is_known, known_sum, known_equation, both_true, form_rank, field_rank, form_rank_is, rank_is, no_lengths, one_name, name_target, OneFun, one_item}
 

@@ -1,6 +1,5 @@
 -- A text reads as one tree, or has one fault; and an early tree is among those that are read.
-use Rattle.std.proofs.Common.{◌≡◌, ℕ, suc, max, ◌+◌, ◌≤◌, List, [], ◌∷◌, ◌++◌, length, Option, Some, None, refl, sym, ap, ◌∙◌, subst, arith, length-append, IsTrue}
-use Rattle.std.proofs.Math.Nat.{max-le}
+use Rattle.std.proofs.Common.{◌≡◌, ℕ, max, ◌+◌, ◌≤◌, List, [], ◌∷◌, ◌++◌, length, Option, Some, None, refl, sym, ap, ◌∙◌, subst, arith, length-append, IsTrue}
 use Rattle.sk_tree.specs.declared.shape.Shape.{Shape}
 use Rattle.sk_tree.specs.declared.shape.Shape.TheVariants as shape
 use Rattle.sk_tree.specs.declared.token.Token.{Token}
@@ -21,7 +20,7 @@ use Rattle.sk_app.specs.declared.ending.TextFault.TheVariants.{Lex, Parse}
 use Rattle.sk_app.specs.declared.tree.Read.{Read}
 use Rattle.sk_app.specs.declared.tree.Read.TheVariants as read
 use Rattle.sk_app.specs.Built.{IsTree}
-use Rattle.sk_app.specs.TextFaults.{HasTree, HasTokens, IsLexFault, IsParseFault, IsTextFault, IsSameKind, IsSameFault}
+use Rattle.sk_app.specs.TextFaults.{HasTree, IsLexFault, IsParseFault, IsTextFault, IsSameKind, IsSameFault}
 use Rattle.sk_app.specs.Read.{Refuses, IsParsed, IsRead}
 use Rattle.sk_app.proofs.EarlyShallow.{early_depth, early_few, early_good}
 

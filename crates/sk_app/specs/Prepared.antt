@@ -1,6 +1,7 @@
 -- What a text comes to, and what a source comes to.
 use Rattle.std.specs.Prelude.{ℕ, ◌≤◌, List, length, Option, IfSome}
 use Rattle.sk_base.specs.Stream.{Rose}
+use Rattle.sk_tree.specs.declared.item.Tree.{Tree}
 use Rattle.sk_model.specs.declared.expanded.Expanded.{Expanded}
 use Rattle.sk_app.specs.declared.prepare.Found.{Found}
 use Rattle.sk_app.specs.declared.prepare.Found.TheVariants as found
@@ -10,8 +11,6 @@ use Rattle.sk_app.specs.Streams.{IsLong, most_bytes}
 use Rattle.sk_app.specs.Built.{IsBuilt}
 use Rattle.sk_app.specs.ResultText.{IsCompletion, IsNone}
 use Rattle.sk_app.specs.TextFaults.{HasTree, IsTextFault}
-use Rattle.sk_app.specs.declared.ending.TextFault.{TextFault}
-use Rattle.sk_tree.specs.declared.item.Tree.{Tree}
 
 -- the text has no expansion that the program takes so far
 abbrev pub IsUnbuilt : List ℕ → Type 0
