@@ -1,0 +1,2 @@
+pub mod ParseLaws
+pub mod Verdicts
