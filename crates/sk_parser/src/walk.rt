@@ -83,64 +83,54 @@ fn see(alloc: Global, faults: Faults, at: u32, pattern: &Pattern) -> Result<Faul
 
 // With the patterns of an expression.
 #[cycle(expr_faults)]
-#[tactic(auto, using(sk_reading::proofs::Walks::all_seen_none, sk_reading::proofs::Walks::all_seen_one))]
+#[tactic(auto, using(sk_reading::proofs::Walks::all_seen_none, sk_reading::proofs::Walks::all_seen_one, sk_reading::proofs::Walks::all_seen_both))]
 fn see_expr(alloc: Global, faults: Faults, expr: &Expr) -> Result<Faults, AllocError>
     ensures { IfOk result (λ more. tally more ≡ all_seen (tally faults) (expr_patterns expr.now)) }
 {
     match &expr.form {
-        EForm::Number(_) => Ok(faults),
-        EForm::True => Ok(faults),
-        EForm::False => Ok(faults),
-        EForm::Null => Ok(faults),
-        EForm::Word(_) => Ok(faults),
-        EForm::Hole(_) => Ok(faults),
+        EForm::Number(_)
+        | EForm::True
+        | EForm::False
+        | EForm::Null
+        | EForm::Word(_)
+        | EForm::Hole(_) => Ok(faults),
         EForm::Pattern { pattern, .. } => {
             let faults = see(alloc, faults, expr.span.from, pattern)?;
             Ok(faults)
         }
-        EForm::Paren(of) => see_expr(alloc, faults, of.get()),
-        EForm::Call { args, .. } => see_exprs(alloc, faults, args.as_slice()),
+        EForm::Paren(of) | EForm::Unary { of, .. } | EForm::Member { base: of, .. } => see_expr(
+            alloc,
+            faults,
+            of.get(),
+        ),
+        EForm::Call { args: of, .. } | EForm::Braces(of) => see_exprs(alloc, faults, of.as_slice()),
         EForm::New { fields, .. } => see_sets(alloc, faults, fields.as_slice()),
-        EForm::Braces(elements) => see_exprs(alloc, faults, elements.as_slice()),
-        EForm::Member { base, .. } => see_expr(alloc, faults, base.get()),
-        EForm::Index { base, index } => see_two(alloc, faults, base.get(), index.get()),
-        EForm::Slice { base, from, length } => {
-            see_three(alloc, faults, base.get(), from.get(), length.get())
+        EForm::Index { base: a, index: b }
+        | EForm::Binary {
+            left: a,
+            right: b,
+            ..
+        } => {
+            let faults = see_expr(alloc, faults, a.get())?;
+            let faults = see_expr(alloc, faults, b.get())?;
+            Ok(faults)
         }
-        EForm::Unary { of, .. } => see_expr(alloc, faults, of.get()),
-        EForm::Binary { left, right, .. } => see_two(alloc, faults, left.get(), right.get()),
-        EForm::Cond { cond, then, other } => {
-            see_three(alloc, faults, cond.get(), then.get(), other.get())
+        EForm::Slice {
+            base: a,
+            from: b,
+            length: c,
+        }
+        | EForm::Cond {
+            cond: a,
+            then: b,
+            other: c,
+        } => {
+            let faults = see_expr(alloc, faults, a.get())?;
+            let faults = see_expr(alloc, faults, b.get())?;
+            let faults = see_expr(alloc, faults, c.get())?;
+            Ok(faults)
         }
     }
-}
-
-// With the patterns of two expressions.
-#[cycle(expr_faults)]
-#[tactic(auto, using(sk_reading::proofs::Walks::all_seen_both))]
-fn see_two(alloc: Global, faults: Faults, a: &Expr, b: &Expr) -> Result<Faults, AllocError>
-    ensures { IfOk result (λ more. tally more ≡ all_seen (tally faults) (expr_patterns a.now ++ expr_patterns b.now)) }
-{
-    let faults = see_expr(alloc, faults, a)?;
-    let faults = see_expr(alloc, faults, b)?;
-    Ok(faults)
-}
-
-// With the patterns of three expressions.
-#[cycle(expr_faults)]
-#[tactic(auto, using(sk_reading::proofs::Walks::all_seen_both))]
-fn see_three(
-    alloc: Global,
-    faults: Faults,
-    a: &Expr,
-    b: &Expr,
-    c: &Expr,
-) -> Result<Faults, AllocError>
-    ensures { IfOk result (λ more. tally more ≡ all_seen (tally faults) (expr_patterns a.now ++ expr_patterns b.now ++ expr_patterns c.now)) }
-{
-    let faults = see_expr(alloc, faults, a)?;
-    let faults = see_two(alloc, faults, b, c)?;
-    Ok(faults)
 }
 
 // With the patterns of expressions.
@@ -225,6 +215,21 @@ fn see_declaration(
     Ok(faults)
 }
 
+// With the patterns of an assignment.
+#[tactic(auto, using(sk_reading::proofs::Walks::all_seen_both))]
+fn see_assignment(
+    alloc: Global,
+    faults: Faults,
+    target: &Expr,
+    value: &Expr,
+) -> Result<Faults, AllocError>
+    ensures { IfOk result (λ more. tally more ≡ all_seen (tally faults) (expr_patterns target.now ++ expr_patterns value.now)) }
+{
+    let faults = see_expr(alloc, faults, target)?;
+    let faults = see_expr(alloc, faults, value)?;
+    Ok(faults)
+}
+
 // With the patterns of a step.
 #[tactic(auto, using(sk_reading::proofs::Walks::all_seen_both))]
 fn see_step(
@@ -242,62 +247,44 @@ fn see_step(
 
 // With the patterns of a statement.
 #[cycle(stmt_faults)]
-#[tactic(auto, using(sk_reading::proofs::Walks::all_seen_none))]
+#[tactic(auto, using(sk_reading::proofs::Walks::all_seen_none, sk_reading::proofs::Walks::all_seen_both))]
 fn see_stmt(alloc: Global, faults: Faults, stmt: &Stmt) -> Result<Faults, AllocError>
     ensures { IfOk result (λ more. tally more ≡ all_seen (tally faults) (stmt_patterns stmt.now)) }
 {
     match &stmt.form {
-        Form::Block(stmts) => see_stmts(alloc, faults, stmts.as_slice()),
         Form::Empty => Ok(faults),
+        Form::Block(stmts) | Form::Reorder(stmts) => see_stmts(alloc, faults, stmts.as_slice()),
         Form::Declare { ty, names } => see_declaration(alloc, faults, ty, names.as_slice()),
-        Form::Assign { target, value } => see_two(alloc, faults, target, value),
-        Form::Call(expr) => see_expr(alloc, faults, expr),
+        Form::Assign { target, value } => see_assignment(alloc, faults, target, value),
         Form::Step { target, by, .. } => see_step(alloc, faults, target, by),
-        Form::If { cond, then, other } => see_if(alloc, faults, cond, then.get(), other),
-        Form::While { cond, body } => see_turns(alloc, faults, cond, body.get()),
+        Form::Return(value) => see_perhaps(alloc, faults, value),
+        Form::Call(expr) | Form::Assert(expr) | Form::Assume(expr) | Form::Minimize(expr) =>
+            see_expr(alloc, faults, expr),
+        Form::If { cond, then, other } => {
+            let faults = see_expr(alloc, faults, cond)?;
+            let faults = see_stmt(alloc, faults, then.get())?;
+            let faults = see_other(alloc, faults, other)?;
+            Ok(faults)
+        }
+        Form::While { cond: e, body } | Form::Repeat { count: e, body } => {
+            let faults = see_expr(alloc, faults, e)?;
+            let faults = see_stmt(alloc, faults, body.get())?;
+            Ok(faults)
+        }
         Form::For {
             first,
             cond,
             next,
             body,
-        } => see_for(alloc, faults, first.get(), cond, next.get(), body.get()),
-        Form::Return(value) => see_perhaps(alloc, faults, value),
-        Form::Assert(expr) => see_expr(alloc, faults, expr),
-        Form::Assume(expr) => see_expr(alloc, faults, expr),
-        Form::Minimize(expr) => see_expr(alloc, faults, expr),
-        Form::Repeat { count, body } => see_turns(alloc, faults, count, body.get()),
+        } => {
+            let faults = see_stmt(alloc, faults, first.get())?;
+            let faults = see_expr(alloc, faults, cond)?;
+            let faults = see_stmt(alloc, faults, next.get())?;
+            let faults = see_stmt(alloc, faults, body.get())?;
+            Ok(faults)
+        }
         Form::MinRepeat(body) => see_stmt(alloc, faults, body.get()),
-        Form::Reorder(stmts) => see_stmts(alloc, faults, stmts.as_slice()),
     }
-}
-
-// With the patterns of a condition or a count, and of the body behind it.
-#[cycle(stmt_faults)]
-#[tactic(auto, using(sk_reading::proofs::Walks::all_seen_both))]
-fn see_turns(alloc: Global, faults: Faults, cond: &Expr, body: &Stmt) -> Result<Faults, AllocError>
-    ensures { IfOk result (λ more. tally more ≡ all_seen (tally faults) (expr_patterns cond.now ++ stmt_patterns body.now)) }
-{
-    let faults = see_expr(alloc, faults, cond)?;
-    let faults = see_stmt(alloc, faults, body)?;
-    Ok(faults)
-}
-
-// With the patterns of an `if`.
-#[cycle(stmt_faults)]
-#[tactic(auto, using(sk_reading::proofs::Walks::all_seen_both))]
-fn see_if(
-    alloc: Global,
-    faults: Faults,
-    cond: &Expr,
-    then: &Stmt,
-    other: &Option<Boxed<Stmt>>,
-) -> Result<Faults, AllocError>
-    ensures { IfOk result (λ more. tally more ≡ all_seen (tally faults) (expr_patterns cond.now ++ stmt_patterns then.now ++ any_patterns (λ p. p) (option_map stmt_patterns other.now))) }
-{
-    let faults = see_expr(alloc, faults, cond)?;
-    let faults = see_stmt(alloc, faults, then)?;
-    let faults = see_other(alloc, faults, other)?;
-    Ok(faults)
 }
 
 // With the patterns of what stands behind an `else`, where there is one.
@@ -314,26 +301,6 @@ fn see_other(
         None => Ok(faults),
         Some(stmt) => see_stmt(alloc, faults, stmt.get()),
     }
-}
-
-// With the patterns of a `for`.
-#[cycle(stmt_faults)]
-#[tactic(auto, using(sk_reading::proofs::Walks::all_seen_both))]
-fn see_for(
-    alloc: Global,
-    faults: Faults,
-    first: &Stmt,
-    cond: &Expr,
-    next: &Stmt,
-    body: &Stmt,
-) -> Result<Faults, AllocError>
-    ensures { IfOk result (λ more. tally more ≡ all_seen (tally faults) (stmt_patterns first.now ++ expr_patterns cond.now ++ stmt_patterns next.now ++ stmt_patterns body.now)) }
-{
-    let faults = see_stmt(alloc, faults, first)?;
-    let faults = see_expr(alloc, faults, cond)?;
-    let faults = see_stmt(alloc, faults, next)?;
-    let faults = see_stmt(alloc, faults, body)?;
-    Ok(faults)
 }
 
 // With the patterns of statements.
