@@ -88,48 +88,39 @@ fn see_expr(alloc: Global, faults: Faults, expr: &Expr) -> Result<Faults, AllocE
     ensures { IfOk result (λ more. tally more ≡ all_seen (tally faults) (expr_patterns expr.now)) }
 {
     match &expr.form {
-        EForm::Number(_)
-        | EForm::True
-        | EForm::False
-        | EForm::Null
-        | EForm::Word(_)
-        | EForm::Hole(_) => Ok(faults),
         EForm::Pattern { pattern, .. } => {
             let faults = see(alloc, faults, expr.span.from, pattern)?;
             Ok(faults)
         }
-        EForm::Paren(of) | EForm::Unary { of, .. } | EForm::Member { base: of, .. } => see_expr(
-            alloc,
-            faults,
-            of.get(),
-        ),
-        EForm::Call { args: of, .. } | EForm::Braces(of) => see_exprs(alloc, faults, of.as_slice()),
+        EForm::Paren(of) => see_expr(alloc, faults, of.get()),
+        EForm::Call { args, .. } => see_exprs(alloc, faults, args.as_slice()),
         EForm::New { fields, .. } => see_sets(alloc, faults, fields.as_slice()),
-        EForm::Index { base: a, index: b }
-        | EForm::Binary {
-            left: a,
-            right: b,
-            ..
-        } => {
-            let faults = see_expr(alloc, faults, a.get())?;
-            let faults = see_expr(alloc, faults, b.get())?;
+        EForm::Braces(elements) => see_exprs(alloc, faults, elements.as_slice()),
+        EForm::Member { base, .. } => see_expr(alloc, faults, base.get()),
+        EForm::Index { base, index } => {
+            let faults = see_expr(alloc, faults, base.get())?;
+            let faults = see_expr(alloc, faults, index.get())?;
             Ok(faults)
         }
-        EForm::Slice {
-            base: a,
-            from: b,
-            length: c,
-        }
-        | EForm::Cond {
-            cond: a,
-            then: b,
-            other: c,
-        } => {
-            let faults = see_expr(alloc, faults, a.get())?;
-            let faults = see_expr(alloc, faults, b.get())?;
-            let faults = see_expr(alloc, faults, c.get())?;
+        EForm::Slice { base, from, length } => {
+            let faults = see_expr(alloc, faults, base.get())?;
+            let faults = see_expr(alloc, faults, from.get())?;
+            let faults = see_expr(alloc, faults, length.get())?;
             Ok(faults)
         }
+        EForm::Unary { of, .. } => see_expr(alloc, faults, of.get()),
+        EForm::Binary { left, right, .. } => {
+            let faults = see_expr(alloc, faults, left.get())?;
+            let faults = see_expr(alloc, faults, right.get())?;
+            Ok(faults)
+        }
+        EForm::Cond { cond, then, other } => {
+            let faults = see_expr(alloc, faults, cond.get())?;
+            let faults = see_expr(alloc, faults, then.get())?;
+            let faults = see_expr(alloc, faults, other.get())?;
+            Ok(faults)
+        }
+        _ => Ok(faults),
     }
 }
 
