@@ -97,8 +97,6 @@ fn trees_are_at_most_256_deep(rt: HostRuntime) -> Result<(), AllocError> {
         (253, 253, true, false),
         (254, 254, false, false),
         (300, 300, false, false),
-        (100_000, 100_000, false, false),
-        (100_000, 99_999, false, false),
     ];
     for (opening, closing, in_constant, in_body) in cases {
         let value = nested(rt.alloc(), opening, closing)?;
@@ -106,6 +104,20 @@ fn trees_are_at_most_256_deep(rt: HostRuntime) -> Result<(), AllocError> {
         assert_eq!(rt; reads(rt.alloc(), text.as_slice())?, in_constant);
         let text = between(rt.alloc(), b"void f() { int y = ", value.as_slice(), b"; }")?;
         assert_eq!(rt; reads(rt.alloc(), text.as_slice())?, in_body);
+    }
+    Ok(())
+}
+
+// A text is refused at the depth that is too great, however long it is.
+#[test]
+fn a_hundred_thousand_parentheses_are_refused(rt: HostRuntime) -> Result<(), AllocError> {
+    for closing in [100_000, 99_999] {
+        let value = nested(rt.alloc(), 100_000, closing)?;
+        let text = between(rt.alloc(), b"int N = ", value.as_slice(), b";")?;
+        assert_eq!(rt;
+            shown(rt.alloc(), text.as_slice())?.as_slice(),
+            b"NoReading 262".as_slice()
+        );
     }
     Ok(())
 }

@@ -54,7 +54,10 @@ pub fn push_expr(shown: &mut Vec<u8>, expr: &Expr) -> Result<(), AllocError> {
         EForm::New { name, fields } => push_new(shown, name.as_bytes(), fields.as_slice()),
         EForm::Braces(elements) => push_list(shown, b"{", elements.as_slice(), b"}"),
         EForm::Member { base, name } => push_member(shown, base.get(), name.as_bytes()),
-        EForm::Index { base, index } => push_index(shown, base.get(), index.get()),
+        EForm::Index { base, index } => {
+            push_expr(shown, base.get())?;
+            push_between(shown, b"[", index.get(), b"]")
+        }
         EForm::Slice { base, from, length } => {
             push_expr(shown, base.get())?;
             push_between(shown, b"[", from.get(), b"::")?;
@@ -95,12 +98,6 @@ fn push_unary(shown: &mut Vec<u8>, op: &[u8], of: &Expr) -> Result<(), AllocErro
 fn push_member(shown: &mut Vec<u8>, base: &Expr, name: &[u8]) -> Result<(), AllocError> {
     push_between(shown, b"", base, b".")?;
     shown.extend_from_slice(name)
-}
-
-#[cycle(shown_expr)]
-fn push_index(shown: &mut Vec<u8>, base: &Expr, index: &Expr) -> Result<(), AllocError> {
-    push_expr(shown, base)?;
-    push_between(shown, b"[", index, b"]")
 }
 
 #[cycle(shown_expr)]

@@ -77,17 +77,39 @@ fn push_step(
     }
 }
 
-#[cycle(shown_stmt)]
-fn push_stmt(shown: &mut Vec<u8>, stmt: &Stmt) -> Result<(), AllocError> {
-    match &stmt.form {
-        Form::Block(stmts) => push_block(shown, b"", stmts.as_slice()),
+// A statement that holds no statement.
+fn push_simple(shown: &mut Vec<u8>, form: &Form) -> Result<(), AllocError> {
+    match form {
         Form::Empty => shown.extend_from_slice(b";"),
         Form::Declare { ty, names } => push_declaration(shown, ty, names.as_slice()),
         Form::Assign { target, value } => push_assignment(shown, target, value),
         Form::Call(call) => push_expr(shown, call),
         Form::Step { kind, target, by } => push_step(shown, *kind, target, by),
-        Form::If { cond, then, other } => push_if(shown, cond, then.get(), other),
-        Form::While { cond, body } => push_turns(shown, b"while(", cond, body.get()),
+        Form::Return(value) => {
+            shown.extend_from_slice(b"return ")?;
+            push_value(shown, b"", value)
+        }
+        Form::Assert(expr) => push_behind(shown, b"assert ", expr),
+        Form::Assume(expr) => push_behind(shown, b"assume ", expr),
+        Form::Minimize(expr) => push_behind(shown, b"minimize ", expr),
+        _ => Ok(()),
+    }
+}
+
+#[cycle(shown_stmt)]
+fn push_stmt(shown: &mut Vec<u8>, stmt: &Stmt) -> Result<(), AllocError> {
+    match &stmt.form {
+        Form::Block(stmts) => push_block(shown, b"", stmts.as_slice()),
+        Form::Reorder(stmts) => push_block(shown, b"reorder", stmts.as_slice()),
+        Form::If { cond, then, other } => {
+            push_behind(shown, b"if(", cond)?;
+            push_part(shown, b"|", then.get())?;
+            push_other(shown, other)
+        }
+        Form::While { cond, body } => {
+            push_behind(shown, b"while(", cond)?;
+            push_last(shown, body.get())
+        }
         Form::For {
             first,
             cond,
@@ -99,19 +121,15 @@ fn push_stmt(shown: &mut Vec<u8>, stmt: &Stmt) -> Result<(), AllocError> {
             push_part(shown, b"|", next.get())?;
             push_last(shown, body.get())
         }
-        Form::Return(value) => {
-            shown.extend_from_slice(b"return ")?;
-            push_value(shown, b"", value)
+        Form::Repeat { count, body } => {
+            push_behind(shown, b"repeat(", count)?;
+            push_last(shown, body.get())
         }
-        Form::Assert(expr) => push_behind(shown, b"assert ", expr),
-        Form::Assume(expr) => push_behind(shown, b"assume ", expr),
-        Form::Minimize(expr) => push_behind(shown, b"minimize ", expr),
-        Form::Repeat { count, body } => push_turns(shown, b"repeat(", count, body.get()),
         Form::MinRepeat(body) => {
             shown.extend_from_slice(b"minrepeat(")?;
             push_last(shown, body.get())
         }
-        Form::Reorder(stmts) => push_block(shown, b"reorder", stmts.as_slice()),
+        form => push_simple(shown, form),
     }
 }
 
@@ -128,31 +146,12 @@ fn push_last(shown: &mut Vec<u8>, stmt: &Stmt) -> Result<(), AllocError> {
     shown.extend_from_slice(b")")
 }
 
+// What stands behind an `else`, and the end of the brackets.
 #[cycle(shown_stmt)]
-fn push_turns(
-    shown: &mut Vec<u8>,
-    before: &[u8],
-    cond: &Expr,
-    body: &Stmt,
-) -> Result<(), AllocError> {
-    push_behind(shown, before, cond)?;
-    push_last(shown, body)
-}
-
-#[cycle(shown_stmt)]
-fn push_if(
-    shown: &mut Vec<u8>,
-    cond: &Expr,
-    then: &Stmt,
-    other: &Option<Boxed<Stmt>>,
-) -> Result<(), AllocError> {
-    push_behind(shown, b"if(", cond)?;
+fn push_other(shown: &mut Vec<u8>, other: &Option<Boxed<Stmt>>) -> Result<(), AllocError> {
     match other {
-        None => push_last(shown, then),
-        Some(other) => {
-            push_part(shown, b"|", then)?;
-            push_last(shown, other.get())
-        }
+        None => shown.extend_from_slice(b")"),
+        Some(stmt) => push_last(shown, stmt.get()),
     }
 }
 
