@@ -15,7 +15,7 @@ use sk_reading::Stop;
 use sk_tree::{Expr, Form, Key, Kind, Mark, StepKind, Stmt, Token};
 use std::alloc::Global;
 
-// Whether a closing brace follows.
+/// Whether a closing brace follows.
 #[tactic(auto, unfolding(sk_reading::specs::StmtReader::ends_block))]
 pub fn ends_block(tokens: &[Token]) -> bool
     ensures { result ≡ ends_block tokens.now }
