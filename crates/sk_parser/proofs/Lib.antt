@@ -1,2 +1,4 @@
+pub mod FormPatterns
 pub mod ParseLaws
 pub mod Verdicts
+pub mod WalkLaws

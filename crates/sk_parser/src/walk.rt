@@ -83,7 +83,6 @@ fn see(alloc: Global, faults: Faults, at: u32, pattern: &Pattern) -> Result<Faul
 
 // With the patterns of an expression.
 #[cycle(expr_faults)]
-#[tactic(auto, using(sk_reading::proofs::Walks::all_seen_none, sk_reading::proofs::Walks::all_seen_one, sk_reading::proofs::Walks::all_seen_both))]
 fn see_expr(alloc: Global, faults: Faults, expr: &Expr) -> Result<Faults, AllocError>
     ensures { IfOk result (λ more. tally more ≡ all_seen (tally faults) (expr_patterns expr.now)) }
 {
@@ -120,13 +119,17 @@ fn see_expr(alloc: Global, faults: Faults, expr: &Expr) -> Result<Faults, AllocE
             let faults = see_expr(alloc, faults, other.get())?;
             Ok(faults)
         }
-        _ => Ok(faults),
+        EForm::Number(_) => Ok(faults),
+        EForm::True => Ok(faults),
+        EForm::False => Ok(faults),
+        EForm::Null => Ok(faults),
+        EForm::Word(_) => Ok(faults),
+        EForm::Hole(_) => Ok(faults),
     }
 }
 
 // With the patterns of expressions.
 #[cycle(expr_faults)]
-#[tactic(auto, using(sk_reading::proofs::Walks::all_seen_both, sk_reading::proofs::Walks::all_seen_none))]
 fn see_exprs(alloc: Global, faults: Faults, exprs: &[Expr]) -> Result<Faults, AllocError>
     ensures { IfOk result (λ more. tally more ≡ all_seen (tally faults) (join (map expr_patterns exprs.now))) }
 {
@@ -148,7 +151,6 @@ fn see_set(alloc: Global, faults: Faults, field: &NewField) -> Result<Faults, Al
 
 // With the patterns of the fields that `new` sets.
 #[cycle(expr_faults)]
-#[tactic(auto, using(sk_reading::proofs::Walks::all_seen_both, sk_reading::proofs::Walks::all_seen_none))]
 fn see_sets(alloc: Global, faults: Faults, fields: &[NewField]) -> Result<Faults, AllocError>
     ensures { IfOk result (λ more. tally more ≡ all_seen (tally faults) (join (map set_patterns fields.now))) }
 {
@@ -180,7 +182,6 @@ fn see_ty(alloc: Global, faults: Faults, ty: &TyTree) -> Result<Faults, AllocErr
 }
 
 // With the patterns of declared names.
-#[tactic(auto, using(sk_reading::proofs::Walks::all_seen_both, sk_reading::proofs::Walks::all_seen_none))]
 fn see_names(alloc: Global, faults: Faults, names: &[Declared]) -> Result<Faults, AllocError>
     ensures { IfOk result (λ more. tally more ≡ all_seen (tally faults) (flat_map declared_patterns names.now)) }
 {
@@ -238,7 +239,6 @@ fn see_step(
 
 // With the patterns of a statement.
 #[cycle(stmt_faults)]
-#[tactic(auto, using(sk_reading::proofs::Walks::all_seen_none, sk_reading::proofs::Walks::all_seen_both))]
 fn see_stmt(alloc: Global, faults: Faults, stmt: &Stmt) -> Result<Faults, AllocError>
     ensures { IfOk result (λ more. tally more ≡ all_seen (tally faults) (stmt_patterns stmt.now)) }
 {
@@ -257,8 +257,8 @@ fn see_stmt(alloc: Global, faults: Faults, stmt: &Stmt) -> Result<Faults, AllocE
             let faults = see_other(alloc, faults, other)?;
             Ok(faults)
         }
-        Form::While { cond: e, body } | Form::Repeat { count: e, body } => {
-            let faults = see_expr(alloc, faults, e)?;
+        Form::While { cond, body } => {
+            let faults = see_expr(alloc, faults, cond)?;
             let faults = see_stmt(alloc, faults, body.get())?;
             Ok(faults)
         }
@@ -271,6 +271,11 @@ fn see_stmt(alloc: Global, faults: Faults, stmt: &Stmt) -> Result<Faults, AllocE
             let faults = see_stmt(alloc, faults, first.get())?;
             let faults = see_expr(alloc, faults, cond)?;
             let faults = see_stmt(alloc, faults, next.get())?;
+            let faults = see_stmt(alloc, faults, body.get())?;
+            Ok(faults)
+        }
+        Form::Repeat { count, body } => {
+            let faults = see_expr(alloc, faults, count)?;
             let faults = see_stmt(alloc, faults, body.get())?;
             Ok(faults)
         }
@@ -296,7 +301,6 @@ fn see_other(
 
 // With the patterns of statements.
 #[cycle(stmt_faults)]
-#[tactic(auto, using(sk_reading::proofs::Walks::all_seen_both, sk_reading::proofs::Walks::all_seen_none))]
 fn see_stmts(alloc: Global, faults: Faults, stmts: &[Stmt]) -> Result<Faults, AllocError>
     ensures { IfOk result (λ more. tally more ≡ all_seen (tally faults) (join (map stmt_patterns stmts.now))) }
 {
@@ -308,7 +312,6 @@ fn see_stmts(alloc: Global, faults: Faults, stmts: &[Stmt]) -> Result<Faults, Al
 }
 
 // With the patterns of the fields of a struct.
-#[tactic(auto, using(sk_reading::proofs::Walks::all_seen_both, sk_reading::proofs::Walks::all_seen_none))]
 fn see_fields(alloc: Global, faults: Faults, fields: &[Field]) -> Result<Faults, AllocError>
     ensures { IfOk result (λ more. tally more ≡ all_seen (tally faults) (flat_map field_patterns fields.now)) }
 {
@@ -320,7 +323,6 @@ fn see_fields(alloc: Global, faults: Faults, fields: &[Field]) -> Result<Faults,
 }
 
 // With the patterns of parameters.
-#[tactic(auto, using(sk_reading::proofs::Walks::all_seen_both, sk_reading::proofs::Walks::all_seen_none))]
 fn see_params(alloc: Global, faults: Faults, params: &[Param]) -> Result<Faults, AllocError>
     ensures { IfOk result (λ more. tally more ≡ all_seen (tally faults) (flat_map param_patterns params.now)) }
 {
@@ -375,17 +377,25 @@ fn see_item(alloc: Global, faults: Faults, item: &Item) -> Result<Faults, AllocE
     }
 }
 
+// With the patterns of items.
+fn see_items(alloc: Global, faults: Faults, items: &[Item]) -> Result<Faults, AllocError>
+    ensures { IfOk result (λ more. tally more ≡ all_seen (tally faults) (flat_map item_patterns items.now)) }
+{
+    let mut met = faults;
+    for item in items {
+        met = see_item(alloc, met, item)?;
+    }
+    Ok(met)
+}
+
 /// The faults of the patterns of a tree.
-#[tactic(auto, using(sk_reading::proofs::Walks::all_seen_both, sk_reading::proofs::Walks::all_seen_none))]
 pub fn faults_of(alloc: Global, tree: &Tree) -> Result<Faults, AllocError>
     ensures { IfOk result (λ met. tally met ≡ all_seen no_faults (patterns_of tree.now)) }
 {
-    let mut met = Faults {
+    let none = Faults {
         too_many: None,
         bad: None,
     };
-    for item in tree.items.as_slice() {
-        met = see_item(alloc, met, item)?;
-    }
+    let met = see_items(alloc, none, tree.items.as_slice())?;
     Ok(met)
 }
