@@ -1,16 +1,11 @@
 -- What an answer that the function on lists allows says of the tokens.
-use Rattle.std.proofs.Common.{◌≡◌, ◌≤◌, Bool, true, false, ◌||◌, IsTrue, List, Contains, ◌⊎◌, inl, inr, Option, Some, None, Result, Ok, Err, IfOk, IfErr, MatchResult, refl, sym, ap, ◌∙◌, subst, arith}
+use Rattle.std.proofs.Common.{◌≡◌, true, false, IsTrue, List, Result, Ok, Err, IfOk, MatchResult, refl, sym, ap, ◌∙◌, subst}
 use Rattle.sk_tree.specs.declared.token.Token.{Token}
 use Rattle.sk_tree.specs.declared.item.Tree.{Tree}
-use Rattle.sk_tree.specs.Depth.{tree_depth}
-use Rattle.sk_tree.specs.Spelt.{HasTooMany, HasBad}
-use Rattle.sk_tree.specs.Patterns.{patterns_of}
-use Rattle.sk_tree.specs.Reads.{Reads, HasTooManyStrings, HasBadAlternative}
 use Rattle.sk_parser.specs.declared.fault.ParseFault.{ParseFault}
 use Rattle.sk_parser.specs.declared.fault.ParseFault.TheVariants as fault
 use Rattle.sk_reading.specs.Faults.{Tally, tally_of}
 use Rattle.sk_reading.specs.Laws.{ReadsWithin}
-use Rattle.sk_reading.specs.ItemReader.{tree_at}
 use Rattle.sk_parser.specs.Parses.{IsTreeOf, ReadsAsNone, ReadsWithTooMany, ReadsWithBad, is_memory, is_no_reading, is_too_many, is_bad, Exactly, Answers}
 use Rattle.sk_reading.proofs.ReadLaws.{read_is, same_tree, reads_none, many_is, few_is, bad_is, good_is}
 

@@ -1,10 +1,10 @@
 -- What is answered for a tree that was read is answered for its tokens.
-use Rattle.std.proofs.Common.{◌≡◌, List, Option, Some, None, Result, Ok, Err, ap, ◌∙◌, sym, subst}
+use Rattle.std.proofs.Common.{◌≡◌, List, Some, Result, Ok, Err, ap, ◌∙◌, sym}
 use Rattle.sk_tree.specs.declared.token.Token.{Token}
 use Rattle.sk_tree.specs.declared.item.Tree.{Tree}
 use Rattle.sk_parser.specs.declared.fault.ParseFault.{ParseFault}
 use Rattle.sk_parser.specs.declared.fault.ParseFault.TheVariants as fault
-use Rattle.sk_reading.specs.Faults.{no_faults, tally_of}
+use Rattle.sk_reading.specs.Faults.{tally_of}
 use Rattle.sk_reading.specs.ItemReader.{tree_at}
 use Rattle.sk_parser.specs.Parses.{Checks, Answers}
 
