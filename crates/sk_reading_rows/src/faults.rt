@@ -87,12 +87,11 @@ const FAULTS: [(&[u8], &[u8]); 70] = [
 
 // The first row whose text is not refused as it says.
 fn first_wrong(alloc: Global, rows: &[(&[u8], &[u8])]) -> Result<Option<usize>, AllocError> {
-    let mut row = 0;
-    for (text, fault) in rows {
-        if shown(alloc, text)?.as_slice() != *fault {
+    for row in 0..rows.len() {
+        let (text, fault) = rows[row];
+        if shown(alloc, text)?.as_slice() != fault {
             return Ok(Some(row));
         }
-        row += 1;
     }
     Ok(None)
 }

@@ -192,14 +192,13 @@ fn first_wrong(
     text: (&[u8], &[u8]),
     tree: (&[u8], &[u8]),
 ) -> Result<Option<usize>, AllocError> {
-    let mut row = 0;
-    for (inner, wanted) in rows {
+    for row in 0..rows.len() {
+        let (inner, wanted) = rows[row];
         let whole = between(alloc, text.0, inner, text.1)?;
         let wanted = between(alloc, tree.0, wanted, tree.1)?;
         if shown(alloc, whole.as_slice())?.as_slice() != wanted.as_slice() {
             return Ok(Some(row));
         }
-        row += 1;
     }
     Ok(None)
 }
