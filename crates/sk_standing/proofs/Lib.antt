@@ -1,0 +1,4 @@
+pub mod MarkLaws
+pub mod StandLaws
+pub mod Lengths
+pub mod Rows

@@ -1,0 +1,4 @@
+pub mod Marks
+pub mod Met
+pub mod Standing
+pub mod Functions
