@@ -2,6 +2,7 @@
 #![tactic(auto)]
 
 mod below;
+mod blank;
 mod env;
 mod eval;
 mod graph;
