@@ -1,0 +1,5 @@
+pub mod Tally
+pub mod Count
+pub mod Calls
+pub mod Sums
+pub mod Sizes
