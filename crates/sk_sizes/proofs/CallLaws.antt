@@ -85,6 +85,25 @@ module _ (bounds : Bounds) (funs : List Fun) where
       ap (λ b. if b then t else if is_free active f then entered bounds.unroll (called bounds funs left (active ++ f ∷ [])) (slice_get funs f) times t else t) e
       ∙ ap (λ b. if b then entered bounds.unroll (called bounds funs left (active ++ f ∷ [])) (slice_get funs f) times t else t) g
 
+  module _ (left : ℕ) (active : List ℕ) (f : ℕ) (inner_is : IsCall (called bounds funs left (active ++ f ∷ [])) (steps_with left (active ++ f ∷ [])) (news_with left (active ++ f ∷ []))) where
+    call_adds : (times : ℕ) (t : Tally) → IsProper t → (over : Bool) → is_over t ≡ over → (free : Bool) → is_free active f ≡ free → called bounds funs (suc left) active f times t ≡ added t (times * steps_with (suc left) active f) (times * news_with (suc left) active f)
+    call_adds times t h true e free g =
+        let x : ℕ = times * steps_with (suc left) active f in
+        let y : ℕ = times * news_with (suc left) active f in
+        called_over left active f times t e ∙ over_is t e ∙ sym (added_over x y) ∙ ap (λ w. added w x y) (sym (over_is t e))
+    call_adds times t h false e false g =
+        called_full left active f times t e g ∙ none t times h
+        ∙ added_as t (times * 0) (times * 0) (times * steps_with (suc left) active f) (times * news_with (suc left) active f)
+        (ap (λ n. times * n) (sym (full_work by_steps left active f g))) (ap (λ n. times * n) (sym (full_work by_news left active f g)))
+    call_adds times t h false e true g =
+        let inner : List ℕ = active ++ f ∷ [] in
+        let s : ℕ = body_work by_steps bounds.unroll (steps_with left inner) (slice_get funs f) in
+        let n : ℕ = body_work by_news bounds.unroll (news_with left inner) (slice_get funs f) in
+        called_free left active f times t e g
+        ∙ entered_adds bounds.unroll (called bounds funs left inner) (steps_with left inner) (news_with left inner) inner_is (slice_get funs f) times t h
+        ∙ added_as t (times * s) (times * n) (times * steps_with (suc left) active f) (times * news_with (suc left) active f)
+        (ap (λ k. times * k) (sym (free_work by_steps left active f g))) (ap (λ k. times * k) (sym (free_work by_news left active f g)))
+
   pub calls_add : (left : ℕ) (active : List ℕ) → IsCall (called bounds funs left active) (steps_with left active) (news_with left active)
   calls_add zero active = record {
     adds = λ f times t h.
@@ -93,23 +112,5 @@ module _ (bounds : Bounds) (funs : List Fun) where
         (ap (λ n. times * n) (sym (no_calls_left by_steps active f))) (ap (λ n. times * n) (sym (no_calls_left by_news active f)));
   }
   calls_add (suc left) active = record {
-    adds = λ f times t h. at f times t h (is_over t) refl (is_free active f) refl;
+    adds = λ f times t h. call_adds left active f (calls_add left (active ++ f ∷ [])) times t h (is_over t) refl (is_free active f) refl;
   }
-    where
-      at : (f times : ℕ) (t : Tally) → IsProper t → (over : Bool) → is_over t ≡ over → (free : Bool) → is_free active f ≡ free → called bounds funs (suc left) active f times t ≡ added t (times * steps_with (suc left) active f) (times * news_with (suc left) active f)
-      at f times t h true e free g =
-          let x : ℕ = times * steps_with (suc left) active f in
-          let y : ℕ = times * news_with (suc left) active f in
-          called_over left active f times t e ∙ over_is t e ∙ sym (added_over x y) ∙ ap (λ w. added w x y) (sym (over_is t e))
-      at f times t h false e false g =
-          called_full left active f times t e g ∙ none t times h
-          ∙ added_as t (times * 0) (times * 0) (times * steps_with (suc left) active f) (times * news_with (suc left) active f)
-          (ap (λ n. times * n) (sym (full_work by_steps left active f g))) (ap (λ n. times * n) (sym (full_work by_news left active f g)))
-      at f times t h false e true g =
-          let inner : List ℕ = active ++ f ∷ [] in
-          let s : ℕ = body_work by_steps bounds.unroll (steps_with left inner) (slice_get funs f) in
-          let n : ℕ = body_work by_news bounds.unroll (news_with left inner) (slice_get funs f) in
-          called_free left active f times t e g
-          ∙ entered_adds bounds.unroll (called bounds funs left inner) (steps_with left inner) (news_with left inner) (calls_add left inner) (slice_get funs f) times t h
-          ∙ added_as t (times * s) (times * n) (times * steps_with (suc left) active f) (times * news_with (suc left) active f)
-          (ap (λ k. times * k) (sym (free_work by_steps left active f g))) (ap (λ k. times * k) (sym (free_work by_news left active f g)))

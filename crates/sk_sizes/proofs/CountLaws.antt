@@ -227,7 +227,9 @@ module _ (turns : ℕ) (steps_of news_of : ℕ → ℕ) where
       same c _ t (1 + steps_of f.index + total (map expr_steps (map (λ q. q.0) es))) (0 + news_of f.index + total (map expr_news (map (λ q. q.0) es))) _ _ (omega arith) (omega arith) (next c e _ t (1 + steps_of f.index) (0 + news_of f.index) _ _ first (exprs_add t es e)))
   layer (P.New s xs) = rolled (down (P.New s xs)) (λ t c.
       let d : Count = charged t t c in
-      next c d _ t 1 1 _ _ (charge c t t t 1 1 (omega arith) (omega arith)) (fields_add t xs d))
+      let a : ℕ = total (map field_steps (map (λ q. q.0) xs)) in
+      let b : ℕ = total (map field_news (map (λ q. q.0) xs)) in
+      same c _ t (1 + a) (1 + b) (1 + (0 + a)) (0 + (1 + b)) (omega arith) (omega arith) (next c d _ t 1 1 a b (charge c t t t 1 1 (omega arith) (omega arith)) (fields_add t xs d)))
   layer (P.Braces es) = rolled (down (P.Braces es)) (λ t c. many es t c)
   layer (P.Member a d k) = rolled (P.Member a.0 d k) (λ t c. one a t c)
   layer (P.Index a i) = rolled (P.Index a.0 i.0) (λ t c. two a i t c)
@@ -334,10 +336,10 @@ module _ (turns : ℕ) (steps_of news_of : ℕ → ℕ) where
       let n : ℕ = length (map (stmt_counted turns) (stmts qs)) in
       let s : ℕ = total (map stmt_steps (stmts qs)) in
       let m : ℕ = total (map stmt_news (stmts qs)) in
-      let long : n ≡ length (stmts qs) = length-map (stmt_counted turns) (stmts qs) in
+      let long : n ≡ length (stmts qs) = length-map (stmts qs) (stmt_counted turns) in
       same c _ t (n * s) (n * m) _ _
-      (ap (λ k. k * s) (long ∙ sym (length-map stmt_steps (stmts qs))))
-      (ap (λ k. k * m) (long ∙ sym (length-map stmt_news (stmts qs))))
+      (ap (λ k. k * s) (long ∙ sym (length-map (stmts qs) stmt_steps)))
+      (ap (λ k. k * m) (long ∙ sym (length-map (stmts qs) stmt_news)))
       (scaled c _ t n s m (stmts_add qs (t * n) c))
 
   if_only : (test : PExpr) (a : Stmt) (t : ℕ) (c : Count) → Adds c (stmt_counted turns a.0 t (expr_counted t test c)) t (expr_steps test + (stmt_steps a.0 + 0)) (expr_news test + (stmt_news a.0 + 0))

@@ -38,6 +38,9 @@ record Sums (sum : Sum) (s n : ℕ) : Type 0 where
   tells : Tells sum.tally sum.most s n
   proper : IsProper sum.tally
 
+same : (sum : Sum) (s n s' n' : ℕ) → s ≡ s' → n ≡ n' → Sums sum s n → Sums sum s' n'
+same sum s n s' n' e f h = subst (λ (k : ℕ). Sums sum s' k) f (subst (λ (k : ℕ). Sums sum k n) e h)
+
 -- with one more obligation of so many steps and records
 one_told : (t : Tally) (most s n x y : ℕ) → Tells t most s n → Tells (added (begun t) x y) (max most (news_in (added (begun t) x y))) (s + x) (max n y)
 one_told tally.Over most s n x y h =
@@ -53,8 +56,8 @@ one_told (tally.Within a b) most s n x y h = told (nat_lt most_steps (a + x)) re
     told false e =
         let few : a + x ≤ most_steps = ltb-false most_steps (a + x) e in
         let sum : a + x ≡ s + x = omega (arith, h.0) in
-        let most_is : max most (min (0 + y) too_many_news) ≡ min (max n y) too_many_news = omega (arith, h.1.1) in
-        subst (λ (t : Tally). Tells t (max most (news_in t)) (s + x) (max n y)) (sym (added_within a 0 x y few)) (sum, (few, most_is))
+        let most_is : max most (min (0 + y) too_many_news) ≡ min (max n y) too_many_news = omega (arith, h.2) in
+        subst (λ (t : Tally). Tells t (max most (news_in t)) (s + x) (max n y)) (sym (added_within a 0 x y few)) (sum, few, most_is)
 
 module _ (bounds : Bounds) (funs : List Fun) where
   abbrev steps_of : Obligation → ℕ
@@ -91,16 +94,10 @@ module _ (bounds : Bounds) (funs : List Fun) where
 
   all_sums : (os : List Obligation) (sum : Sum) (s n : ℕ) → Sums sum s n → Sums (all_summed bounds funs os sum) (s + total (map steps_of os)) (max n (greatest (map news_of os)))
   all_sums [] sum s n h = same sum s n (s + 0) (max n 0) (omega arith) (omega arith) h
-    where
-      same : (sum : Sum) (s n s' n' : ℕ) → s ≡ s' → n ≡ n' → Sums sum s n → Sums sum s' n'
-      same sum s n s' n' e f h = subst (λ (k : ℕ). Sums sum s' k) f (subst (λ (k : ℕ). Sums sum k n) e h)
   all_sums (o ∷ os) sum s n h = same _ _ _ (s + (steps_of o + total (map steps_of os))) (max n (max (news_of o) (greatest (map news_of os)))) (omega arith) (omega arith) (all_sums os (with_one bounds funs o sum) (s + steps_of o) (max n (news_of o)) (one_sums o sum s n h))
-    where
-      same : (sum : Sum) (s n s' n' : ℕ) → s ≡ s' → n ≡ n' → Sums sum s n → Sums sum s' n'
-      same sum s n s' n' e f h = subst (λ (k : ℕ). Sums sum s' k) f (subst (λ (k : ℕ). Sums sum k n) e h)
 
   none_sums : Sums no_sum 0 0
-  none_sums = record { tells = (refl, (omega arith, refl)); proper = record { same = added_within 0 0 0 0 (omega arith) } }
+  none_sums = record { tells = (refl, omega arith, refl); proper = record { same = added_within 0 0 0 0 (omega arith) } }
 
 -- what the sum of all obligations of a program tells
 module _ (bounds : Bounds) (e : Expanded) (sum : Sum) (is : sum ≡ all_summed bounds e.prog.funs (obligations_from 0 e.prog.funs) no_sum) where
@@ -108,7 +105,9 @@ module _ (bounds : Bounds) (e : Expanded) (sum : Sum) (is : sum ≡ all_summed b
   whole =
       let s : ℕ = steps bounds e in
       let n : ℕ = news bounds e in
-      subst (λ (z : Sum). Tells z.tally z.most s n) (sym is) (all_sums bounds e.prog.funs (obligations_from 0 e.prog.funs) no_sum 0 0 (none_sums bounds e.prog.funs)).tells
+      let all : Sum = all_summed bounds e.prog.funs (obligations_from 0 e.prog.funs) no_sum in
+      let sums : Sums all s n = same all (0 + s) (max 0 n) s n (omega arith) (omega arith) (all_sums bounds e.prog.funs (obligations_from 0 e.prog.funs) no_sum 0 0 (none_sums bounds e.prog.funs)) in
+      subst (λ (z : Sum). Tells z.tally z.most s n) (sym is) sums.tells
 
   pub too_many_steps : sum.tally ≡ tally.Over → most_steps < steps bounds e
   too_many_steps over = subst (λ (t : Tally). Tells t sum.most (steps bounds e) (news bounds e)) over whole
@@ -119,16 +118,16 @@ module _ (bounds : Bounds) (e : Expanded) (sum : Sum) (is : sum ≡ all_summed b
   pub too_many_records : (a b : ℕ) → sum.tally ≡ tally.Within a b → most_news < sum.most → (steps bounds e ≤ most_steps) × (most_news < news bounds e)
   too_many_records a b few h =
       let w = within a b few in
-      (omega (arith, w.0, w.1.0), omega (arith, w.1.1))
+      (omega (arith, w.0, w.1), omega (arith, w.2))
 
   pub sizes_found : (a b : ℕ) → sum.tally ≡ tally.Within a b → sum.most ≤ most_news → IsSizesOf bounds e (record { steps = a; news = sum.most })
   sizes_found a b few h =
       let w = within a b few in
       record {
         steps_are = w.0;
-        news_are = omega (arith, w.1.1);
-        steps_fit = omega (arith, w.0, w.1.0);
-        news_fit = omega (arith, w.1.1);
+        news_are = omega (arith, w.2);
+        steps_fit = omega (arith, w.0, w.1);
+        news_fit = omega (arith, w.2);
       }
 
 pub ruleset answers = (too_many_steps, too_many_records, sizes_found)
