@@ -42,6 +42,7 @@ added_twice (tally.Within s n) a b c d = twice (nat_lt most_steps (s + a)) refl
   where
     same : (x y u v : ℕ) → x ≡ y → u ≡ v → tally.Within x u ≡ tally.Within y v
     same x y u v e f = ap (λ z. tally.Within z u) e ∙ ap (λ z. tally.Within y z) f
+
     last : s + a ≤ most_steps → (b' : Bool) → nat_lt most_steps (s + a + c) ≡ b' → added (tally.Within (s + a) (min (n + b) too_many_news)) c d ≡ added (tally.Within s n) (a + c) (b + d)
     last h true e =
         let more : most_steps < s + a + c = ltb-true most_steps (s + a + c) e in
@@ -51,6 +52,7 @@ added_twice (tally.Within s n) a b c d = twice (nat_lt most_steps (s + a)) refl
         added_within (s + a) (min (n + b) too_many_news) c d few
         ∙ same (s + a + c) (s + (a + c)) (min (min (n + b) too_many_news + d) too_many_news) (min (n + (b + d)) too_many_news) (omega arith) (omega arith)
         ∙ sym (added_within s n (a + c) (b + d) (omega arith))
+
     twice : (b' : Bool) → nat_lt most_steps (s + a) ≡ b' → added (added (tally.Within s n) a b) c d ≡ added (tally.Within s n) (a + c) (b + d)
     twice true e =
         let more : most_steps < s + a = ltb-true most_steps (s + a) e in

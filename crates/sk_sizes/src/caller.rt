@@ -74,7 +74,12 @@ impl Caller<'_> {
     {
         let mut count = Count::new(self.alloc, *tally);
         count.charge(times as u128, 0);
-        stmts(fun.body.as_slice(), self.bounds.unroll, times as u128, &mut count)?;
+        stmts(
+            fun.body.as_slice(),
+            self.bounds.unroll,
+            times as u128,
+            &mut count,
+        )?;
         *tally = count.tally;
         self.each(left, active, count.due.as_slice(), tally)?;
         Ok(())

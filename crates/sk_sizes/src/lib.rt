@@ -10,12 +10,11 @@ mod caller;
 mod count;
 mod entry;
 mod fault;
-
 mod tally;
 #[cfg(test)]
 mod tests;
 mod walk;
 
 pub use answer::Sizes;
-pub use fault::SizeFault;
 pub use entry::sizes;
+pub use fault::SizeFault;

@@ -15,10 +15,7 @@ const TOO_MANY_NEWS: u32 = 257;
 pub enum Tally {
     /// There are more steps than may be.
     Over,
-    Within {
-        steps: u32,
-        news: u32,
-    },
+    Within { steps: u32, news: u32 },
 }
 
 impl Tally {
@@ -67,7 +64,9 @@ impl Tally {
                 if all > MOST_STEPS as u128 {
                     return Tally::Over;
                 }
-                let news = (made as u128).saturating_add(news).min(TOO_MANY_NEWS as u128);
+                let news = (made as u128)
+                    .saturating_add(news)
+                    .min(TOO_MANY_NEWS as u128);
                 Tally::Within {
                     steps: all as u32,
                     news: news as u32,

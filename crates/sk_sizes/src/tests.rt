@@ -211,7 +211,12 @@ fn a_reference_counts_too(rt: HostRuntime) -> Result<(), Fail> {
     let mut body = List::new(alloc);
     body.push(check())?;
     let mut funs = List::new(alloc);
-    funs.push(fun(alloc, FunKind::Plain, Some(FunId { index: 1 }), List::new(alloc)))?;
+    funs.push(fun(
+        alloc,
+        FunKind::Plain,
+        Some(FunId { index: 1 }),
+        List::new(alloc),
+    ))?;
     funs.push(fun(alloc, FunKind::Plain, None, body))?;
     // 1 and 3
     assert!(rt; answer(alloc, funs, 8, 5)? == (4, 0));

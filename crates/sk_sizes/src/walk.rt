@@ -77,7 +77,10 @@ fn expr(e: &PExpr, times: u128, count: &mut Count) -> Result<(), AllocError>
             exprs(args.as_slice(), times, count)?;
             Ok(())
         }
-        PEForm::New { s: _, fields: given } => {
+        PEForm::New {
+            s: _,
+            fields: given,
+        } => {
             count.charge(times, times);
             fields(given.as_slice(), times, count)?;
             Ok(())
@@ -186,12 +189,7 @@ fn body(s: &PStmt, turns: u32, times: u128, count: &mut Count) -> Result<(), All
 
 /// Statements that are done so many times, where no loop makes more than so many turns.
 #[cycle(stmt)]
-pub fn stmts(
-    ss: &[PStmt],
-    turns: u32,
-    times: u128,
-    count: &mut Count,
-) -> Result<(), AllocError>
+pub fn stmts(ss: &[PStmt], turns: u32, times: u128, count: &mut Count) -> Result<(), AllocError>
     ensures { OnOk result (count.new ≡ stmts_counted turns ss.now times count.old) }
 {
     for s in ss {
