@@ -1,5 +1,5 @@
 -- Each clause of `sizes`, from what its answer says fault by fault.
-use Rattle.std.proofs.Common.{◌≡◌, ◌<◌, ◌≤◌, Bool, true, false, refl, arith}
+use Rattle.std.proofs.Common.{◌≡◌, ◌<◌, ◌≤◌, true, false, refl, arith}
 use Rattle.std.specs.Prelude.{Result, Ok, Err, IfOk, IfErr, IsTrue, not, ◌||◌}
 use Rattle.sk_base.specs.declared.bounds.Bounds.{Bounds}
 use Rattle.sk_model.specs.declared.expanded.Expanded.{Expanded}
@@ -9,7 +9,7 @@ use Rattle.sk_model.specs.News.{news}
 use Rattle.sk_sizes.specs.declared.answer.Sizes.{Sizes}
 use Rattle.sk_sizes.specs.declared.fault.SizeFault.{SizeFault}
 use Rattle.sk_sizes.specs.declared.fault.SizeFault.TheVariants as fault
-use Rattle.sk_sizes.specs.Sizes.{Answers, Exactly, IsSizesOf, is_copies, is_sites, is_steps, is_news, is_memory}
+use Rattle.sk_sizes.specs.Sizes.{Answers, Exactly, IsSizesOf, is_copies, is_sites, is_steps, is_news}
 
 off : {A : Type 0} → false ≡ true → A
 off e = absurd (cc)

@@ -1,19 +1,17 @@
 -- What is counted of a call: the work of its function, as many times as the call is made.
-use Rattle.std.proofs.Common.{◌≡◌, ℕ, zero, suc, ◌+◌, ◌*◌, ◌==◌, Bool, true, false, List, [], ◌∷◌, ◌++◌, map, Option, Some, None, refl, sym, ap, subst, ◌∙◌, arith}
+use Rattle.std.proofs.Common.{◌≡◌, ℕ, zero, suc, ◌*◌, ◌==◌, Bool, true, false, List, [], ◌∷◌, ◌++◌, Option, Some, None, refl, sym, ap, ◌∙◌, arith}
 use Rattle.std.specs.Prelude.{nat_lt, count_by, slice_get, if◌then◌else◌}
 use Rattle.sk_base.specs.declared.bounds.Bounds.{Bounds}
 use Rattle.sk_prog.specs.declared.prog.Fun.{Fun}
-use Rattle.sk_model.specs.Parts.{total}
-use Rattle.sk_model.specs.Steps.{Measure, body_work, call_work, stmt_work}
+use Rattle.sk_model.specs.Steps.{Measure, body_work, call_work}
 use Rattle.sk_sizes.specs.declared.tally.Tally.{Tally}
-use Rattle.sk_sizes.specs.declared.tally.Tally.TheVariants as tally
 use Rattle.sk_sizes.specs.declared.count.Due.{Due}
 use Rattle.sk_sizes.specs.declared.count.Count.{Count}
 use Rattle.sk_sizes.specs.Tally.{added, is_over}
-use Rattle.sk_sizes.specs.Count.{charged, stmts_counted, fun_counted}
+use Rattle.sk_sizes.specs.Count.{fun_counted}
 use Rattle.sk_sizes.specs.Calls.{Calls, each_called, entered, called}
 use Rattle.sk_sizes.proofs.Tallies.{added_over, added_twice, added_as, IsProper, proper_sum, over_is}
-use Rattle.sk_sizes.proofs.CountLaws.{by_steps, by_news, due_work, worth, Adds, fun_adds}
+use Rattle.sk_sizes.proofs.CountLaws.{by_steps, by_news, due_work, fun_adds}
 
 -- A call adds to a tally the steps and the records that are said of its function, as many times as it is made.
 pub record IsCall (call : Calls) (steps_of news_of : ℕ → ℕ) : Type 0 where

@@ -16,13 +16,13 @@ use Rattle.sk_prog.specs.declared.stmt.PForm.TheOpen as S
 use Rattle.sk_prog.specs.declared.stmt.PForm.TheViews as W
 use Rattle.sk_prog.specs.declared.stmt.PForm.TheFolds.{map-PForm, map-PStmt, fold-PForm, fold-roll-PForm, fold-roll-PStmt, ind-PStmt}
 use Rattle.sk_model.specs.Parts.{total}
-use Rattle.sk_model.specs.Steps.{Measure, eform_work, expr_work, value_work, any_work, form_work, stmt_work}
+use Rattle.sk_model.specs.Steps.{Measure, eform_work, expr_work, value_work, form_work, stmt_work}
 use Rattle.sk_sizes.specs.declared.tally.Tally.{Tally}
 use Rattle.sk_sizes.specs.declared.tally.Tally.TheVariants as tally
 use Rattle.sk_sizes.specs.declared.count.Due.{Due}
 use Rattle.sk_sizes.specs.declared.count.Count.{Count}
 use Rattle.sk_sizes.specs.Tally.{added, is_over}
-use Rattle.sk_sizes.specs.Count.{Counting, in_turn, charged, with_call, unless_over, node, eform_counted, expr_counted, field_counted, value_counted, Repeated, row_counted, any_counted, body_counted, loop_counted, form_counted, stmt_counted, stmts_counted}
+use Rattle.sk_sizes.specs.Count.{Counting, in_turn, charged, with_call, unless_over, node, eform_counted, expr_counted, field_counted, value_counted, Repeated, row_counted, body_counted, loop_counted, form_counted, stmt_counted, stmts_counted}
 use Rattle.sk_sizes.proofs.Tallies.{added_over, added_twice, added_as, added_swap, IsProper, proper_sum, over_is}
 
 abbrev pub by_steps : Measure

@@ -1,27 +1,25 @@
 -- What the sum of all obligations is: the steps of all, and the greatest number of records of one.
-use Rattle.std.proofs.Common.{◌≡◌, ℕ, zero, suc, ◌+◌, ◌*◌, ◌<◌, ◌≤◌, Bool, true, false, List, [], ◌∷◌, ◌++◌, map, refl, sym, ap, subst, ◌∙◌, arith}
+use Rattle.std.proofs.Common.{◌≡◌, ℕ, ◌+◌, ◌*◌, ◌<◌, ◌≤◌, Bool, true, false, List, [], ◌∷◌, ◌++◌, map, refl, sym, ap, subst, ◌∙◌, arith}
 use Rattle.std.specs.Prelude.{nat_lt, min, max}
 use Rattle.std.proofs.lemmas.Bool.{ltb-true, ltb-false}
 use Rattle.sk_base.specs.declared.bounds.Bounds.{Bounds}
-use Rattle.sk_prog.specs.declared.ids.FunId.{FunId}
 use Rattle.sk_prog.specs.declared.prog.Fun.{Fun}
 use Rattle.sk_model.specs.declared.expanded.Expanded.{Expanded}
 use Rattle.sk_model.specs.declared.expanded.Obligation.{Obligation}
 use Rattle.sk_model.specs.declared.expanded.Obligation.TheVariants as obligation
 use Rattle.sk_model.specs.Parts.{total}
 use Rattle.sk_model.specs.Slots.{greatest}
-use Rattle.sk_model.specs.Obligations.{obligations, obligations_from}
+use Rattle.sk_model.specs.Obligations.{obligations_from}
 use Rattle.sk_model.specs.Limits.{most_steps, most_news}
-use Rattle.sk_model.specs.Steps.{Measure, obligation_work, all_work, steps}
+use Rattle.sk_model.specs.Steps.{obligation_work, steps}
 use Rattle.sk_model.specs.News.{news}
 use Rattle.sk_sizes.specs.declared.tally.Tally.{Tally}
 use Rattle.sk_sizes.specs.declared.tally.Tally.TheVariants as tally
 use Rattle.sk_sizes.specs.declared.entry.Sum.{Sum}
-use Rattle.sk_sizes.specs.declared.answer.Sizes.{Sizes}
 use Rattle.sk_sizes.specs.Tally.{added, begun, news_in, too_many_news}
 use Rattle.sk_sizes.specs.Sums.{no_sum, run_counted, obligation_counted, with_one, all_summed}
 use Rattle.sk_sizes.specs.Sizes.{IsSizesOf}
-use Rattle.sk_sizes.proofs.Tallies.{added_over, added_past, added_within, added_twice, added_as, IsProper, proper_sum, proper_begun, proper_fits}
+use Rattle.sk_sizes.proofs.Tallies.{added_over, added_past, added_within, added_twice, added_as, IsProper, proper_sum, proper_begun}
 use Rattle.sk_sizes.proofs.CountLaws.{by_steps, by_news}
 use Rattle.sk_sizes.proofs.CallLaws.{calls_add}
 

@@ -1,6 +1,6 @@
 -- What is counted of a call: its function, and then the calls in it, one after another. Of a call that would fail,
 -- because too many are active, nothing is counted, and nothing where there are too many steps before it.
-use Rattle.std.specs.Prelude.{ℕ, zero, suc, ◌+◌, ◌*◌, ◌==◌, ◌++◌, List, [], ◌∷◌, count_by, slice_get, Option, Some, None, nat_lt, if◌then◌else◌}
+use Rattle.std.specs.Prelude.{ℕ, zero, suc, ◌==◌, ◌++◌, List, [], ◌∷◌, count_by, slice_get, Option, Some, None, nat_lt, if◌then◌else◌}
 use Rattle.sk_base.specs.declared.bounds.Bounds.{Bounds}
 use Rattle.sk_prog.specs.declared.prog.Fun.{Fun}
 use Rattle.sk_sizes.specs.declared.tally.Tally.{Tally}

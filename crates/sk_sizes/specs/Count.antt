@@ -10,7 +10,6 @@ use Rattle.sk_prog.specs.declared.stmt.PForm.TheOpen as S
 use Rattle.sk_prog.specs.declared.stmt.PForm.TheFolds.{fold-PStmt}
 use Rattle.sk_prog.specs.declared.prog.Fun.{Fun}
 use Rattle.sk_sizes.specs.declared.tally.Tally.{Tally}
-use Rattle.sk_sizes.specs.declared.count.Due.{Due}
 use Rattle.sk_sizes.specs.declared.count.Count.{Count}
 use Rattle.sk_sizes.specs.Tally.{added, is_over}
 

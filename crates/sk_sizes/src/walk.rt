@@ -34,41 +34,7 @@ fn expr(e: &PExpr, times: u128, count: &mut Count) -> Result<(), AllocError>
     ensures { OnOk result (count.new ≡ expr_counted times e.now count.old) }
 {
     match &e.form {
-        PEForm::Number(_) => {
-            count.charge(times, 0);
-            Ok(())
-        }
-        PEForm::True => {
-            count.charge(times, 0);
-            Ok(())
-        }
-        PEForm::False => {
-            count.charge(times, 0);
-            Ok(())
-        }
-        PEForm::Null => {
-            count.charge(times, 0);
-            Ok(())
-        }
-        PEForm::Var { slot: _, name: _ } => {
-            count.charge(times, 0);
-            Ok(())
-        }
-        PEForm::Const(_) => {
-            count.charge(times, 0);
-            Ok(())
-        }
-        PEForm::Hole(_) => {
-            count.charge(times, 0);
-            Ok(())
-        }
-        PEForm::Pattern(strings) => {
-            count.charge(times, 0);
-            exprs(strings.as_slice(), times, count)?;
-            Ok(())
-        }
-        PEForm::Paren(of) => {
-            count.charge(times, 0);
+        PEForm::ToInt(of) | PEForm::Pad(of) => {
             expr(of.get(), times, count)?;
             Ok(())
         }
@@ -85,45 +51,36 @@ fn expr(e: &PExpr, times: u128, count: &mut Count) -> Result<(), AllocError>
             fields(given.as_slice(), times, count)?;
             Ok(())
         }
-        PEForm::Braces(es) => {
+        PEForm::Pattern(es) | PEForm::Braces(es) => {
             count.charge(times, 0);
             exprs(es.as_slice(), times, count)?;
             Ok(())
         }
-        PEForm::Member {
-            base,
+        PEForm::Paren(of)
+        | PEForm::Member {
+            base: of,
             s: _,
             field: _,
-        } => {
-            count.charge(times, 0);
-            expr(base.get(), times, count)?;
-            Ok(())
         }
-        PEForm::Index { base, index } => {
-            count.charge(times, 0);
-            expr(base.get(), times, count)?;
-            expr(index.get(), times, count)?;
-            Ok(())
-        }
-        PEForm::Slice {
-            base,
-            from,
-            length: _,
-        } => {
-            count.charge(times, 0);
-            expr(base.get(), times, count)?;
-            expr(from.get(), times, count)?;
-            Ok(())
-        }
-        PEForm::Unary { op: _, of } => {
+        | PEForm::Unary { op: _, of } => {
             count.charge(times, 0);
             expr(of.get(), times, count)?;
             Ok(())
         }
-        PEForm::Binary { op: _, left, right } => {
+        PEForm::Index { base: a, index: b }
+        | PEForm::Slice {
+            base: a,
+            from: b,
+            length: _,
+        }
+        | PEForm::Binary {
+            op: _,
+            left: a,
+            right: b,
+        } => {
             count.charge(times, 0);
-            expr(left.get(), times, count)?;
-            expr(right.get(), times, count)?;
+            expr(a.get(), times, count)?;
+            expr(b.get(), times, count)?;
             Ok(())
         }
         PEForm::Cond { cond, then, other } => {
@@ -133,12 +90,14 @@ fn expr(e: &PExpr, times: u128, count: &mut Count) -> Result<(), AllocError>
             expr(other.get(), times, count)?;
             Ok(())
         }
-        PEForm::ToInt(of) => {
-            expr(of.get(), times, count)?;
-            Ok(())
-        }
-        PEForm::Pad(of) => {
-            expr(of.get(), times, count)?;
+        PEForm::Number(_)
+        | PEForm::True
+        | PEForm::False
+        | PEForm::Null
+        | PEForm::Var { slot: _, name: _ }
+        | PEForm::Const(_)
+        | PEForm::Hole(_) => {
+            count.charge(times, 0);
             Ok(())
         }
     }
@@ -204,7 +163,12 @@ fn stmt(s: &PStmt, turns: u32, times: u128, count: &mut Count) -> Result<(), All
 {
     let within = count.charge(times, 0);
     match &s.form {
-        PForm::Block(ss) => {
+        PForm::Block(ss)
+        | PForm::Repeat {
+            count: _,
+            copies: ss,
+        }
+        | PForm::MinRepeat(ss) => {
             stmts(ss.as_slice(), turns, times, count)?;
             Ok(())
         }
@@ -213,7 +177,8 @@ fn stmt(s: &PStmt, turns: u32, times: u128, count: &mut Count) -> Result<(), All
             name: _,
             ty: _,
             value: given,
-        } => {
+        }
+        | PForm::Return(given) => {
             value(given, times, count)?;
             Ok(())
         }
@@ -225,7 +190,7 @@ fn stmt(s: &PStmt, turns: u32, times: u128, count: &mut Count) -> Result<(), All
             expr(given, times, count)?;
             Ok(())
         }
-        PForm::Call(e) => {
+        PForm::Call(e) | PForm::Assert(e) | PForm::Assume(e) | PForm::Minimize(e) => {
             expr(e, times, count)?;
             Ok(())
         }
@@ -241,30 +206,6 @@ fn stmt(s: &PStmt, turns: u32, times: u128, count: &mut Count) -> Result<(), All
             }
             expr(cond, times * (turns as u128 + 1), count)?;
             body(of.get(), turns, times, count)?;
-            Ok(())
-        }
-        PForm::Return(e) => {
-            value(e, times, count)?;
-            Ok(())
-        }
-        PForm::Assert(e) => {
-            expr(e, times, count)?;
-            Ok(())
-        }
-        PForm::Assume(e) => {
-            expr(e, times, count)?;
-            Ok(())
-        }
-        PForm::Minimize(e) => {
-            expr(e, times, count)?;
-            Ok(())
-        }
-        PForm::Repeat { count: _, copies } => {
-            stmts(copies.as_slice(), turns, times, count)?;
-            Ok(())
-        }
-        PForm::MinRepeat(copies) => {
-            stmts(copies.as_slice(), turns, times, count)?;
             Ok(())
         }
         PForm::Reorder(ss) => {
