@@ -1,6 +1,5 @@
 //! Numbers of steps and of records, which stop above their limits.
-ghost use Rattle.std.specs.Prelude.{◌≡◌, ◌≤◌, IsTrue, not};
-ghost use Rattle.sk_model.specs.Limits.{most_steps};
+ghost use Rattle.std.specs.Prelude.{◌≡◌};
 ghost use Rattle.sk_sizes.specs.Tally.{added, begun, is_over, news_in};
 
 /// The most steps over all obligations.

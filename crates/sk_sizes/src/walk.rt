@@ -1,5 +1,5 @@
 //! Counts expressions, statements and bodies.
-ghost use Rattle.std.specs.Prelude.{◌≡◌, ◌≤◌, OnOk, option_map};
+ghost use Rattle.std.specs.Prelude.{◌≡◌, ◌≤◌, OnOk};
 ghost use Rattle.sk_model.specs.Limits.{most_steps};
 ghost use Rattle.sk_sizes.specs.Count.{expr_counted, field_counted, exprs_counted, fields_counted, value_counted, stmt_counted, stmts_counted, branch_counted, body_counted};
 
@@ -133,7 +133,7 @@ fn branch(
     }
 }
 
-/// The body of a loop, where it is entered as many times.
+/// The body of a loop that is reached so many times.
 #[cycle(stmt)]
 fn body(s: &PStmt, turns: u32, times: u128, count: &mut Count) -> Result<(), AllocError>
     requires { times ≤ most_steps }
