@@ -222,3 +222,49 @@ fn a_reference_counts_too(rt: HostRuntime) -> Result<(), Fail> {
     assert!(rt; answer(alloc, funs, 8, 5)? == (4, 0));
     Ok(())
 }
+
+/// A chain of functions, each of which calls the next in 250 parentheses.
+fn chain(alloc: Global, n: u32) -> Result<(u32, u32), AllocError> {
+    let mut funs = List::new(alloc);
+    for i in 0..n {
+        let mut e = expr(PEForm::Call {
+            f: FunId {
+                index: i.saturating_add(1),
+            },
+            args: List::new(alloc),
+        });
+        for _ in 0..250 {
+            let inner = Boxed::new(alloc, e)?;
+            e = expr(PEForm::Paren(inner));
+        }
+        let mut body = List::new(alloc);
+        body.push(stmt(PForm::Return(Some(e))))?;
+        let kind = if i == 0 {
+            FunKind::Harness
+        } else {
+            FunKind::Plain
+        };
+        funs.push(fun(alloc, kind, None, body))?;
+    }
+    let found = answer(alloc, funs, 8, 5)?;
+    Ok(found)
+}
+
+#[test]
+fn calls_end_at_128(rt: HostRuntime) -> Result<(), Fail> {
+    // a function, its return, its parentheses and its call
+    assert!(rt; chain(rt.alloc(), 2)? == (506, 0));
+    assert!(rt; chain(rt.alloc(), 128)? == (32384, 0));
+    assert!(rt; chain(rt.alloc(), 130)? == (32384, 0));
+    Ok(())
+}
+
+#[test]
+fn deep_loops_are_counted(rt: HostRuntime) -> Result<(), Fail> {
+    let alloc = rt.alloc();
+    let mut body = List::new(alloc);
+    body.push(nested(alloc, 1000, check())?)?;
+    // 1 + 1000 * 3 + 2
+    assert!(rt; harness(alloc, body, 1, 5)? == (3003, 0));
+    Ok(())
+}
