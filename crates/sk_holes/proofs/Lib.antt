@@ -4,4 +4,4 @@ pub mod Counts
 pub mod StmtCounts
 pub mod RangeLaws
 pub mod Numbers
-pub mod MarkLaws
+pub mod ProgramLaws

@@ -2,4 +2,5 @@ pub mod Table
 pub mod Filling
 pub mod Range
 pub mod Ranks
-pub mod Marks
+pub mod Whole
+pub mod Needs

@@ -1,5 +1,5 @@
 -- Whether a choice is in range, and the first value that is not.
-use Rattle.std.specs.Prelude.{ℕ, ◌+◌, ◌≡◌, ◌≢◌, List, [], ◌∷◌, length, nat_lt, Option, Some, None, Result, Ok, Err, if◌then◌else◌}
+use Rattle.std.specs.Prelude.{ℕ, ◌+◌, ◌≡◌, ◌≢◌, List, [], ◌∷◌, length, nat_lt, Option, Some, None, Result, Ok, Err, if◌then◌else◌, ◌⊎◌}
 use Rattle.sk_model.specs.declared.expanded.Site.{Site}
 use Rattle.sk_model.specs.declared.expanded.Choice.{Choice}
 use Rattle.sk_model.specs.declared.expanded.Expanded.{Expanded}
@@ -24,3 +24,17 @@ Tests (Ok done) e a = InRange e a
 Tests (Err WrongLength) e a = length a.values ≢ length e.sites
 Tests (Err (OutOfRange site)) e a = IsFirstOut e a site
 Tests (Err Memory) e a = ⊥
+
+-- Why a program is not filled, by the cause. Want of memory has none.
+abbrev pub IsRefused : FillFault → Expanded → Choice → Type 0
+IsRefused WrongLength e a = length a.values ≢ length e.sites
+IsRefused (OutOfRange site) e a = IsFirstOut e a site
+IsRefused Memory e a = Unit {0}
+
+-- a fault says that the choice has another number of values, or is want of memory
+abbrev pub IsWrongLengthOrMemory : FillFault → Type 0
+IsWrongLengthOrMemory fault = (fault ≡ WrongLength) ⊎ (fault ≡ Memory)
+
+-- a fault names this site, or is want of memory
+abbrev pub IsOutOrMemory : ℕ → FillFault → Type 0
+IsOutOrMemory site fault = (fault ≡ OutOfRange site) ⊎ (fault ≡ Memory)
