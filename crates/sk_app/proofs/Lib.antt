@@ -23,9 +23,6 @@ pub mod TypingSteps
 pub mod RunningLaws
 pub mod SearchingDigits
 pub mod SearchingLaws
-pub mod RunningNumbers
-pub mod RunningFrame
-pub mod RunningEqual
 pub mod RunningRuns
 pub mod TypingFuns
 pub mod TypingEarly

@@ -1,13 +1,13 @@
 -- What the definitions say of an expression or a statement that is built from one layer.
-use Rattle.std.proofs.Common.{◌≡◌, ℕ, suc, Bool, List, Some, None, refl, sym, ap, ◌∙◌, subst}
+use Rattle.std.proofs.Common.{◌≡◌, ℕ, suc, Bool, List, Some, None, refl, ap, ◌∙◌, subst}
 use Rattle.sk_base.specs.declared.span.Span.{Span}
 use Rattle.sk_tree.specs.declared.token.Token.{Token}
 use Rattle.sk_tree.specs.declared.expr.Expr.{Expr}
 use Rattle.sk_tree.specs.declared.expr.EForm.{EForm}
 use Rattle.sk_tree.specs.declared.expr.NewField.{NewField}
 use Rattle.sk_tree.specs.declared.expr.EForm.TheOpen as E
-use Rattle.sk_tree.specs.declared.expr.EForm.TheViews.{roll-EForm, out-EForm, roll-out-EForm}
-use Rattle.sk_tree.specs.declared.expr.EForm.TheFolds.{map-EForm, fold-EForm, fold-Expr, fold-NewField, fold-roll-EForm, fold-roll-Expr, rec-EForm, rec-NewField, rec-roll-EForm, rec-roll-Expr}
+use Rattle.sk_tree.specs.declared.expr.EForm.TheViews.{roll-EForm}
+use Rattle.sk_tree.specs.declared.expr.EForm.TheFolds.{map-EForm, rec-EForm, rec-NewField, rec-roll-EForm, rec-roll-Expr}
 use Rattle.sk_tree.specs.declared.stmt.Stmt.{Stmt}
 use Rattle.sk_tree.specs.declared.stmt.Form.{Form}
 use Rattle.sk_tree.specs.declared.stmt.Form.TheOpen as F
@@ -16,19 +16,14 @@ use Rattle.sk_tree.specs.declared.stmt.Form.TheFolds.{map-Form, fold-Form, fold-
 use Rattle.sk_tree.specs.Phrase.{Phrase}
 use Rattle.sk_tree.specs.Spelt.{Spans}
 use Rattle.sk_app.specs.EarlySpelt.{eform_spelt, expr_spelt, field_spelt, SpeltExpr, form_spelt, stmt_spelt, SpeltStmt}
-use Rattle.sk_tree.specs.Placed.{Place}
-use Rattle.sk_app.specs.EarlyPlaced.{eform_place, expr_place, field_placed, place_of, form_placed, stmt_placed}
-use Rattle.sk_app.specs.EarlyDepth.{eform_depth, expr_depth, form_depth, stmt_depth}
-use Rattle.sk_app.specs.Early.{Rank, eform_rank, rank, early_form, early_stmt}
+use Rattle.sk_app.specs.EarlyPlaced.{form_placed, stmt_placed}
+use Rattle.sk_app.specs.EarlyDepth.{form_depth, stmt_depth}
+use Rattle.sk_app.specs.Early.{early_form, early_stmt}
 
 -- Expressions
 
 abbrev pub expr_of : Span → E.EForm-F EForm Expr NewField → Expr
 expr_of s l = record { span = s; form = roll-EForm l }
-
--- what holds of each layer holds of all
-pub by_eform : (P : Expr → Type 0) → ((s : Span) (l : E.EForm-F EForm Expr NewField) → P (expr_of s l)) → (e : Expr) → P e
-by_eform P layer e = subst (λ f. P (record { span = e.span; form = f })) (roll-out-EForm e.form) (layer e.span (out-EForm e.form))
 
 abbrev pub SpeltForm : EForm → Phrase
 SpeltForm = rec-EForm Phrase Phrase Phrase eform_spelt expr_spelt field_spelt
@@ -56,35 +51,6 @@ spelt_is s l = spelt_expr (record { span = s; form = roll-EForm l }) ∙ ap (Spa
 
 pub open_spelt : (s : Span) (l : E.EForm-F EForm Expr NewField) (ts : List Token) → SpeltExpr (expr_of s l) ts → Spans s (LayerSpelt l) ts
 open_spelt s l ts h = subst (λ (P : Phrase). P ts) (spelt_is s l) h
-
-pub close_spelt : (s : Span) (l : E.EForm-F EForm Expr NewField) (ts : List Token) → Spans s (LayerSpelt l) ts → SpeltExpr (expr_of s l) ts
-close_spelt s l ts h = subst (λ (P : Phrase). P ts) (sym (spelt_is s l)) h
-
--- the span of an expression is that of its tokens
-pub expr_span : (e : Expr) (ts : List Token) → SpeltExpr e ts → Spans e.span (SpeltForm e.form) ts
-expr_span e ts h = subst (λ (P : Phrase). P ts) (spelt_expr (record { span = e.span; form = e.form })) h
-
-module _ (A A' A'' : Type 0) (step : E.EForm-F A A' A'' → A) (step' : E.Expr-F A A' A'' → A') (step'' : E.NewField-F A A' A'' → A'') where
-  folds : (s : Span) (l : E.EForm-F EForm Expr NewField) → fold-Expr A A' A'' step step' step'' (expr_of s l) ≡ step' (record { span = s; form = step (map-EForm EForm Expr NewField A A' A'' (fold-EForm A A' A'' step step' step'') (fold-Expr A A' A'' step step' step'') (fold-NewField A A' A'' step step' step'') l) })
-  folds s l = fold-roll-Expr A A' A'' step step' step'' (record { span = s; form = roll-EForm l }) ∙ ap (λ a. step' (record { span = s; form = a })) (fold-roll-EForm A A' A'' step step' step'' l)
-
-abbrev pub rank_layer : E.EForm-F EForm Expr NewField → E.EForm-F Rank Rank (Unit {0})
-rank_layer l = map-EForm EForm Expr NewField Rank Rank (Unit {0}) (fold-EForm Rank Rank (Unit {0}) eform_rank (λ x. x.form) (λ x. tt)) rank (fold-NewField Rank Rank (Unit {0}) eform_rank (λ x. x.form) (λ x. tt)) l
-
-pub rank_is : (s : Span) (l : E.EForm-F EForm Expr NewField) → rank (expr_of s l) ≡ eform_rank (rank_layer l)
-rank_is s l = folds Rank Rank (Unit {0}) eform_rank (λ x. x.form) (λ x. tt) s l
-
-abbrev pub depth_layer : E.EForm-F EForm Expr NewField → E.EForm-F ℕ ℕ ℕ
-depth_layer l = map-EForm EForm Expr NewField ℕ ℕ ℕ (fold-EForm ℕ ℕ ℕ eform_depth (λ x. suc x.form) (λ x. suc x.value)) expr_depth (fold-NewField ℕ ℕ ℕ eform_depth (λ x. suc x.form) (λ x. suc x.value)) l
-
-pub depth_is : (s : Span) (l : E.EForm-F EForm Expr NewField) → expr_depth (expr_of s l) ≡ suc (eform_depth (depth_layer l))
-depth_is s l = folds ℕ ℕ ℕ eform_depth (λ x. suc x.form) (λ x. suc x.value) s l
-
-abbrev pub place_layer : E.EForm-F EForm Expr NewField → E.EForm-F Place Place Bool
-place_layer l = map-EForm EForm Expr NewField Place Place Bool (fold-EForm Place Place Bool eform_place expr_place field_placed) place_of (fold-NewField Place Place Bool eform_place expr_place field_placed) l
-
-pub place_is : (s : Span) (l : E.EForm-F EForm Expr NewField) → place_of (expr_of s l) ≡ eform_place (place_layer l)
-place_is s l = folds Place Place Bool eform_place expr_place field_placed s l
 
 -- Statements
 
@@ -115,9 +81,6 @@ stmt_spelt_is s l = spelt_stmt (record { span = s; form = roll-Form l }) ∙ ap 
 
 pub open_stmt : (s : Span) (l : F.Form-F Form Stmt) (ts : List Token) → SpeltStmt (layer_stmt s l) ts → Spans s (FormSpelt l) ts
 open_stmt s l ts h = subst (λ (P : Phrase). P ts) (stmt_spelt_is s l) h
-
-pub close_stmt : (s : Span) (l : F.Form-F Form Stmt) (ts : List Token) → Spans s (FormSpelt l) ts → SpeltStmt (layer_stmt s l) ts
-close_stmt s l ts h = subst (λ (P : Phrase). P ts) (sym (stmt_spelt_is s l)) h
 
 module _ (A A' : Type 0) (step : F.Form-F A A' → A) (step' : F.Stmt-F A A' → A') where
   stmt_folds : (s : Span) (l : F.Form-F Form Stmt) → fold-Stmt A A' step step' (layer_stmt s l) ≡ step' (record { span = s; form = step (map-Form Form Stmt A A' (fold-Form A A' step step') (fold-Stmt A A' step step') l) })

@@ -24,7 +24,7 @@ use Rattle.sk_model.specs.Obligations.{obligations}
 use Rattle.sk_model.specs.Inputs.{IsInput, in_range, args_in_range, fun_of}
 use Rattle.sk_model.specs.Meets.{Breaks, Meets}
 use Rattle.sk_app.specs.Early.{early_prog, early_funs, early_pparam, is_int_ty}
-use Rattle.sk_app.specs.Running.{IsNumber, AreNumbers, AreArguments, NoNumbersBreak, numbers, params_count, first_params}
+use Rattle.sk_app.specs.Running.{AreArguments, NoNumbersBreak, numbers, params_count, first_params}
 use Rattle.sk_app.proofs.RunningRuns.{obligations_are, early_funs_of, early_at, parts_of}
 
 -- Values of type int
@@ -69,14 +69,6 @@ range_of inbits (p ∷ ps) (n ∷ ns) early count below =
     let es = and_parts (early_pparam p) (list_all early_pparam ps) early in
     let first = ap (in_range inbits (value.Int (pos n))) (int_param p es.0) ∙ natural inbits n ∙ lt-ltb n (2 ^ inbits) (below zero n (omega arith)) in
     and_from (in_range inbits (value.Int (pos n)) p.ty) (args_in_range inbits ps (numbers ns)) first (range_of inbits ps ns es.1 (omega (arith, count)) (λ k d less. below (suc k) d (omega (arith, less))))
-
--- Arguments in range are integers.
-pub numbers_are : (bits inbits : ℕ) (ns : List ℕ) → inbits < bits → All (λ n. n < 2 ^ inbits) ns → AreNumbers bits (numbers ns)
-numbers_are bits inbits [] h below = λ k d less. absurd (omega (arith, less))
-numbers_are bits inbits (n ∷ ns) h below =
-    let small : 2 ^ inbits ≤ 2 ^ (bits - 1) = pow_mono (omega (arith, h)) in
-    let less : n < 2 ^ inbits = below zero n (omega arith) in
-    All-cons (IsNumber bits) (value.Int (pos n)) (numbers ns) (record { low = omega (arith, ints); high = omega (arith, ints) }) (numbers_are bits inbits ns h (λ k d less. below (suc k) d (omega (arith, less))))
 
 -- The only function
 

@@ -1,15 +1,11 @@
 -- To try all numbers is to try all inputs, and all choices.
 use Rattle.std.proofs.Common.{◌≡◌, ℕ, zero, suc, ◌+◌, ◌-◌, ◌*◌, ◌^◌, ◌<◌, ◌≤◌, ◌↔◌, inl, inr, List, [], ◌∷◌, length, refl, sym, ap, subst, ◌∙◌, arith}
-use Rattle.std.specs.Prelude.{pos, All, IsTrue}
+use Rattle.std.specs.Prelude.{All, IsTrue}
 use Rattle.std.proofs.Math.Nat.{pow-zero, pow-succ'}
 use Rattle.std.proofs.lemmas.Bool.{cases_order}
 use Rattle.std.proofs.lemmas.Nat.{pow_pos, pow-add}
-use Rattle.std.proofs.lemmas.Int.{ints}
 use Rattle.std.proofs.lemmas.List.Elements.{All-nil, All-cons, All-head, All-tail}
-use Rattle.std.proofs.Math.Pow.{pow_mono}
-use Rattle.sk_base.specs.Word.{IsWord}
 use Rattle.sk_base.specs.declared.bounds.Bounds.{Bounds}
-use Rattle.sk_prog.specs.declared.value.Value.TheVariants as value
 use Rattle.sk_prog.specs.declared.prog.Fun.{Fun}
 use Rattle.sk_prog.specs.declared.prog.Prog.{Prog}
 use Rattle.sk_model.specs.declared.expanded.Choice.{Choice}
@@ -19,7 +15,7 @@ use Rattle.sk_app.specs.EarlyFilling.{fill_funs}
 use Rattle.sk_model.specs.Meets.{Breaks, Meets}
 use Rattle.sk_app.specs.Early.{early_prog}
 use Rattle.sk_app.specs.Filling.{IsEarlyExpansion, FromEarly}
-use Rattle.sk_app.specs.Running.{IsNumber, AreNumbers, params_count, first_params, numbers}
+use Rattle.sk_app.specs.Running.{params_count, first_params, numbers}
 use Rattle.sk_app.specs.Searching.{digits, choice_at, input_at, NoneBreaks, NoneMeets}
 use Rattle.sk_app.proofs.FillingLaws.{Below, fits_below, below_fits, fits_length, expansion_sized}
 use Rattle.sk_app.proofs.FillingWhole.{fill_is, filled_is_early}
@@ -71,18 +67,6 @@ module _ (prog : Prog) (bounds : Bounds) where
             let ns : List ℕ = digits base (params_count prog) n in
             (meets_early prog bounds early).0 meets ns (record { count = digits_length base (params_count prog) n; below = below_all base ns (digits_below base (params_count prog) n (pow_pos bounds.inbits)) }) b;
       }
-
-number_is : (bits inbits n : ℕ) → inbits < bits → n < 2 ^ inbits → IsWord bits (pos n)
-number_is bits inbits n h k =
-    let up : 2 ^ inbits ≤ 2 ^ (bits - 1) = pow_mono (omega (arith, h)) in
-    record { low = omega (arith, ints); high = omega (arith, ints, up, k) }
-
-words : (bits inbits : ℕ) (ns : List ℕ) → inbits < bits → Below (2 ^ inbits) ns → AreNumbers bits (numbers ns)
-words bits inbits [] h k = All-nil (IsNumber bits)
-words bits inbits (n ∷ ns) h k = All-cons (IsNumber bits) (value.Int (pos n)) (numbers ns) (number_is bits inbits n h k.0) (words bits inbits ns h k.1)
-
-pub args_are : (bits inbits count n : ℕ) → inbits < bits → AreNumbers bits (numbers (digits (2 ^ inbits) count n))
-args_are bits inbits count n h = words bits inbits (digits (2 ^ inbits) count n) h (digits_below (2 ^ inbits) count n (pow_pos inbits))
 
 -- Choices
 
