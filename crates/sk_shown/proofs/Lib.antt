@@ -1,0 +1,5 @@
+mod Told
+mod Operators
+mod Names
+mod Spelled
+mod Exprs
