@@ -3,3 +3,5 @@ mod Operators
 mod Names
 mod Spelled
 mod Exprs
+mod Lines
+mod Stmts
