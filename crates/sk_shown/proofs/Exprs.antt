@@ -1,31 +1,27 @@
 -- The text of an expression tells the kinds that spell the expression that is printed.
-use Rattle.std.proofs.Common.{◌≡◌, ℕ, Bool, true, false, ◌&&◌, List, [], ◌∷◌, ◌++◌, map, Option, Some, None, refl, sym, ap, ◌∙◌, subst, append_assoc, codes}
-use Rattle.std.specs.Prelude.{IsTrue, nat_lt}
+use Rattle.std.proofs.Common.{◌≡◌, ℕ, Bool, true, ◌&&◌, List, [], ◌∷◌, ◌++◌, map, Option, Some, None, refl, sym, ap, ◌∙◌, subst, append_assoc, codes}
+use Rattle.std.specs.Prelude.{nat_lt}
 use Rattle.std.specs.List.{list_all, flat_map, join_by}
 use Rattle.std.specs.Fmt.{decimal}
 use Rattle.std.proofs.lemmas.Bool.{and_parts}
 use Rattle.sk_base.specs.declared.span.Span.{Span}
-use Rattle.sk_tree.specs.declared.token.Kind.{Kind}
 use Rattle.sk_tree.specs.declared.token.Mark.TheVariants as mark
 use Rattle.sk_tree.specs.declared.token.Key.TheVariants as key
 use Rattle.sk_tree.specs.declared.expr.Expr.{Expr}
-use Rattle.sk_tree.specs.declared.expr.NewField.{NewField}
 use Rattle.sk_tree.specs.declared.expr.EForm.TheVariants as eform
-use Rattle.sk_tree.specs.Spelling.{key_of, single_mark, double_mark}
-use Rattle.sk_tree.specs.Shapes.{is_blank, is_letter, is_digit, is_word_byte, shape_of}
-use Rattle.sk_tree.specs.Spell.{Kinds, ◌▹◌, between, word, number, sign, keyword, spell_expr}
+use Rattle.sk_tree.specs.Spelling.{key_of}
+use Rattle.sk_tree.specs.Shapes.{is_letter, is_digit}
+use Rattle.sk_tree.specs.Spell.{Kinds, ◌▹◌, word, sign, spell_expr}
 use Rattle.sk_prog.specs.declared.ty.Ty.{Ty}
 use Rattle.sk_prog.specs.declared.ids.StructId.{StructId}
 use Rattle.sk_prog.specs.declared.expr.UnOp.{UnOp}
 use Rattle.sk_prog.specs.declared.expr.UnOp.TheVariants as unop
-use Rattle.sk_prog.specs.declared.expr.BinOp.{BinOp}
-use Rattle.sk_prog.specs.declared.expr.BinOp.TheVariants as op
 use Rattle.sk_prog.specs.declared.expr.PExpr.{PExpr}
 use Rattle.sk_prog.specs.declared.expr.PField.{PField}
 use Rattle.sk_prog.specs.declared.expr.PEForm.{PEForm}
 use Rattle.sk_prog.specs.declared.expr.PEForm.TheOpen as P
 use Rattle.sk_prog.specs.declared.expr.PEForm.TheViews.{roll-PEForm, roll-PExpr, roll-PField}
-use Rattle.sk_prog.specs.declared.expr.PEForm.TheFolds.{map-PEForm, fold-PEForm, fold-PExpr, fold-PField, fold-roll-PEForm, fold-roll-PExpr, fold-roll-PField, ind-PExpr}
+use Rattle.sk_prog.specs.declared.expr.PEForm.TheFolds.{map-PEForm, fold-PEForm, fold-PField, fold-roll-PEForm, fold-roll-PExpr, fold-roll-PField, ind-PExpr}
 use Rattle.sk_prog.specs.declared.prog.Prog.{Prog}
 use Rattle.sk_prog.specs.Names.{is_yes}
 use Rattle.sk_prog.specs.Fits.{is_name, has_struct, has_fun, has_field, any_ty_fits, eform_fits, layer_fits, pfield_fits, expr_fits}
@@ -33,10 +29,9 @@ use Rattle.sk_types.specs.Erase.{nowhere, at, mark_of, unary_mark, field_name, f
 use Rattle.sk_types.specs.Erase as E
 use Rattle.sk_print.specs.Layout.{op_layout, unary_layout, commas, eform_layout, pfield_layout, expr_layout, set_layout}
 use Rattle.sk_print.specs.Layout as L
-use Rattle.sk_print.proofs.Lexed.{stops}
 use Rattle.sk_shown.specs.Printed.{eform_printed, printed_expr}
 use Rattle.sk_shown.specs.Numbers.{is_small, eform_small, expr_small}
-use Rattle.sk_shown.proofs.Told.{Free, Told, parts, told, then, then_told, told_then, told_told, told_same, space, name, name_opens, number_told, number_opens, key_told, key_space, open_paren, close_paren, open_bracket, close_bracket, close_brace, dot, tilde, hole, double_colon, open_pattern, close_pattern, assign_space, bar_space, question_space, colon_space, spaced, opens, opens_more, bang, minus, brace, AllTold, between_told, join_map, comma_space, four, five, six}
+use Rattle.sk_shown.proofs.Told.{Told, told, then, then_told, told_then, told_told, told_same, space, name, name_opens, number_told, number_opens, key_told, key_space, open_paren, close_paren, open_bracket, close_bracket, close_brace, dot, tilde, hole, double_colon, open_pattern, close_pattern, assign_space, bar_space, question_space, colon_space, spaced, opens, opens_more, bang, minus, brace, AllTold, between_told, join_map, comma_space, four, five, six}
 use Rattle.sk_shown.proofs.Operators.{operator}
 use Rattle.sk_shown.proofs.Names.{Fits, named_told, named_opens, struct_named, const_named, fun_named, field_named}
 use Rattle.sk_shown.proofs.Spelled.{field_kinds, field_spelled, number_spelled, true_spelled, false_spelled, null_spelled, word_spelled, hole_spelled, width_spelled, pattern_spelled, paren_spelled, call_spelled, new_spelled, braces_spelled, member_spelled, index_spelled, slice_spelled, unary_spelled, binary_spelled, cond_spelled}
@@ -180,8 +175,8 @@ module _ (prog : Prog) (fits : Fits prog) (slots : ℕ) where
       let d = fold-roll-PField (Span → Expr) Expr (ℕ × Expr) (eform_printed prog) (λ e. e.form e.span) (λ f. (f.field, f.value)) (record { field = k; value = e }) in
       let f = and_parts (has_field prog s k) (expr_fits prog slots e) ((λ i. sym b i s) ∙ fit) in
       let is : Told (pfield_layout prog (record { field = k; value = expr_layout prog e }) s) (word (field_name prog s k) ▹ sign mark.Assign ▹ spell_expr (printed_expr prog e)) =
-          told_same (append_assoc (L.field_name prog s k) (codes " = ") (expr_layout prog e)) refl
-          (told_told (named_told (field_named prog fits s k f.0)) (then_told (spaced assign_space) (h f.1 (sym c ∙ small)).tells) refl) in
+      told_same (append_assoc (L.field_name prog s k) (codes " = ") (expr_layout prog e)) refl
+      (told_told (named_told (field_named prog fits s k f.0)) (then_told (spaced assign_space) (h f.1 (sym c ∙ small)).tells) refl) in
       subst (λ (x : StructId → List ℕ). Told (x s) (word (field_name prog s (field_printed (record { field = k; value = e })).0) ▹ sign mark.Assign ▹ spell_expr (field_printed (record { field = k; value = e })).1)) (sym a)
       (subst (λ (x : ℕ × Expr). Told (pfield_layout prog (record { field = k; value = expr_layout prog e }) s) (word (field_name prog s x.0) ▹ sign mark.Assign ▹ spell_expr x.1)) (sym d) is)
 
@@ -215,7 +210,7 @@ module _ (prog : Prog) (fits : Fits prog) (slots : ℕ) where
       let f = and_parts (has_struct prog d) (list_all (λ (x : StructId → Bool). x d) (map field_fit (map (λ (q : Such''). q.0) fs))) fit in
       let n = struct_named prog fits d f.0 in
       let inner = told_same (join_map (λ (x : StructId → List ℕ). x d) (codes ", ") (map (set_layout prog) (map (λ (q : Such''). q.0) fs))) refl
-          (between_told comma_space refl (map (λ (x : StructId → List ℕ). x d) (map (set_layout prog) (map (λ (q : Such''). q.0) fs))) (map field_kinds (map (field_erased prog d) (map field_printed (map (λ (q : Such''). q.0) fs)))) (sets_told d fs f.1 small)) in
+      (between_told comma_space refl (map (λ (x : StructId → List ℕ). x d) (map (set_layout prog) (map (λ (q : Such''). q.0) fs))) (map field_kinds (map (field_erased prog d) (map field_printed (map (λ (q : Such''). q.0) fs)))) (sets_told d fs f.1 small)) in
       let sets = join_by (λ (x : StructId → List ℕ). x d) (codes ", ") (map (set_layout prog) (map (λ (q : Such''). q.0) fs)) in
       spelt_as (ap (λ z. codes "new " ++ z) (four (L.struct_name prog d) (codes "(") sets (codes ")"))) (new_spelled s (E.struct_name prog d) (map (field_erased prog d) (map field_printed (map (λ (q : Such''). q.0) fs)))) refl
       (then_told (key_space key.New (codes "new") refl refl) (told_told (named_told n) (told (then open_paren (told_then inner close_paren refl))) refl))

@@ -5,3 +5,4 @@ mod Spelled
 mod Exprs
 mod Lines
 mod Stmts
+mod Items

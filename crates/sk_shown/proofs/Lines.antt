@@ -1,11 +1,8 @@
 -- Lines, types and the heads of blocks: what they tell.
-use Rattle.std.proofs.Common.{◌≡◌, ℕ, zero, suc, Bool, true, false, ◌&&◌, List, [], ◌∷◌, ◌++◌, map, Option, Some, None, refl, sym, ap, ◌∙◌, append_assoc, append-nil, codes}
+use Rattle.std.proofs.Common.{◌≡◌, ℕ, zero, suc, true, List, [], ◌∷◌, ◌++◌, refl, sym, ap, ◌∙◌, append_assoc, append-nil, codes}
 use Rattle.std.specs.List.{repeat}
-use Rattle.std.specs.Fmt.{decimal}
 use Rattle.std.proofs.lemmas.Bool.{and_parts}
-use Rattle.sk_tree.specs.declared.expr.EForm.TheVariants as eform
 use Rattle.sk_tree.specs.declared.token.Mark.TheVariants as mark
-use Rattle.sk_tree.specs.declared.token.Key.{Key}
 use Rattle.sk_tree.specs.declared.token.Key.TheVariants as key
 use Rattle.sk_tree.specs.Spelling.{key_of}
 use Rattle.sk_tree.specs.Shapes.{is_letter, is_digit}
@@ -20,7 +17,7 @@ use Rattle.sk_types.specs.Erase.{nowhere, at, elem_base, erase_ty}
 use Rattle.sk_types.specs.Erase as E
 use Rattle.sk_print.specs.Layout.{elem_layout, length_layout, ty_layout, line}
 use Rattle.sk_shown.specs.Numbers.{is_small, ty_small}
-use Rattle.sk_shown.proofs.Told.{Free, Told, nothing, told, same, then, then_told, told_then, told_told, told_same, space, line_feed, number_told, key_told, key_space, open_paren, close_paren, open_bracket, close_bracket, close_brace, brace_line}
+use Rattle.sk_shown.proofs.Told.{Free, Told, nothing, told, same, then, told_then, told_told, told_same, space, line_feed, number_told, key_told, key_space, open_paren, close_paren, open_bracket, close_bracket, close_brace, brace_line}
 use Rattle.sk_shown.proofs.Names.{Fits, named_told, struct_named}
 use Rattle.sk_shown.proofs.Spelled.{number_spelled}
 

@@ -1,11 +1,10 @@
 -- How the trees are spelt that are built of one form.
-use Rattle.std.proofs.Common.{◌≡◌, ℕ, List, [], ◌∷◌, ◌++◌, map, Option, Some, None, refl, sym, ap, ◌∙◌}
+use Rattle.std.proofs.Common.{◌≡◌, ℕ, List, [], ◌∷◌, ◌++◌, map, Some, None, refl, sym, ap, ◌∙◌}
 use Rattle.sk_base.specs.declared.span.Span.{Span}
 use Rattle.sk_tree.specs.declared.token.Kind.{Kind}
 use Rattle.sk_tree.specs.declared.token.Mark.{Mark}
 use Rattle.sk_tree.specs.declared.token.Mark.TheVariants as mark
 use Rattle.sk_tree.specs.declared.token.Key.TheVariants as key
-use Rattle.sk_tree.specs.declared.pattern.Pattern.{Pattern}
 use Rattle.sk_tree.specs.declared.pattern.Pattern.TheVariants as pattern
 use Rattle.sk_tree.specs.declared.pattern.Pattern.TheOpen as P
 use Rattle.sk_tree.specs.declared.pattern.Pattern.TheFolds.{fold-roll-Pattern}
@@ -18,13 +17,10 @@ use Rattle.sk_tree.specs.declared.expr.EForm.TheViews.{roll-EForm}
 use Rattle.sk_tree.specs.declared.expr.EForm.TheFolds.{map-EForm, fold-EForm, fold-NewField, fold-roll-EForm, fold-roll-Expr, fold-roll-NewField}
 use Rattle.sk_tree.specs.declared.stmt.Stmt.{Stmt}
 use Rattle.sk_tree.specs.declared.stmt.Form.{Form}
-use Rattle.sk_tree.specs.declared.stmt.Form.TheVariants as form
 use Rattle.sk_tree.specs.declared.stmt.Form.TheOpen as F
 use Rattle.sk_tree.specs.declared.stmt.Form.TheViews.{roll-Form}
 use Rattle.sk_tree.specs.declared.stmt.Form.TheFolds.{map-Form, fold-Form, fold-roll-Form, fold-roll-Stmt}
-use Rattle.sk_tree.specs.declared.stmt.Declared.{Declared}
-use Rattle.sk_tree.specs.declared.item.TyTree.{TyTree}
-use Rattle.sk_tree.specs.Spelt.{Role, InBlock, AsBody}
+use Rattle.sk_tree.specs.Spelt.{Role}
 use Rattle.sk_tree.specs.Spell.{Kinds, ◌▹◌, each, between, word, number, sign, keyword, spell_part, spell_pattern, spell_eform, spell_new_field, spell_expr, spell_form, spell_stmt}
 use Rattle.sk_types.specs.Erase.{at}
 use Rattle.sk_shown.specs.Printed.{part_of_kind, sequence_of, choice_of, of_form}

@@ -1,18 +1,16 @@
 -- The lines of a statement tell the kinds that spell the statements that are printed for it.
-use Rattle.std.proofs.Common.{◌≡◌, ℕ, zero, suc, Bool, true, false, ◌&&◌, List, [], ◌∷◌, ◌++◌, map, Option, Some, None, refl, sym, ap, ◌∙◌, subst, append_assoc, append-nil, codes}
+use Rattle.std.proofs.Common.{◌≡◌, ℕ, suc, Bool, true, false, ◌&&◌, List, [], ◌∷◌, ◌++◌, map, Option, Some, None, refl, sym, ap, ◌∙◌, subst, append_assoc, append-nil, codes}
 use Rattle.std.specs.Prelude.{nat_lt}
-use Rattle.std.specs.List.{list_all, flat_map}
+use Rattle.std.specs.List.{list_all}
 use Rattle.std.proofs.lemmas.Bool.{and_parts}
 use Rattle.sk_base.specs.declared.span.Span.{Span}
 use Rattle.sk_tree.specs.declared.token.Mark.TheVariants as mark
 use Rattle.sk_tree.specs.declared.token.Key.TheVariants as key
-use Rattle.sk_tree.specs.declared.expr.Expr.{Expr}
 use Rattle.sk_tree.specs.declared.stmt.Stmt.{Stmt}
 use Rattle.sk_tree.specs.declared.stmt.Form.{Form}
 use Rattle.sk_tree.specs.declared.stmt.Form.TheVariants as form
 use Rattle.sk_tree.specs.declared.stmt.Form.TheOpen as F
 use Rattle.sk_tree.specs.declared.stmt.Declared.{Declared}
-use Rattle.sk_tree.specs.declared.item.TyTree.{TyTree}
 use Rattle.sk_tree.specs.Spelling.{key_of}
 use Rattle.sk_tree.specs.Shapes.{is_letter, is_digit}
 use Rattle.sk_tree.specs.Spelt.{Role, InBlock, AsBody}
@@ -25,23 +23,23 @@ use Rattle.sk_prog.specs.declared.stmt.PForm.TheOpen as S
 use Rattle.sk_prog.specs.declared.stmt.PForm.TheViews.{roll-PForm, roll-PStmt}
 use Rattle.sk_prog.specs.declared.stmt.PForm.TheFolds.{map-PForm, fold-PForm, fold-roll-PForm, fold-roll-PStmt, ind-PStmt}
 use Rattle.sk_prog.specs.declared.prog.Prog.{Prog}
-use Rattle.sk_prog.specs.Names.{is_yes, any_yes}
+use Rattle.sk_prog.specs.Names.{is_yes}
 use Rattle.sk_prog.specs.Fits.{is_name, ty_fits, expr_fits, any_expr_fits, form_fits, stmt_fits}
 use Rattle.sk_types.specs.Erase.{erase_ty}
-use Rattle.sk_print.specs.Layout.{expr_layout, ty_layout, line, Lines, each_line, initial_layout, returned_layout, else_layout, pform_layout, stmt_lines}
+use Rattle.sk_print.specs.Layout.{expr_layout, ty_layout, line, Lines, each_line, initial_layout, returned_layout, pform_layout, stmt_lines}
 use Rattle.sk_shown.specs.Printed.{printed_expr, printed_any, Shown, all_shown, of_form, block_of, form_printed, stmt_shown}
 use Rattle.sk_shown.specs.Numbers.{ty_small, expr_small, any_expr_small, form_small, stmt_small}
-use Rattle.sk_shown.proofs.Told.{Free, Told, parts, nothing, told, same, then, then_told, told_then, told_told, told_same, space, name, key_told, key_space, open_paren, close_paren, semicolon, assign_space, spaced, four, five}
+use Rattle.sk_shown.proofs.Told.{Free, Told, parts, nothing, told, same, then, then_told, told_then, name, key_told, key_space, open_paren, close_paren, semicolon, assign_space, spaced, four, five}
 use Rattle.sk_shown.proofs.Names.{Fits}
 use Rattle.sk_shown.proofs.Lines.{ty_told, line_told, head_told, parens_told, end_told, if_told, while_told, repeat_told, minrepeat_told, reorder_told, else_told}
 use Rattle.sk_shown.proofs.Spelled.{stmt_spelled}
-use Rattle.sk_shown.proofs.Exprs.{AsExpr, expr_told}
+use Rattle.sk_shown.proofs.Exprs.{expr_told}
 
 -- the kinds that spell statements in a block
 abbrev pub kinds_of : List Stmt → Kinds
 kinds_of es = each (map (λ e. spell_stmt e InBlock) es)
 
-kinds_append : (es fs : List Stmt) → kinds_of (es ++ fs) ≡ kinds_of es ++ kinds_of fs
+pub kinds_append : (es fs : List Stmt) → kinds_of (es ++ fs) ≡ kinds_of es ++ kinds_of fs
 kinds_append [] fs = refl
 kinds_append (e ∷ es) fs = ap (λ z. spell_stmt e InBlock ++ z) (kinds_append es fs) ∙ sym (append_assoc (spell_stmt e InBlock) (kinds_of es) (kinds_of fs))
 

@@ -1,7 +1,6 @@
 -- Texts that tell kinds: what stands behind them divides into more kinds. Some do so wherever a text goes on without
 -- a byte of a word, others always.
-use Rattle.std.proofs.Common.{◌≡◌, ℕ, zero, suc, ◌+◌, ◌-◌, ◌*◌, ◌^◌, ◌<◌, ◌≤◌, Bool, true, false, cond, eqb, not, ◌&&◌, ◌||◌, List, [], ◌∷◌, ◌++◌, map, length, Option, Some, None, is_none, refl, sym, ap, ◌∙◌, subst, arith, append_assoc, codes}
-use Rattle.std.specs.Prelude.{IsTrue, nat_le}
+use Rattle.std.proofs.Common.{◌≡◌, ℕ, ◌+◌, ◌-◌, ◌*◌, ◌^◌, ◌<◌, Bool, true, false, cond, eqb, not, ◌&&◌, ◌||◌, List, [], ◌∷◌, ◌++◌, map, length, Option, Some, None, is_none, refl, sym, ap, ◌∙◌, subst, arith, append_assoc, codes}
 use Rattle.std.specs.List.{list_all, flat_map, join_by}
 use Rattle.std.specs.Int.{IsInRange}
 use Rattle.std.specs.Fmt.{decimal}
@@ -14,14 +13,13 @@ use Rattle.sk_tree.specs.declared.token.Kind.TheVariants as kind
 use Rattle.sk_tree.specs.declared.token.Mark.{Mark}
 use Rattle.sk_tree.specs.declared.token.Mark.TheVariants as mark
 use Rattle.sk_tree.specs.declared.token.Key.{Key}
-use Rattle.sk_tree.specs.declared.token.Key.TheVariants as key
 use Rattle.sk_tree.specs.Spelling.{key_of, single_mark, double_mark}
 use Rattle.sk_tree.specs.Shapes.{is_blank, is_letter, is_digit, is_word_byte, mark_of, shape_of}
-use Rattle.sk_tree.specs.Tokens.{word_kind, greatest_number, number_from}
-use Rattle.sk_tree.specs.Spell.{Kinds, ◌▹◌, each, behind, between, word, number, sign, keyword}
+use Rattle.sk_tree.specs.Tokens.{word_kind, number_from}
+use Rattle.sk_tree.specs.Spell.{Kinds, ◌▹◌, behind, between, word, number, sign, keyword}
 use Rattle.sk_prog.specs.Fits.{is_word, is_name}
 use Rattle.sk_print.specs.Layout.{minus_gap}
-use Rattle.sk_print.proofs.Lexed.{Lexes, stops, stays, lex_blank, lex_word, lex_number, lex_one, lex_two, lex_slash}
+use Rattle.sk_print.proofs.Lexed.{Lexes, stops, stays, lex_blank, lex_word, lex_number, lex_one, lex_two}
 use Rattle.sk_shown.specs.Numbers.{is_small}
 
 -- whatever follows

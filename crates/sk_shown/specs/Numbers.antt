@@ -1,5 +1,5 @@
 -- Numbers that a text can spell. A program that keeps the rules has no others, but well-formedness does not say so.
-use Rattle.std.specs.Prelude.{ℕ, nat_le, Bool, true, ◌&&◌, List, Option, Some, None}
+use Rattle.std.specs.Prelude.{ℕ, nat_le, Bool, true, ◌&&◌, Option, Some, None}
 use Rattle.std.specs.List.{list_all}
 use Rattle.sk_tree.specs.Tokens.{greatest_number}
 use Rattle.sk_prog.specs.declared.ty.Ty.{Ty}
