@@ -6,3 +6,8 @@ mod Exprs
 mod Lines
 mod Stmts
 mod Items
+mod Finds
+mod Respelt
+mod Spanless
+mod Strings
+mod ExprsRead

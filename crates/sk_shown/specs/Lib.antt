@@ -1,3 +1,5 @@
 pub mod Printed
 pub mod Numbers
 pub mod Tells
+pub mod SpanlessTree
+pub mod Readable

@@ -6,3 +6,8 @@ ghost use Rattle.sk_shown.specs.Tells.{Tells};
 pub fn text_tells_tree()
     ensures { Tells }
 {}
+
+/// Try.
+pub fn tokens_read()
+    ensures { Tells }
+{}
