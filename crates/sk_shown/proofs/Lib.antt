@@ -11,3 +11,4 @@ mod Respelt
 mod Spanless
 mod Strings
 mod ExprsRead
+mod StmtsRead

@@ -43,11 +43,11 @@ pub kinds_append : (es fs : List Stmt) → kinds_of (es ++ fs) ≡ kinds_of es +
 kinds_append [] fs = refl
 kinds_append (e ∷ es) fs = ap (λ z. spell_stmt e InBlock ++ z) (kinds_append es fs) ∙ sym (append_assoc (spell_stmt e InBlock) (kinds_of es) (kinds_of fs))
 
-in_block : (es : List Stmt) → each (map (λ (s : Role → Kinds). s InBlock) (map spell_stmt es)) ≡ kinds_of es
+pub in_block : (es : List Stmt) → each (map (λ (s : Role → Kinds). s InBlock) (map spell_stmt es)) ≡ kinds_of es
 in_block [] = refl
 in_block (e ∷ es) = ap (λ z. spell_stmt e InBlock ++ z) (in_block es)
 
-block_spelled : (s : Span) (es : List Stmt) (role : Role) → spell_stmt (block_of s es) role ≡ sign mark.OpenBrace ▹ kinds_of es ▹ sign mark.CloseBrace
+pub block_spelled : (s : Span) (es : List Stmt) (role : Role) → spell_stmt (block_of s es) role ≡ sign mark.OpenBrace ▹ kinds_of es ▹ sign mark.CloseBrace
 block_spelled s es role = stmt_spelled s (form.Block es) (F.Block es) (form.rolls-Block es) role ∙ ap (λ z. sign mark.OpenBrace ▹ z ▹ sign mark.CloseBrace) (in_block es)
 
 -- one statement alone

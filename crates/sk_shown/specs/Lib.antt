@@ -3,3 +3,4 @@ pub mod Numbers
 pub mod Tells
 pub mod SpanlessTree
 pub mod Readable
+pub mod Respans
