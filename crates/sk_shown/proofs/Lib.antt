@@ -12,3 +12,4 @@ mod Spanless
 mod Strings
 mod ExprsRead
 mod StmtsRead
+mod ItemsRead

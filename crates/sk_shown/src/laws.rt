@@ -1,4 +1,5 @@
 //! Laws of what a layout shows, with nothing to run.
+ghost use Rattle.sk_shown.specs.Respans.{Respans};
 ghost use Rattle.sk_shown.specs.Tells.{Tells};
 
 /// The layout of a well-formed program, of numbers that a text can spell, is divided into tokens, and these have the
@@ -7,7 +8,8 @@ pub fn text_tells_tree()
     ensures { Tells }
 {}
 
-/// Try.
+/// Where the layout of a program is spelt as a tree may be, tokens of the kinds that spell the printed tree spell a
+/// tree that differs from it in spans alone.
 pub fn tokens_read()
-    ensures { Tells }
+    ensures { Respans }
 {}
