@@ -13,3 +13,5 @@ mod Strings
 mod ExprsRead
 mod StmtsRead
 mod ItemsRead
+mod Placed
+mod TextReads

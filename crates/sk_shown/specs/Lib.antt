@@ -4,3 +4,4 @@ pub mod Tells
 pub mod SpanlessTree
 pub mod Readable
 pub mod Respans
+pub mod ReadsAs

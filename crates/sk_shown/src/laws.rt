@@ -1,4 +1,5 @@
 //! Laws of what a layout shows, with nothing to run.
+ghost use Rattle.sk_shown.specs.ReadsAs.{TextReads};
 ghost use Rattle.sk_shown.specs.Respans.{Respans};
 ghost use Rattle.sk_shown.specs.Tells.{Tells};
 
@@ -12,4 +13,10 @@ pub fn text_tells_tree()
 /// tree that differs from it in spans alone.
 pub fn tokens_read()
     ensures { Respans }
+{}
+
+/// The layout of a well-formed program that can be spelt reads as a tree that differs from the printed one in spans
+/// alone, if the operands of the printed tree stand where they may.
+pub fn text_reads()
+    ensures { TextReads }
 {}
