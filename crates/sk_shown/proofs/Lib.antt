@@ -1,0 +1,17 @@
+mod Told
+mod Operators
+mod Names
+mod Spelled
+mod Exprs
+mod Lines
+mod Stmts
+mod Items
+mod Finds
+mod Respelt
+mod Spanless
+mod Strings
+mod ExprsRead
+mod StmtsRead
+mod ItemsRead
+mod Placed
+mod TextReads

@@ -1,0 +1,7 @@
+pub mod Printed
+pub mod Numbers
+pub mod Tells
+pub mod SpanlessTree
+pub mod Readable
+pub mod Respans
+pub mod ReadsAs

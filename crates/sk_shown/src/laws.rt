@@ -1,0 +1,22 @@
+//! Laws of what a layout shows, with nothing to run.
+ghost use Rattle.sk_shown.specs.ReadsAs.{TextReads};
+ghost use Rattle.sk_shown.specs.Respans.{Respans};
+ghost use Rattle.sk_shown.specs.Tells.{Tells};
+
+/// The layout of a well-formed program, of numbers that a text can spell, is divided into tokens, and these have the
+/// kinds that spell the printed tree.
+pub fn text_tells_tree()
+    ensures { Tells }
+{}
+
+/// Where the layout of a program is spelt as a tree may be, tokens of the kinds that spell the printed tree spell a
+/// tree that differs from it in spans alone.
+pub fn tokens_read()
+    ensures { Respans }
+{}
+
+/// The layout of a well-formed program that can be spelt reads as a tree that differs from the printed one in spans
+/// alone, if the operands of the printed tree stand where they may.
+pub fn text_reads()
+    ensures { TextReads }
+{}
