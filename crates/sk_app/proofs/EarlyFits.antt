@@ -44,7 +44,6 @@ use Rattle.sk_app.specs.EarlyTypes.{Means, AnyAt, IsAt, MeansDeclare, MeansAssig
 use Rattle.sk_app.proofs.Bridge.{to_early}
 use Rattle.sk_app.proofs.EarlyTrees.{reads_early}
 use Rattle.sk_app.specs.Early.{Rank, Operand, Other, peform_rank, prank, is_sum, is_variable, is_int_ty, is_sum_pvalue, early_pform, early_pstmt, early_pparam, is_pharness, is_absent, early_pfun, early_funs, is_none}
-use Rattle.sk_app.specs.Built.{default_bounds}
 use Rattle.sk_app.specs.EarlyFit.{EarlyTextsFit}
 use Rattle.sk_app.proofs.FillingEarly.{ranked, operator_ranked, sum_ranked, equation_ranked, variable_expr, early_stmt}
 use Rattle.sk_app.proofs.ShownSpell.{is_name}
@@ -269,11 +268,11 @@ items_fit q bounds _ _ means names early = absurd means
 
 pub early_texts_fit : EarlyTextsFit
 unfolding prog_fits
-early_texts_fit text prog typed =
+early_texts_fit bounds text prog typed =
     let reads = reads_early typed.is_tree.tokens typed.tree typed.is_tree.early typed.is_tree.reads in
-    let types = to_early typed.tree default_bounds prog typed.is_tree.early typed.types in
-    let names = names_read text typed.is_tree.tokens typed.tree default_bounds prog typed.is_tree.lexed reads.spelt types in
-    let early = prog_early default_bounds typed.tree prog typed.is_tree.early types in
+    let types = to_early typed.tree bounds prog typed.is_tree.early typed.types in
+    let names = names_read text typed.is_tree.tokens typed.tree bounds prog typed.is_tree.lexed reads.spelt types in
+    let early = prog_early bounds typed.tree prog typed.is_tree.early types in
     let are = early_all prog.funs (and_parts (is_none prog.structs && is_none prog.consts) (early_funs prog.funs) early).1 in
-    let fit : list_all (fun_fits prog) prog.funs ≡ true = items_fit prog default_bounds typed.tree.items prog.funs types.funs names are in
+    let fit : list_all (fun_fits prog) prog.funs ≡ true = items_fit prog bounds typed.tree.items prog.funs types.funs names are in
     λ i. list_all (struct_fits prog) (types.structs i) && (list_all (const_fits prog) (types.consts i) && fit i)

@@ -1,5 +1,6 @@
 mod StreamLemmas
 mod EndingLemmas
+mod EffectLaws
 pub mod FillingEarly
 pub mod FillingLaws
 pub mod CostLaws

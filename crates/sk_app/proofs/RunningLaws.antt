@@ -1,13 +1,11 @@
 -- An early program meets its harness exactly where no numbers in range, one for each parameter, break
 -- it.
-use Rattle.std.proofs.Common.{arith, ◌≡◌, ◌↔◌, ℕ, zero, suc, ◌-◌, ◌<◌, ◌≤◌, ◌^◌, pos, negsuc, List, [], ◌∷◌, length, Some, refl, sym, ap, subst, ◌∙◌, true}
+use Rattle.std.proofs.Common.{arith, ◌≡◌, ◌↔◌, ℕ, zero, suc, ◌<◌, ◌^◌, pos, negsuc, List, [], ◌∷◌, length, Some, refl, sym, ap, subst, ◌∙◌, true}
 use Rattle.std.specs.Prelude.{All, slice_get, nat_lt, not}
 use Rattle.std.specs.List.{list_all}
 use Rattle.std.proofs.lemmas.Bool.{and_parts, and_from, lt-ltb, ltb-true}
 use Rattle.std.proofs.lemmas.List.Elements.{All-cons}
-use Rattle.std.proofs.lemmas.Int.{ints}
 use Rattle.std.proofs.lemmas.Grind.{common_steps}
-use Rattle.std.proofs.Math.Pow.{pow_mono}
 use Rattle.sk_base.specs.declared.bounds.Bounds.{Bounds}
 use Rattle.sk_prog.specs.declared.ty.Elem.TheVariants as elem
 use Rattle.sk_prog.specs.declared.ty.Ty.{Ty}

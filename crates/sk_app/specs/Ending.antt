@@ -7,7 +7,7 @@ use Rattle.sk_texts.specs.Messages as said
 use Rattle.sk_app.specs.declared.ending.TextFault.{TextFault}
 use Rattle.sk_app.specs.declared.ending.TextFault.TheVariants.{Lex, Parse}
 use Rattle.sk_app.specs.declared.ending.Ending.{Ending}
-use Rattle.sk_app.specs.declared.ending.Ending.TheVariants.{Completed, NoCompletion, NotALine, NotText, ReadFault, WriteFault, TooLong, Memory, NotBuilt}
+use Rattle.sk_app.specs.declared.ending.Ending.TheVariants.{Completed, NoCompletion, HelpShown, VersionShown, NotALine, NotText, ReadFault, WriteFault, TooLong, Memory, NotBuilt}
 
 -- The refusal for a fault of a text. Want of memory, which `run` answers as `Memory`, is no fault of it.
 abbrev pub text_refusal : TextFault → Refusal
@@ -24,6 +24,8 @@ text_refusal (Parse parse.Memory) = said.Memory
 abbrev pub status_of : Ending → ℕ
 status_of Completed = 0
 status_of NoCompletion = 1
+status_of HelpShown = 0
+status_of VersionShown = 0
 status_of NotALine = 10
 status_of (NotText fault) = refusal_status (text_refusal fault)
 status_of ReadFault = 14
@@ -35,6 +37,8 @@ status_of NotBuilt = 20
 abbrev pub message_of : Ending → List ℕ
 message_of Completed = []
 message_of NoCompletion = []
+message_of HelpShown = []
+message_of VersionShown = []
 message_of NotALine = codes "usage"
 message_of (NotText fault) = refusal_message (text_refusal fault)
 message_of ReadFault = codes "read fault"

@@ -2,7 +2,7 @@
 use Rattle.std.specs.Prelude.{ℕ, ◌≡◌, Bool, true, false, List, Option}
 use Rattle.sk_base.specs.Stream.{Rose}
 use Rattle.sk_app.specs.declared.ending.Ending.{Ending}
-use Rattle.sk_app.specs.declared.ending.Ending.TheVariants.{Completed, NoCompletion, NotText, ReadFault, WriteFault, TooLong, Memory, NotBuilt}
+use Rattle.sk_app.specs.declared.ending.Ending.TheVariants.{Completed, NoCompletion, HelpShown, VersionShown, NotALine, NotText, ReadFault, WriteFault, TooLong, Memory, NotBuilt}
 use Rattle.sk_app.specs.declared.ending.TextFault.{TextFault}
 use Rattle.sk_app.specs.TextFaults.{IsSameFault}
 use Rattle.sk_app.specs.Streams.{Appends, AppendsPrefix}
@@ -23,6 +23,8 @@ pub record WritesPart (P : List ℕ → Type 0) (old new : Option (List ℕ)) : 
 abbrev pub writes_nothing : Ending → Bool
 writes_nothing Completed = false
 writes_nothing NoCompletion = false
+writes_nothing HelpShown = false
+writes_nothing VersionShown = false
 writes_nothing WriteFault = false
 writes_nothing _ = true
 
@@ -71,3 +73,29 @@ EndsLong TooLong source_old source_new = Unit {0}
 EndsLong Memory source_old source_new = Unit {0}
 EndsLong ReadFault source_old source_new = Rose source_old source_new
 EndsLong _ source_old source_new = ⊥
+
+-- Words that spell no line are refused, unless memory was wanting.
+abbrev pub EndsNoLine : Ending → Type 0
+EndsNoLine NotALine = Unit {0}
+EndsNoLine Memory = Unit {0}
+EndsNoLine _ = ⊥
+
+-- So is a line for which the program does nothing so far.
+abbrev pub EndsUnbuiltLine : Ending → Type 0
+EndsUnbuiltLine NotBuilt = Unit {0}
+EndsUnbuiltLine Memory = Unit {0}
+EndsUnbuiltLine _ = ⊥
+
+-- A line `--help` writes the help, unless the sink failed or memory was wanting.
+abbrev pub EndsHelp : Ending → ℕ → ℕ → Type 0
+EndsHelp HelpShown sink_old sink_new = Unit {0}
+EndsHelp Memory sink_old sink_new = Unit {0}
+EndsHelp WriteFault sink_old sink_new = Rose sink_old sink_new
+EndsHelp _ sink_old sink_new = ⊥
+
+-- The same of a line `--version`.
+abbrev pub EndsVersion : Ending → ℕ → ℕ → Type 0
+EndsVersion VersionShown sink_old sink_new = Unit {0}
+EndsVersion Memory sink_old sink_new = Unit {0}
+EndsVersion WriteFault sink_old sink_new = Rose sink_old sink_new
+EndsVersion _ sink_old sink_new = ⊥

@@ -18,6 +18,9 @@ pub mod Read
 pub mod Prepared
 pub mod EarlyFit
 pub mod Ends
+pub mod Help
+pub mod Lines
+pub mod Effects
 pub mod Typing
 pub mod Filling
 pub mod Searching

@@ -1,13 +1,15 @@
 -- What is written, and when: a completion of the sketch, or that there is none.
 use Rattle.std.specs.Prelude.{ℕ, ◌≤◌, ◌≡◌, List, [], ◌∷◌, ◌++◌, codes}
 use Rattle.std.specs.Fmt.{decimal}
+use Rattle.sk_base.specs.declared.bounds.Bounds.{Bounds}
 use Rattle.sk_model.specs.declared.expanded.Choice.{Choice}
 use Rattle.sk_model.specs.declared.expanded.Expanded.{Expanded}
 use Rattle.sk_model.specs.Fill.{InRange, fill}
 use Rattle.sk_model.specs.Meets.{Meets, IsGreatestCost}
 use Rattle.sk_print.specs.Layout.{layout}
 use Rattle.sk_print.specs.Shows.{Shows}
-use Rattle.sk_app.specs.Built.{IsOnly, default_bounds}
+use Rattle.sk_opts.specs.declared.line.Set.{Set}
+use Rattle.sk_app.specs.Built.{IsOnly}
 
 -- each number with a space before it
 abbrev pub spaced : List ℕ → List ℕ
@@ -28,22 +30,24 @@ none_text = codes "//@ none\n"
 
 -- The result text is that of a completion: a filling in range, whose text shows it, that meets its
 -- harness on every input in range, with its greatest cost, and no filling that
--- does so costs less. The text has no other expansion.
-pub record IsCompletion (text out : List ℕ) : Type 0 where
+-- does so costs less. With these options the text has no other bounds and no other expansion.
+pub record IsCompletion (set : Set) (text out : List ℕ) : Type 0 where
+  pub bounds : Bounds
   pub e : Expanded
   pub a : Choice
   pub value : ℕ
-  pub only : IsOnly text e
+  pub only : IsOnly set text bounds e
   pub in_range : InRange e a
-  pub shows : Shows (layout (fill e a)) default_bounds (fill e a)
-  pub meets : Meets (fill e a) default_bounds
-  pub costs : IsGreatestCost (fill e a) default_bounds value
-  pub least : (b : Choice) → InRange e b → Meets (fill e b) default_bounds → (v : ℕ) → IsGreatestCost (fill e b) default_bounds v → value ≤ v
+  pub shows : Shows (layout (fill e a)) bounds (fill e a)
+  pub meets : Meets (fill e a) bounds
+  pub costs : IsGreatestCost (fill e a) bounds value
+  pub least : (b : Choice) → InRange e b → Meets (fill e b) bounds → (v : ℕ) → IsGreatestCost (fill e b) bounds v → value ≤ v
   pub is : out ≡ completed_text e a value
 
 -- The result text says that there is no completion, and no filling in range meets its harness.
-pub record IsNone (text out : List ℕ) : Type 0 where
+pub record IsNone (set : Set) (text out : List ℕ) : Type 0 where
+  pub bounds : Bounds
   pub e : Expanded
-  pub only : IsOnly text e
-  pub none : (b : Choice) → InRange e b → Meets (fill e b) default_bounds → ⊥
+  pub only : IsOnly set text bounds e
+  pub none : (b : Choice) → InRange e b → Meets (fill e b) bounds → ⊥
   pub is : out ≡ none_text

@@ -1,41 +1,31 @@
 //! The call that does all that the program does.
 
-ghost use Rattle.std.specs.Prelude.{List, ℕ, ◌≡◌, ◌≤◌, ◌<◌, ◌↔◌, ◌⊎◌, length, map, string_bytes, codes, IsTrue, IfSome};
+ghost use Rattle.std.specs.Prelude.{List, ℕ, ◌≡◌, ◌≤◌, ◌<◌, ◌⊎◌, length, map, string_bytes, IsTrue, IfSome};
 ghost use Rattle.sk_base.specs.Stream.{Rose};
+ghost use Rattle.sk_base.specs.declared.bounds.Bounds.{Bounds};
 ghost use Rattle.sk_model.specs.declared.expanded.Expanded.{Expanded};
-ghost use Rattle.sk_app.specs.Built.{IsSynth, IsBuilt};
+ghost use Rattle.sk_opts.specs.declared.line.Set.{Set};
+ghost use Rattle.sk_opts.specs.declared.line.Line.TheVariants as line;
+ghost use Rattle.sk_opts.specs.CommandLine.{IsLine};
+ghost use Rattle.sk_opts.specs.Ranges.{IsInRanges, LineIsInRanges};
+ghost use Rattle.sk_app.specs.Built.{IsBuilt};
 ghost use Rattle.sk_app.specs.ResultText.{IsCompletion, IsNone};
 ghost use Rattle.sk_app.specs.Streams.{Appends, AppendsPrefix, TakesFew, most_bytes};
 ghost use Rattle.sk_app.specs.Prepared.{IsNotBuilt};
 ghost use Rattle.sk_app.specs.TextFaults.{IsTextFault};
 ghost use Rattle.sk_app.specs.declared.ending.TextFault.{TextFault};
-ghost use Rattle.sk_app.specs.Ends.{IsDelivered, Writes, WritesPart, writes_nothing, EndsBuilt, EndsFaulty, EndsLong, EndsUnbuilt};
+ghost use Rattle.sk_app.specs.Help.{help_text, version_text};
+ghost use Rattle.sk_app.specs.Lines.{IsNoLine, IsSynth, ForSynth, IsUnbuiltLine};
+ghost use Rattle.sk_app.specs.Ends.{IsDelivered, Writes, WritesPart, writes_nothing, EndsBuilt, EndsFaulty, EndsLong, EndsUnbuilt, EndsNoLine, EndsUnbuiltLine, EndsHelp, EndsVersion};
+ghost use Rattle.sk_app.specs.Effects.{is_of_synth, IsResult, IsShown, IsOutput, Serves, Answers};
 
 use crate::ending::Ending;
+use crate::help::{help, version};
 use crate::output::write_all;
 use crate::prepare::{Found, Prepared, prepare};
 use sk_base::{Sink, Source};
+use sk_opts::{Line, Set, Usage, options};
 use std::alloc::Global;
-
-/// Whether a word is `synth`.
-fn is_command(word: &String) -> bool
-    ensures { IsTrue result ↔ (string_bytes word.now ≡ codes "synth") }
-{
-    word.as_bytes() == b"synth".as_slice()
-}
-
-/// Whether the words are the one word `synth`.
-fn is_synth(words: &[String]) -> bool
-    ensures { IsTrue result ↔ IsSynth (map string_bytes words.now) }
-{
-    match words.split_first() {
-        Some((word, after)) => {
-            let alone = after.is_empty();
-            alone && is_command(word)
-        }
-        None => false,
-    }
-}
 
 /// Writes a result text, made whole before. It answers `done` where it was written, and takes no memory
 /// after the sink has made room for it.
@@ -52,50 +42,36 @@ fn deliver<K: Sink>(sink: &mut K, out: &[u8], done: Ending) -> Ending
     }
 }
 
-/// Runs a command: the words are those behind the program's own name. So far there is one line, the word
-/// `synth`: it reads a sketch from the source, completes it, and writes the result to the sink.
-///
-/// What is said of the text holds where the source tells what is left, and what is said of what the sink
-/// holds where the sink tells it. Want of memory may come at any step behind the words.
-pub fn run<S: Source, K: Sink>(
-    alloc: Global,
-    words: &[String],
-    source: &mut S,
-    sink: &mut K,
-) -> Ending
-    // The words are no line exactly where this comes.
-    ensures not_a_line { (result ≡ Ending.NotALine) ↔ (IsSynth (map string_bytes words.now) → ⊥) }
+/// Writes the help.
+fn show_help<K: Sink>(alloc: Global, sink: &mut K) -> Ending
+    ensures { IsDelivered result Ending.HelpShown help_text (K.faults sink.old) (K.faults sink.new) (K.held sink.old) (K.held sink.new) }
+{
+    match help(alloc) {
+        Ok(text) => deliver(sink, text.as_slice(), Ending::HelpShown),
+        Err(_) => Ending::Memory,
+    }
+}
 
-    // A completion: what the sink got is the result text of a filling that meets the harness.
-    ensures completed { result ≡ Ending.Completed → IfSome (S.left source.old) (λ text. Writes (IsCompletion text) (K.held sink.old) (K.held sink.new)) }
-    // None: no filling meets it.
-    ensures none { result ≡ Ending.NoCompletion → IfSome (S.left source.old) (λ text. Writes (IsNone text) (K.held sink.old) (K.held sink.new)) }
-
-    // The text has this fault: its first as bytes, or what its tokens read as.
+/// Completes the text of the source with the options of a line, and writes the result to the sink.
+fn synth<S: Source, K: Sink>(alloc: Global, set: &Set, source: &mut S, sink: &mut K) -> Ending
+    requires { IsInRanges set.now }
+    ensures ends { IsTrue (is_of_synth result) }
+    ensures completed { result ≡ Ending.Completed → IfSome (S.left source.old) (λ text. Writes (IsCompletion set.now text) (K.held sink.old) (K.held sink.new)) }
+    ensures none { result ≡ Ending.NoCompletion → IfSome (S.left source.old) (λ text. Writes (IsNone set.now text) (K.held sink.old) (K.held sink.new)) }
     ensures not_text { (fault : TextFault) → result ≡ Ending.NotText fault → IfSome (S.left source.old) (IsTextFault fault) }
-    // The text reads as a tree, and that is not taken.
-    ensures not_built { result ≡ Ending.NotBuilt → IfSome (S.left source.old) IsNotBuilt }
+    ensures not_built { result ≡ Ending.NotBuilt → IfSome (S.left source.old) (IsNotBuilt set.now) }
     ensures too_long { result ≡ Ending.TooLong → IfSome (S.left source.old) (λ text. most_bytes < length text) }
     ensures read_fault { result ≡ Ending.ReadFault → Rose (S.faults source.old) (S.faults source.new) }
     ensures write_fault { result ≡ Ending.WriteFault → Rose (K.faults sink.old) (K.faults sink.new) }
-
-    // After a write fault the sink holds a prefix of the result text behind what it held.
-    ensures prefix { result ≡ Ending.WriteFault → IfSome (S.left source.old) (λ text. WritesPart (λ out. IsCompletion text out ⊎ IsNone text out) (K.held sink.old) (K.held sink.new)) }
-    // After any other status from 10 on it holds what it held.
+    ensures prefix { result ≡ Ending.WriteFault → IfSome (S.left source.old) (λ text. WritesPart (IsResult set.now text) (K.held sink.old) (K.held sink.new)) }
     ensures kept { IsTrue (writes_nothing result) → K.held sink.new ≡ K.held sink.old }
-    // At most one byte past the limit is read.
     ensures few { TakesFew (S.left source.old) (S.left source.new) }
-
-    // The other direction of the causes: which endings there are for a text.
-    ensures ends_built { IsSynth (map string_bytes words.now) → IfSome (S.left source.old) (λ text. (e : Expanded) → IsBuilt text e → EndsBuilt result (S.faults source.old) (S.faults source.new) (K.faults sink.old) (K.faults sink.new)) }
-    ensures ends_faulty { IsSynth (map string_bytes words.now) → IfSome (S.left source.old) (λ text. length text ≤ most_bytes → (fault : TextFault) → IsTextFault fault text → EndsFaulty fault result (S.faults source.old) (S.faults source.new)) }
-    ensures ends_unbuilt { IsSynth (map string_bytes words.now) → IfSome (S.left source.old) (λ text. length text ≤ most_bytes → IsNotBuilt text → EndsUnbuilt result (S.faults source.old) (S.faults source.new)) }
-    ensures ends_long { IsSynth (map string_bytes words.now) → IfSome (S.left source.old) (λ text. most_bytes < length text → EndsLong result (S.faults source.old) (S.faults source.new)) }
+    ensures ends_built { IfSome (S.left source.old) (λ text. (bounds : Bounds) (e : Expanded) → IsBuilt set.now text bounds e → EndsBuilt result (S.faults source.old) (S.faults source.new) (K.faults sink.old) (K.faults sink.new)) }
+    ensures ends_faulty { IfSome (S.left source.old) (λ text. length text ≤ most_bytes → (fault : TextFault) → IsTextFault fault text → EndsFaulty fault result (S.faults source.old) (S.faults source.new)) }
+    ensures ends_unbuilt { IfSome (S.left source.old) (λ text. length text ≤ most_bytes → IsNotBuilt set.now text → EndsUnbuilt result (S.faults source.old) (S.faults source.new)) }
+    ensures ends_long { IfSome (S.left source.old) (λ text. most_bytes < length text → EndsLong result (S.faults source.old) (S.faults source.new)) }
 {
-    if !is_synth(words) {
-        return Ending::NotALine;
-    }
-    match prepare(alloc, source) {
+    match prepare(alloc, set, source) {
         Err(_) => Ending::Memory,
         Ok(Prepared::ReadFault) => Ending::ReadFault,
         Ok(Prepared::TooLong) => Ending::TooLong,
@@ -108,4 +84,115 @@ pub fn run<S: Source, K: Sink>(
             deliver(sink, out.as_slice(), Ending::Completed)
         }
     }
+}
+
+/// Does what a line asks for.
+fn serve<S: Source, K: Sink>(alloc: Global, line: &Line, source: &mut S, sink: &mut K) -> Ending
+    requires { LineIsInRanges line.now }
+    ensures { Serves line.now result (record {
+      left_old = S.left source.old;
+      left_new = S.left source.new;
+      read_faults_old = S.faults source.old;
+      read_faults_new = S.faults source.new;
+      held_old = K.held sink.old;
+      held_new = K.held sink.new;
+      write_faults_old = K.faults sink.old;
+      write_faults_new = K.faults sink.new;
+    }) }
+{
+    match line {
+        Line::Synth {
+            set: _,
+            budget: _,
+            cert: true,
+        } => Ending::NotBuilt,
+        Line::Synth {
+            set,
+            budget: _,
+            cert: false,
+        } => synth(alloc, set, source, sink),
+        Line::Exec { .. } | Line::Check { .. } | Line::Itself { .. } => Ending::NotBuilt,
+        Line::Help => show_help(alloc, sink),
+        Line::Version => deliver(sink, version(), Ending::VersionShown),
+    }
+}
+
+/// Does what the words ask for.
+fn answer<S: Source, K: Sink>(
+    alloc: Global,
+    words: &[String],
+    source: &mut S,
+    sink: &mut K,
+) -> Ending
+    ensures { Answers (map string_bytes words.now) result (record {
+      left_old = S.left source.old;
+      left_new = S.left source.new;
+      read_faults_old = S.faults source.old;
+      read_faults_new = S.faults source.new;
+      held_old = K.held sink.old;
+      held_new = K.held sink.new;
+      write_faults_old = K.faults sink.old;
+      write_faults_new = K.faults sink.new;
+    }) }
+{
+    match options(alloc, words) {
+        Ok(line) => serve(alloc, &line, source, sink),
+        Err(Usage::NotALine) => Ending::NotALine,
+        Err(Usage::Memory) => Ending::Memory,
+    }
+}
+
+/// Runs a command: the words are those behind the program's own name. So far a line `synth` reads a sketch from the
+/// source, completes it, and writes the result to the sink; `--help` and `--version` write their texts; any other line
+/// ends with `NotBuilt`.
+///
+/// What is said of the text holds where the source tells what is left, and what is said of what the sink
+/// holds where the sink tells it. Want of memory may come at any step.
+pub fn run<S: Source, K: Sink>(
+    alloc: Global,
+    words: &[String],
+    source: &mut S,
+    sink: &mut K,
+) -> Ending
+    // The words are no line.
+    ensures not_a_line { result ≡ Ending.NotALine → IsNoLine (map string_bytes words.now) }
+
+    // A completion: what the sink got is the result text of a filling that meets the harness.
+    ensures completed { result ≡ Ending.Completed → ForSynth (map string_bytes words.now) (λ set. IfSome (S.left source.old) (λ text. Writes (IsCompletion set text) (K.held sink.old) (K.held sink.new))) }
+    // None: no filling meets it.
+    ensures none { result ≡ Ending.NoCompletion → ForSynth (map string_bytes words.now) (λ set. IfSome (S.left source.old) (λ text. Writes (IsNone set text) (K.held sink.old) (K.held sink.new))) }
+    // The help and the version come for their lines alone.
+    ensures help { result ≡ Ending.HelpShown → IsLine (map string_bytes words.now) line.Help × Appends help_text (K.held sink.old) (K.held sink.new) }
+    ensures version { result ≡ Ending.VersionShown → IsLine (map string_bytes words.now) line.Version × Appends version_text (K.held sink.old) (K.held sink.new) }
+
+    // The text has this fault: its first as bytes, or what its tokens read as.
+    ensures not_text { (fault : TextFault) → result ≡ Ending.NotText fault → IfSome (S.left source.old) (IsTextFault fault) }
+    // The program does nothing for the line so far; or the text reads as a tree, and that is not taken.
+    ensures not_built { result ≡ Ending.NotBuilt → IsUnbuiltLine (map string_bytes words.now) ⊎ ForSynth (map string_bytes words.now) (λ set. IfSome (S.left source.old) (IsNotBuilt set)) }
+    ensures too_long { result ≡ Ending.TooLong → IfSome (S.left source.old) (λ text. most_bytes < length text) }
+    ensures read_fault { result ≡ Ending.ReadFault → Rose (S.faults source.old) (S.faults source.new) }
+    ensures write_fault { result ≡ Ending.WriteFault → Rose (K.faults sink.old) (K.faults sink.new) }
+
+    // After a write fault the sink holds a prefix of what the line writes behind what it held.
+    ensures prefix { result ≡ Ending.WriteFault → IfSome (S.left source.old) (λ text. WritesPart (IsOutput (map string_bytes words.now) text) (K.held sink.old) (K.held sink.new)) }
+    ensures prefix_help { IsLine (map string_bytes words.now) line.Help → result ≡ Ending.WriteFault → AppendsPrefix help_text (K.held sink.old) (K.held sink.new) }
+    ensures prefix_version { IsLine (map string_bytes words.now) line.Version → result ≡ Ending.WriteFault → AppendsPrefix version_text (K.held sink.old) (K.held sink.new) }
+    // After any other status from 10 on it holds what it held.
+    ensures kept { IsTrue (writes_nothing result) → K.held sink.new ≡ K.held sink.old }
+    // At most one byte past the limit is read, and none but for a line `synth`.
+    ensures few { TakesFew (S.left source.old) (S.left source.new) }
+    ensures unread { ((set : Set) → IsSynth (map string_bytes words.now) set → ⊥) → S.left source.new ≡ S.left source.old }
+
+    // The other direction of the causes: which endings there are for words, and for a text.
+    ensures ends_no_line { IsNoLine (map string_bytes words.now) → EndsNoLine result }
+    ensures ends_unbuilt_line { IsUnbuiltLine (map string_bytes words.now) → EndsUnbuiltLine result }
+    ensures ends_help { IsLine (map string_bytes words.now) line.Help → EndsHelp result (K.faults sink.old) (K.faults sink.new) }
+    ensures ends_version { IsLine (map string_bytes words.now) line.Version → EndsVersion result (K.faults sink.old) (K.faults sink.new) }
+    ensures ends_built { (set : Set) → IsSynth (map string_bytes words.now) set → IfSome (S.left source.old) (λ text. (bounds : Bounds) (e : Expanded) → IsBuilt set text bounds e → EndsBuilt result (S.faults source.old) (S.faults source.new) (K.faults sink.old) (K.faults sink.new)) }
+    ensures ends_faulty { (set : Set) → IsSynth (map string_bytes words.now) set → IfSome (S.left source.old) (λ text. length text ≤ most_bytes → (fault : TextFault) → IsTextFault fault text → EndsFaulty fault result (S.faults source.old) (S.faults source.new)) }
+    ensures ends_unbuilt { (set : Set) → IsSynth (map string_bytes words.now) set → IfSome (S.left source.old) (λ text. length text ≤ most_bytes → IsNotBuilt set text → EndsUnbuilt result (S.faults source.old) (S.faults source.new)) }
+    ensures ends_long { (set : Set) → IsSynth (map string_bytes words.now) set → IfSome (S.left source.old) (λ text. most_bytes < length text → EndsLong result (S.faults source.old) (S.faults source.new)) }
+{
+    let ending = answer(alloc, words, source, sink);
+    ending
 }

@@ -1,14 +1,14 @@
 //! The completion of a text.
 
-ghost use Rattle.std.specs.Prelude.{ℕ, ◌≡◌, ◌≤◌, ◌↔◌, ◌++◌, Some, length, IsTrue, IsNone, IfOk, OnOk, IfSome};
-ghost use Rattle.sk_base.specs.declared.bounds.Bounds.{Bounds};
+ghost use Rattle.std.specs.Prelude.{ℕ, ◌≡◌, ◌≤◌, ◌<◌, ◌↔◌, ◌++◌, Some, length, IsTrue, IsNone, IfOk, OnOk, IfSome};
 ghost use Rattle.sk_prog.specs.declared.prog.Prog.{Prog};
 ghost use Rattle.sk_model.specs.Fill.{InRange, fill};
+ghost use Rattle.sk_opts.specs.Ranges.{IsInRanges, AreInRanges};
 ghost use Rattle.sk_app.specs.Streams.{most_bytes};
-ghost use Rattle.sk_app.specs.Built.{default_bounds, bits_count, most_bits, IsSmall, IsMeant, IsOnlyOf, IsUnbuiltOf};
+ghost use Rattle.sk_app.specs.Built.{bits_count, most_bits, IsSmall, IsMeant, IsOnlyOf, IsUnbuiltOf};
 ghost use Rattle.sk_app.specs.ResultText.{spaced, completion_lines, completed_text, none_text};
 ghost use Rattle.sk_app.specs.Early.{early_prog};
-ghost use Rattle.sk_app.specs.Filling.{IsEarlyExpansion};
+ghost use Rattle.sk_app.specs.Filling.{IsEarlyExpansion, FromEarly};
 ghost use Rattle.sk_app.specs.Prepared.{IsFound};
 ghost use Rattle.sk_app.specs.Read.{IsBuilding};
 
@@ -21,6 +21,7 @@ use crate::tree::{Read, tree_of};
 use crate::typing::check_early;
 use sk_base::{Bounds, push_number};
 use sk_model::{Choice, Expanded};
+use sk_opts::{Set, bounds};
 use sk_print::print;
 use sk_prog::Prog;
 use sk_tree::Tree;
@@ -36,66 +37,52 @@ pub enum Building {
     NotText(TextFault),
     /// It reads as a tree that is not taken so far.
     NotBuilt,
-    /// The expansion.
-    Whole(Expanded),
-}
-
-/// The bounds that hold where nothing sets them.
-fn default_bounds() -> Bounds
-    ensures { result ≡ default_bounds }
-{
-    Bounds {
-        int_bits: 16,
-        cbits: 5,
-        inbits: 5,
-        unroll: 8,
-        inline_amnt: 5,
-    }
+    /// The bounds and the expansion.
+    Whole { bounds: Bounds, expanded: Expanded },
 }
 
 /// The program that an early tree means, or none.
-fn prog_of(alloc: Global, tree: &Tree) -> Result<Option<Prog>, AllocError>
-    ensures found { IfOk result (λ o. IfSome o (IsMeant tree.now)) }
+fn prog_of(alloc: Global, tree: &Tree, bounds: &Bounds) -> Result<Option<Prog>, AllocError>
+    requires { AreInRanges bounds.now }
+    ensures found { IfOk result (λ o. IfSome o (IsMeant bounds.now tree.now)) }
     ensures early { IfOk result (λ o. IfSome o (λ prog. IsTrue (early_prog prog))) }
-    ensures only { IfOk result (λ o. (prog : Prog) → IsMeant tree.now prog → o ≡ Some prog) }
+    ensures only { IfOk result (λ o. (prog : Prog) → IsMeant bounds.now tree.now prog → o ≡ Some prog) }
 {
     if !is_early(tree) {
         return Ok(None);
     }
-    let bounds = default_bounds();
-    let prog = check_early(alloc, tree, &bounds)?;
+    let prog = check_early(alloc, tree, bounds)?;
     Ok(prog)
 }
 
 /// Whether the holes and the arguments have few enough bits to try all.
 #[tactic(auto, using(crate::proofs::CompleteLaws::bits_same))]
-fn has_few_bits(expanded: &Expanded) -> bool
-    requires { IsEarlyExpansion expanded.now default_bounds }
-    ensures { IsTrue result ↔ (bits_count expanded.now default_bounds ≤ most_bits) }
+fn has_few_bits(expanded: &Expanded, bounds: &Bounds) -> bool
+    requires { IsEarlyExpansion expanded.now bounds.now }
+    ensures { IsTrue result ↔ (bits_count expanded.now bounds.now ≤ most_bits) }
 {
-    let bounds = default_bounds();
-    is_searchable(expanded, &bounds)
+    is_searchable(expanded, bounds)
 }
 
 /// Whether an early expansion is small enough to try all its fillings on all its inputs.
-fn is_small(expanded: &Expanded) -> bool
-    requires { IsEarlyExpansion expanded.now default_bounds }
-    ensures { IsTrue result ↔ IsSmall expanded.now }
+fn is_small(expanded: &Expanded, bounds: &Bounds) -> bool
+    requires { IsEarlyExpansion expanded.now bounds.now }
+    ensures { IsTrue result ↔ IsSmall bounds.now expanded.now }
 {
-    is_within(&expanded.prog, MOST_NODES) && has_few_bits(expanded)
+    is_within(&expanded.prog, MOST_NODES) && has_few_bits(expanded, bounds)
 }
 
 /// The expansion of a tree that is taken, or none.
-fn expanded_of(alloc: Global, tree: &Tree) -> Result<Option<Expanded>, AllocError>
-    ensures found { IfOk result (λ o. IfSome o (IsOnlyOf tree.now)) }
-    ensures early { IfOk result (λ o. IfSome o (λ e. IsEarlyExpansion e default_bounds)) }
-    ensures none { IfOk result (λ o. IsNone o → IsUnbuiltOf tree.now) }
+fn expanded_of(alloc: Global, tree: &Tree, bounds: &Bounds) -> Result<Option<Expanded>, AllocError>
+    requires { AreInRanges bounds.now }
+    ensures found { IfOk result (λ o. IfSome o (IsOnlyOf bounds.now tree.now)) }
+    ensures early { IfOk result (λ o. IfSome o (λ e. IsEarlyExpansion e bounds.now)) }
+    ensures none { IfOk result (λ o. IsNone o → IsUnbuiltOf bounds.now tree.now) }
 {
-    let bounds = default_bounds();
-    match prog_of(alloc, tree)? {
+    match prog_of(alloc, tree, bounds)? {
         Some(prog) => {
-            let expanded = expand_early(alloc, prog, &bounds)?;
-            if is_small(&expanded) {
+            let expanded = expand_early(alloc, prog, bounds)?;
+            if is_small(&expanded, bounds) {
                 Ok(Some(expanded))
             } else {
                 Ok(None)
@@ -105,17 +92,21 @@ fn expanded_of(alloc: Global, tree: &Tree) -> Result<Option<Expanded>, AllocErro
     }
 }
 
-/// What is built of a text: the expansion of one that is taken, or why there is none.
-fn built(alloc: Global, text: &[u8]) -> Result<Building, AllocError>
-    requires { length text.now ≤ most_bytes }
-    ensures { IfOk result (λ built. IsBuilding built text.now) }
+/// What is built of a text with the options of a line: the expansion of one that is taken, or why there is none.
+fn built(alloc: Global, set: &Set, text: &[u8]) -> Result<Building, AllocError>
+    requires short { length text.now ≤ most_bytes }
+    requires set { IsInRanges set.now }
+    ensures { IfOk result (λ built. IsBuilding set.now built text.now) }
 {
     match tree_of(alloc, text)? {
         Read::Fault(fault) => Ok(Building::NotText(fault)),
-        Read::Tree(tree) => match expanded_of(alloc, &tree)? {
-            Some(expanded) => Ok(Building::Whole(expanded)),
-            None => Ok(Building::NotBuilt),
-        },
+        Read::Tree(tree) => {
+            let bounds = bounds(set, &tree);
+            match expanded_of(alloc, &tree, &bounds)? {
+                Some(expanded) => Ok(Building::Whole { bounds, expanded }),
+                None => Ok(Building::NotBuilt),
+            }
+        }
     }
 }
 
@@ -146,7 +137,7 @@ fn push_completion(out: &mut Vec<u8>, choice: &Choice, value: u64) -> Result<(),
 
 /// The result text of a choice: the filled program and the lines of the completion.
 fn completed(alloc: Global, expanded: &Expanded, choice: &Choice) -> Result<Vec<u8>, AllocError>
-    requires expansion { IsEarlyExpansion expanded.now default_bounds }
+    requires expansion { FromEarly expanded.now }
     requires range { InRange expanded.now choice.now }
     ensures { IfOk result (λ out. out.items ≡ completed_text expanded.now choice.now 0) }
 {
@@ -156,17 +147,17 @@ fn completed(alloc: Global, expanded: &Expanded, choice: &Choice) -> Result<Vec<
     Ok(out)
 }
 
-/// Completes a text, by trying every filling on every input.
-#[tactic(auto, using(crate::proofs::CompleteLaws::none_of, crate::proofs::CompleteLaws::few_bits))]
-pub fn complete(alloc: Global, text: &[u8]) -> Result<Found, AllocError>
-    requires { length text.now ≤ most_bytes }
-    ensures { IfOk result (λ found. IsFound found text.now) }
+/// Completes a text with the options of a line, by trying every filling on every input.
+#[tactic(auto, using(crate::proofs::CompleteLaws::finding))]
+pub fn complete(alloc: Global, set: &Set, text: &[u8]) -> Result<Found, AllocError>
+    requires short { length text.now ≤ most_bytes }
+    requires set { IsInRanges set.now }
+    ensures { IfOk result (λ found. IsFound set.now found text.now) }
 {
-    let bounds = default_bounds();
-    match built(alloc, text)? {
+    match built(alloc, set, text)? {
         Building::NotText(fault) => Ok(Found::NotText(fault)),
         Building::NotBuilt => Ok(Found::NotBuilt),
-        Building::Whole(expanded) => match search(alloc, &expanded, &bounds)? {
+        Building::Whole { bounds, expanded } => match search(alloc, &expanded, &bounds)? {
             Some(choice) => {
                 let out = completed(alloc, &expanded, &choice)?;
                 Ok(Found::Completion(out))

@@ -25,6 +25,10 @@ pub enum Ending {
     Completed,
     /// No filling meets the harness on every input in range. The sink got a line that says so.
     NoCompletion,
+    /// The sink got the help.
+    HelpShown,
+    /// The sink got the version.
+    VersionShown,
     /// The words are no command line.
     NotALine,
     /// The text has no tokens, or these read as no tree.
@@ -37,7 +41,8 @@ pub enum Ending {
     TooLong,
     /// Memory was wanting.
     Memory,
-    /// The text reads as a tree, and is none that the program takes so far.
+    /// The line is one for which the program does nothing so far, or the text reads as a tree and is none that the
+    /// program takes so far.
     NotBuilt,
 }
 
@@ -46,7 +51,7 @@ pub fn status(ending: &Ending) -> u8
     ensures { result ≡ status_of ending.now }
 {
     match ending {
-        Ending::Completed => 0,
+        Ending::Completed | Ending::HelpShown | Ending::VersionShown => 0,
         Ending::NoCompletion => 1,
         Ending::NotALine => 10,
         Ending::NotText(fault) => text_status(fault),
@@ -63,7 +68,9 @@ pub fn message(alloc: Global, ending: &Ending) -> Result<Name, AllocError>
     ensures { IfOk result (λ name. name ≡ message_of ending.now) }
 {
     match ending {
-        Ending::Completed | Ending::NoCompletion => said(alloc, b""),
+        Ending::Completed | Ending::NoCompletion | Ending::HelpShown | Ending::VersionShown => {
+            said(alloc, b"")
+        }
         Ending::NotALine => said(alloc, b"usage"),
         Ending::NotText(fault) => text_message(alloc, fault),
         Ending::ReadFault => said(alloc, b"read fault"),

@@ -7,6 +7,7 @@ mod early;
 mod early_rules;
 mod ending;
 mod filling;
+mod help;
 pub mod laws;
 mod output;
 mod prepare;

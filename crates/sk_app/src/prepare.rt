@@ -1,6 +1,7 @@
 //! What is to be written, or why nothing is.
 
 ghost use Rattle.std.specs.Prelude.{◌≡◌, ◌≤◌, length, IfOk};
+ghost use Rattle.sk_opts.specs.Ranges.{IsInRanges};
 ghost use Rattle.sk_app.specs.Streams.{TakesFew, most_bytes};
 ghost use Rattle.sk_app.specs.Prepared.{IsFound, IsPrepared};
 
@@ -8,6 +9,7 @@ use crate::complete::complete;
 use crate::ending::TextFault;
 use crate::text::{Reading, read_text};
 use sk_base::Source;
+use sk_opts::Set;
 use std::alloc::{AllocError, Global};
 
 /// What a text comes to.
@@ -31,16 +33,17 @@ pub enum Prepared {
     Found(Found),
 }
 
-/// Reads the text, and completes it.
-pub fn prepare<S: Source>(alloc: Global, source: &mut S) -> Result<Prepared, AllocError>
-    ensures cause { IfOk result (λ prepared. IsPrepared prepared (S.faults source.old) (S.faults source.new) (S.left source.old)) }
+/// Reads the text, and completes it with the options of a line.
+pub fn prepare<S: Source>(alloc: Global, set: &Set, source: &mut S) -> Result<Prepared, AllocError>
+    requires { IsInRanges set.now }
+    ensures cause { IfOk result (λ prepared. IsPrepared set.now prepared (S.faults source.old) (S.faults source.new) (S.left source.old)) }
     ensures few { TakesFew (S.left source.old) (S.left source.new) }
 {
     match read_text(alloc, source)? {
         Reading::Failed => Ok(Prepared::ReadFault),
         Reading::Long => Ok(Prepared::TooLong),
         Reading::Whole(text) => {
-            let found = complete(alloc, text.as_slice())?;
+            let found = complete(alloc, set, text.as_slice())?;
             Ok(Prepared::Found(found))
         }
     }

@@ -108,26 +108,116 @@ fn refuses_what_is_not_taken(rt: HostRuntime) -> Result<(), Fail> {
     Ok(())
 }
 
+/// The words of a line.
+fn words_of(alloc: Global, line: &[&str]) -> Result<Vec<String>, Fail> {
+    let mut words = Vec::new(alloc);
+    for word in line {
+        words.push(String::from_str(alloc, word)?)?;
+    }
+    Ok(words)
+}
+
 #[test]
-fn refuses_other_words(rt: HostRuntime) -> Result<(), Fail> {
+fn refuses_other_lines(rt: HostRuntime) -> Result<(), Fail> {
     let alloc = rt.alloc();
-    let lines: [&[&str]; 5] = [
-        &[],
-        &["exec"],
-        &["synth", "--cert"],
-        &["syn"],
-        &["synth", "synth"],
+    let rows: [(&[&str], Ending); 12] = [
+        (&[], Ending::NotALine),
+        (&["exec"], Ending::NotALine),
+        (&["syn"], Ending::NotALine),
+        (&["synth", "synth"], Ending::NotALine),
+        (&["synth", "--bnd-cbits", "17"], Ending::NotALine),
+        (&["synth", "--rounds=1", "--rounds=1"], Ending::NotALine),
+        (&["--help", "synth"], Ending::NotALine),
+        (&["self", "61"], Ending::NotALine),
+        (&["exec", "f", "1"], Ending::NotBuilt),
+        (&["synth", "--cert"], Ending::NotBuilt),
+        (&["check"], Ending::NotBuilt),
+        (&["self", "7"], Ending::NotBuilt),
     ];
-    for line in lines {
-        let mut words = Vec::new(alloc);
-        for word in line {
-            words.push(String::from_str(alloc, word)?)?;
-        }
+    for (line, ending) in rows {
+        let words = words_of(alloc, line)?;
         let mut source = CalmSource::new(List::from_slice(alloc, DOUBLED)?);
         let mut sink = CalmSink::new(alloc);
         let ends = run(alloc, words.as_slice(), &mut source, &mut sink);
-        assert_eq!(rt; ends, Ending::NotALine);
+        assert_eq!(rt; ends, ending);
         assert_eq!(rt; sink.bytes().len(), 0);
+    }
+    Ok(())
+}
+
+#[test]
+fn takes_options(rt: HostRuntime) -> Result<(), Fail> {
+    let alloc = rt.alloc();
+    let none: &[u8] = b"//@ none\n";
+    // Holes of 5 bits and of 6; `int` of 16 bits and of 6, where 31 + 1 is -32; inputs of 5 bits and of 1.
+    let forty: &[u8] = b"harness void f(int x) { assert x + ?? == x + 40; }";
+    let wraps: &[u8] = b"harness void f() { int a = 31 + 1; assert a + a == ??; }";
+    let square: &[u8] = b"harness void f(int x) { assert x * x == x; }";
+    // Inputs of 16 bits in all.
+    let pair: &[u8] = b"harness void f(int a, int b) { assert a == b; }";
+    let rows: [(&[&str], &[u8], Ending, &[u8]); 9] = [
+        (&["synth"], forty, Ending::NoCompletion, none),
+        (
+            &["synth", "--bnd-cbits", "6"],
+            forty,
+            Ending::Completed,
+            b"harness void f(int x) {\n    assert x + 40 == x + 40;\n}\n//@ completion\n//@ value 0\n//@ holes 40\n",
+        ),
+        (&["synth"], wraps, Ending::NoCompletion, none),
+        (
+            &["synth", "--int-bits=6"],
+            wraps,
+            Ending::Completed,
+            b"harness void f() {\n    int a = 31 + 1;\n    assert a + a == 0;\n}\n//@ completion\n//@ value 0\n//@ holes 0\n",
+        ),
+        (
+            &["synth", "--int-bits", "6", "--bnd-cbits", "16"],
+            wraps,
+            Ending::Completed,
+            b"harness void f() {\n    int a = 31 + 1;\n    assert a + a == 0;\n}\n//@ completion\n//@ value 0\n//@ holes 0\n",
+        ),
+        (&["synth"], square, Ending::NoCompletion, none),
+        (
+            &[
+                "synth",
+                "--rounds",
+                "1",
+                "--bnd-inbits",
+                "1",
+                "--conflicts=1",
+            ],
+            square,
+            Ending::Completed,
+            b"harness void f(int x) {\n    assert x * x == x;\n}\n//@ completion\n//@ value 0\n//@ holes\n",
+        ),
+        (&["synth", "--bnd-inbits=16"], square, Ending::NoCompletion, none),
+        (&["synth", "--bnd-inbits=8"], pair, Ending::NotBuilt, b""),
+    ];
+    for (line, text, ending, wanted) in rows {
+        let words = words_of(alloc, line)?;
+        let mut source = CalmSource::new(List::from_slice(alloc, text)?);
+        let mut sink = CalmSink::new(alloc);
+        let ends = run(alloc, words.as_slice(), &mut source, &mut sink);
+        assert_eq!(rt; ends, ending);
+        assert_eq!(rt; sink.bytes(), wanted);
+    }
+    Ok(())
+}
+
+#[test]
+fn shows_the_help_and_the_version(rt: HostRuntime) -> Result<(), Fail> {
+    let alloc = rt.alloc();
+    let rows: [(&str, Ending, &[u8]); 2] = [
+        ("--help", Ending::HelpShown, b"Completes sketches"),
+        ("--version", Ending::VersionShown, b"sketch 0.1.0\n"),
+    ];
+    for (word, ending, begin) in rows {
+        let words = words_of(alloc, &[word])?;
+        let mut source = CalmSource::new(List::from_slice(alloc, DOUBLED)?);
+        let mut sink = CalmSink::new(alloc);
+        let ends = run(alloc, words.as_slice(), &mut source, &mut sink);
+        assert_eq!(rt; ends, ending);
+        assert!(rt; sink.bytes().starts_with(begin));
     }
     Ok(())
 }
@@ -185,9 +275,11 @@ fn reads_and_writes_in_steps(rt: HostRuntime) -> Result<(), Fail> {
 fn names_each_ending(rt: HostRuntime) -> Result<(), Fail> {
     let lexed = Ending::NotText(TextFault::Lex(LexFault::OpenString { at: 15 }));
     let parsed = Ending::NotText(TextFault::Parse(ParseFault::NoReading { at: 1_048_576 }));
-    let rows: [(Ending, u8, &[u8]); 10] = [
+    let rows: [(Ending, u8, &[u8]); 12] = [
         (Ending::Completed, 0, b""),
         (Ending::NoCompletion, 1, b""),
+        (Ending::HelpShown, 0, b""),
+        (Ending::VersionShown, 0, b""),
         (Ending::NotALine, 10, b"usage"),
         (lexed, 11, b"text OpenString 15"),
         (parsed, 11, b"text NoReading 1048576"),

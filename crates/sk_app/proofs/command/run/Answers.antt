@@ -1,62 +1,74 @@
-use Rattle.sk_app.proofs.EndingLemmas.{found_of, told_is, built_not_text, built_not_built, unbuilt_not_text, unbuilt_nothing, unbuilt_completion, faulty_not_text, faulty_not_built, faulty_nothing, faulty_completion}
+use Rattle.sk_app.proofs.EffectLaws as laws
 use Rattle.sk_app.proofs.command.run.Goals as goal
 
-pub returns-in-Ok-Found-NotText-clause-not_text :
-    goal.returns-in-Ok-Found-NotText-clause-not_text
-returns-in-Ok-Found-NotText-clause-not_text g c =
-    let m = c.in-Ok-Found-NotText in
-    λ fault e. told_is (g.S.Source.left c.args.source.now) m.fault fault (found_of m.field-0 m.field-0-0 _ (g.S.Source.left c.args.source.now) _ _ m.field-0-is m.field-0-0-is m.ensures.cause) e
+pub returns-clause-not_a_line : goal.returns-clause-not_a_line
+returns-clause-not_a_line g c = laws.not_a_line c.answer-ending.ensures
 
-pub returns-in-Ok-Found-NotText-clause-ends_built :
-    goal.returns-in-Ok-Found-NotText-clause-ends_built
-returns-in-Ok-Found-NotText-clause-ends_built g c =
-    let m = c.in-Ok-Found-NotText in
-    λ synth. built_not_text (g.S.Source.left c.args.source.now) m.fault _ (found_of m.field-0 m.field-0-0 _ (g.S.Source.left c.args.source.now) _ _ m.field-0-is m.field-0-0-is m.ensures.cause)
+pub returns-clause-completed : goal.returns-clause-completed
+returns-clause-completed g c = laws.completed c.answer-ending.ensures
 
-pub returns-in-Ok-Found-NotText-clause-ends_faulty :
-    goal.returns-in-Ok-Found-NotText-clause-ends_faulty
-returns-in-Ok-Found-NotText-clause-ends_faulty g c =
-    let m = c.in-Ok-Found-NotText in
-    λ synth. faulty_not_text (g.S.Source.left c.args.source.now) m.fault (found_of m.field-0 m.field-0-0 _ (g.S.Source.left c.args.source.now) _ _ m.field-0-is m.field-0-0-is m.ensures.cause)
+pub returns-clause-none : goal.returns-clause-none
+returns-clause-none g c = laws.none c.answer-ending.ensures
 
-pub returns-in-Ok-Found-NotText-clause-ends_unbuilt :
-    goal.returns-in-Ok-Found-NotText-clause-ends_unbuilt
-returns-in-Ok-Found-NotText-clause-ends_unbuilt g c =
-    let m = c.in-Ok-Found-NotText in
-    λ synth. unbuilt_not_text (g.S.Source.left c.args.source.now) m.fault _ (found_of m.field-0 m.field-0-0 _ (g.S.Source.left c.args.source.now) _ _ m.field-0-is m.field-0-0-is m.ensures.cause)
+pub returns-clause-help : goal.returns-clause-help
+returns-clause-help g c = laws.help c.answer-ending.ensures
 
-pub returns-in-Ok-Found-NotBuilt-clause-ends_built :
-    goal.returns-in-Ok-Found-NotBuilt-clause-ends_built
-returns-in-Ok-Found-NotBuilt-clause-ends_built g c =
-    let m = c.in-Ok-Found-NotBuilt in
-    λ synth. built_not_built (g.S.Source.left c.args.source.now) _ (found_of m.field-0 m.field-0-0 _ (g.S.Source.left c.args.source.now) _ _ m.field-0-is m.field-0-0-is m.ensures.cause)
+pub returns-clause-version : goal.returns-clause-version
+returns-clause-version g c = laws.version c.answer-ending.ensures
 
-pub returns-in-Ok-Found-NotBuilt-clause-ends_faulty :
-    goal.returns-in-Ok-Found-NotBuilt-clause-ends_faulty
-returns-in-Ok-Found-NotBuilt-clause-ends_faulty g c =
-    let m = c.in-Ok-Found-NotBuilt in
-    λ synth. faulty_not_built (g.S.Source.left c.args.source.now) _ (found_of m.field-0 m.field-0-0 _ (g.S.Source.left c.args.source.now) _ _ m.field-0-is m.field-0-0-is m.ensures.cause)
+pub returns-clause-not_text : goal.returns-clause-not_text
+returns-clause-not_text g c = laws.not_text c.answer-ending.ensures
 
-pub returns-in-Ok-Found-Nothing-clause-ends_faulty :
-    goal.returns-in-Ok-Found-Nothing-clause-ends_faulty
-returns-in-Ok-Found-Nothing-clause-ends_faulty g c =
-    let m = c.in-Ok-Found-Nothing in
-    λ synth. faulty_nothing (g.S.Source.left c.args.source.now) m.out _ (found_of m.field-0 m.field-0-0 _ (g.S.Source.left c.args.source.now) _ _ m.field-0-is m.field-0-0-is m.ensures.cause)
+pub returns-clause-not_built : goal.returns-clause-not_built
+returns-clause-not_built g c = laws.not_built c.answer-ending.ensures
 
-pub returns-in-Ok-Found-Nothing-clause-ends_unbuilt :
-    goal.returns-in-Ok-Found-Nothing-clause-ends_unbuilt
-returns-in-Ok-Found-Nothing-clause-ends_unbuilt g c =
-    let m = c.in-Ok-Found-Nothing in
-    λ synth. unbuilt_nothing (g.S.Source.left c.args.source.now) m.out _ (found_of m.field-0 m.field-0-0 _ (g.S.Source.left c.args.source.now) _ _ m.field-0-is m.field-0-0-is m.ensures.cause)
+pub returns-clause-too_long : goal.returns-clause-too_long
+returns-clause-too_long g c = laws.too_long c.answer-ending.ensures
 
-pub returns-in-Ok-Found-Completion-clause-ends_faulty :
-    goal.returns-in-Ok-Found-Completion-clause-ends_faulty
-returns-in-Ok-Found-Completion-clause-ends_faulty g c =
-    let m = c.in-Ok-Found-Completion in
-    λ synth. faulty_completion (g.S.Source.left c.args.source.now) m.out _ (found_of m.field-0 m.field-0-0 _ (g.S.Source.left c.args.source.now) _ _ m.field-0-is m.field-0-0-is m.ensures.cause)
+pub returns-clause-read_fault : goal.returns-clause-read_fault
+returns-clause-read_fault g c = laws.read_fault c.answer-ending.ensures
 
-pub returns-in-Ok-Found-Completion-clause-ends_unbuilt :
-    goal.returns-in-Ok-Found-Completion-clause-ends_unbuilt
-returns-in-Ok-Found-Completion-clause-ends_unbuilt g c =
-    let m = c.in-Ok-Found-Completion in
-    λ synth. unbuilt_completion (g.S.Source.left c.args.source.now) m.out _ (found_of m.field-0 m.field-0-0 _ (g.S.Source.left c.args.source.now) _ _ m.field-0-is m.field-0-0-is m.ensures.cause)
+pub returns-clause-write_fault : goal.returns-clause-write_fault
+returns-clause-write_fault g c = laws.write_fault c.answer-ending.ensures
+
+pub returns-clause-prefix : goal.returns-clause-prefix
+returns-clause-prefix g c = laws.prefix c.answer-ending.ensures
+
+pub returns-clause-prefix_help : goal.returns-clause-prefix_help
+returns-clause-prefix_help g c = laws.prefix_help c.answer-ending.ensures
+
+pub returns-clause-prefix_version : goal.returns-clause-prefix_version
+returns-clause-prefix_version g c = laws.prefix_version c.answer-ending.ensures
+
+pub returns-clause-kept : goal.returns-clause-kept
+returns-clause-kept g c = laws.kept c.answer-ending.ensures
+
+pub returns-clause-few : goal.returns-clause-few
+returns-clause-few g c = laws.few c.answer-ending.ensures
+
+pub returns-clause-unread : goal.returns-clause-unread
+returns-clause-unread g c = laws.unread c.answer-ending.ensures
+
+pub returns-clause-ends_no_line : goal.returns-clause-ends_no_line
+returns-clause-ends_no_line g c = laws.ends_no_line c.answer-ending.ensures
+
+pub returns-clause-ends_unbuilt_line : goal.returns-clause-ends_unbuilt_line
+returns-clause-ends_unbuilt_line g c = laws.ends_unbuilt_line c.answer-ending.ensures
+
+pub returns-clause-ends_help : goal.returns-clause-ends_help
+returns-clause-ends_help g c = laws.ends_help c.answer-ending.ensures
+
+pub returns-clause-ends_version : goal.returns-clause-ends_version
+returns-clause-ends_version g c = laws.ends_version c.answer-ending.ensures
+
+pub returns-clause-ends_built : goal.returns-clause-ends_built
+returns-clause-ends_built g c = laws.ends_built c.answer-ending.ensures
+
+pub returns-clause-ends_faulty : goal.returns-clause-ends_faulty
+returns-clause-ends_faulty g c = laws.ends_faulty c.answer-ending.ensures
+
+pub returns-clause-ends_unbuilt : goal.returns-clause-ends_unbuilt
+returns-clause-ends_unbuilt g c = laws.ends_unbuilt c.answer-ending.ensures
+
+pub returns-clause-ends_long : goal.returns-clause-ends_long
+returns-clause-ends_long g c = laws.ends_long c.answer-ending.ensures

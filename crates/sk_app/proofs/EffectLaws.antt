@@ -1,0 +1,357 @@
+-- What the clauses of `run` say, from what a call does for the words and the line that they spell.
+use Rattle.std.proofs.Common.{◌≡◌, ℕ, ◌≤◌, ◌<◌, ◌⊎◌, inl, inr, Bool, true, false, List, [], Option, Some, None, length, refl, sym, ap, subst, ◌∙◌, arith}
+use Rattle.std.specs.Prelude.{IsTrue, IfSome}
+use Rattle.std.proofs.lemmas.Bool.{false≢true}
+use Rattle.sk_base.specs.Stream.{Rose}
+use Rattle.sk_base.specs.declared.bounds.Bounds.{Bounds}
+use Rattle.sk_base.specs.declared.bounds.Budget.{Budget}
+use Rattle.sk_model.specs.declared.expanded.Expanded.{Expanded}
+use Rattle.sk_opts.specs.declared.line.Set.{Set}
+use Rattle.sk_opts.specs.declared.line.Line.{Line}
+use Rattle.sk_opts.specs.declared.line.Line.TheVariants as line
+use Rattle.sk_opts.specs.CommandLine.{IsLine}
+use Rattle.sk_opts.proofs.LineLaws.{lines_are_one}
+use Rattle.sk_app.specs.declared.ending.Ending.{Ending}
+use Rattle.sk_app.specs.declared.ending.Ending.TheVariants as ending
+use Rattle.sk_app.specs.declared.ending.TextFault.{TextFault}
+use Rattle.sk_app.specs.TextFaults.{IsTextFault}
+use Rattle.sk_app.specs.Streams.{Appends, AppendsPrefix, TakesFew, most_bytes}
+use Rattle.sk_app.specs.Built.{IsBuilt}
+use Rattle.sk_app.specs.ResultText.{IsCompletion, IsNone}
+use Rattle.sk_app.specs.Prepared.{IsNotBuilt}
+use Rattle.sk_app.specs.Help.{help_text, version_text}
+use Rattle.sk_app.specs.Lines.{IsNoLine, IsSynth, ForSynth, is_unbuilt, IsUnbuiltLine}
+use Rattle.sk_app.specs.Ends.{delivered, cut, no_room, Writes, WritesPart, writes_nothing, EndsBuilt, EndsFaulty, EndsLong, EndsUnbuilt, EndsNoLine, EndsUnbuiltLine, EndsHelp, EndsVersion}
+use Rattle.sk_app.specs.Effects.{Effect, ReadsNothing, DoesNothing, IsRefused, IsShown, is_of_synth, IsResult, Synthesises, Serves, Answers, no_line, served, no_memory, IsOutput}
+use Rattle.sk_app.specs.Effects as output
+use Rattle.sk_app.proofs.StreamLemmas.{front-nil}
+
+every : (left : Option (List ℕ)) (P : List ℕ → Type 0) → ((text : List ℕ) → P text) → IfSome left P
+every None P h = tt
+every (Some text) P h = h text
+
+mapped : (left : Option (List ℕ)) (P Q : List ℕ → Type 0) → ((text : List ℕ) → P text → Q text) → IfSome left P → IfSome left Q
+mapped None P Q h k = tt
+mapped (Some text) P Q h k = h text k
+
+nothing_taken : (old new : Option (List ℕ)) → new ≡ old → TakesFew old new
+nothing_taken old new e = record { taken = []; few = omega arith; split = sym e ∙ front-nil new }
+
+-- whether this is the ending of a line `synth` alone
+abbrev is_synth_alone : Ending → Bool
+is_synth_alone ending.Completed = true
+is_synth_alone ending.NoCompletion = true
+is_synth_alone (ending.NotText fault) = true
+is_synth_alone ending.ReadFault = true
+is_synth_alone ending.TooLong = true
+is_synth_alone _ = false
+
+module _ (words : List (List ℕ)) (r : Ending) (f : Effect) where
+  -- What a call does, by the kind of its line
+
+  data Kind : Type 0 where
+    of_none : IsNoLine words → IsRefused ending.NotALine r f → Kind
+    of_unbuilt : IsUnbuiltLine words → IsRefused ending.NotBuilt r f → Kind
+    of_synth : (set : Set) → IsSynth words set → Synthesises set r f → Kind
+    of_help : IsLine words line.Help → IsShown help_text ending.HelpShown r f → Kind
+    of_version : IsLine words line.Version → IsShown version_text ending.VersionShown r f → Kind
+    of_memory : IsRefused ending.Memory r f → Kind
+
+  line_kind : (l : Line) → IsLine words l → Serves l r f → Kind
+  line_kind (line.Synth set budget true) h s = of_unbuilt (record { line = line.Synth set budget true; is = h; unbuilt = refl }) s
+  line_kind (line.Synth set budget false) h s = of_synth set (record { budget = budget; is = h }) s
+  line_kind (line.Exec set name values) h s = of_unbuilt (record { line = line.Exec set name values; is = h; unbuilt = refl }) s
+  line_kind (line.Check set) h s = of_unbuilt (record { line = line.Check set; is = h; unbuilt = refl }) s
+  line_kind (line.Itself n) h s = of_unbuilt (record { line = line.Itself n; is = h; unbuilt = refl }) s
+  line_kind line.Help h s = of_help h s
+  line_kind line.Version h s = of_version h s
+
+  kind : Answers words r f → Kind
+  kind (no_line n s) = of_none n s
+  kind (served l h s) = line_kind l h s
+  kind (no_memory s) = of_memory s
+
+  -- Which endings the kinds have
+
+  shown_not : (text : List ℕ) (shown : Ending) → IsShown text shown r f → (x : Ending) → (shown ≡ x → ⊥) → (ending.WriteFault ≡ x → ⊥) → (ending.Memory ≡ x → ⊥) → r ≡ x → ⊥
+  shown_not text shown s x a b c e = elim s.written [ delivered is w ↦ a (sym is ∙ e) | cut is w ↦ b (sym is ∙ e) | no_room is same ↦ c (sym is ∙ e) ]
+
+  alone_not : (y x : Ending) → is_synth_alone x ≡ true → is_synth_alone y ≡ false → y ≡ x → ⊥
+  alone_not y x a b e = false≢true (sym b ∙ ap is_synth_alone e ∙ a)
+
+  -- the endings of a line `synth` alone come for no other line
+  synth_of : (x : Ending) → is_synth_alone x ≡ true → Kind → r ≡ x → ForSynth words (λ set. Synthesises set r f)
+  synth_of x a (of_none n s) e = absurd (alone_not ending.NotALine x a refl (sym s.is ∙ e))
+  synth_of x a (of_unbuilt u s) e = absurd (alone_not ending.NotBuilt x a refl (sym s.is ∙ e))
+  synth_of x a (of_synth set h s) e = record { set = set; is = h; holds = s }
+  synth_of x a (of_help h s) e = absurd (shown_not help_text ending.HelpShown s x (alone_not ending.HelpShown x a refl) (alone_not ending.WriteFault x a refl) (alone_not ending.Memory x a refl) e)
+  synth_of x a (of_version h s) e = absurd (shown_not version_text ending.VersionShown s x (alone_not ending.VersionShown x a refl) (alone_not ending.WriteFault x a refl) (alone_not ending.Memory x a refl) e)
+  synth_of x a (of_memory s) e = absurd (alone_not ending.Memory x a refl (sym s.is ∙ e))
+
+  -- a line `synth` has none of the endings of other lines
+  synth_not : (set : Set) (x : Ending) → Synthesises set r f → is_of_synth x ≡ false → r ≡ x → ⊥
+  synth_not set x s b e = false≢true (sym b ∙ ap is_of_synth (sym e) ∙ s.ends)
+
+  -- Clauses that follow from the ending
+
+  not_a_line_of : Kind → r ≡ ending.NotALine → IsNoLine words
+  not_a_line_of (of_none n s) e = n
+  not_a_line_of (of_unbuilt u s) e = let q = sym s.is ∙ e in cc
+  not_a_line_of (of_synth set h s) e = absurd (synth_not set ending.NotALine s refl e)
+  not_a_line_of (of_help h s) e = absurd (shown_not help_text ending.HelpShown s ending.NotALine (λ q. cc) (λ q. cc) (λ q. cc) e)
+  not_a_line_of (of_version h s) e = absurd (shown_not version_text ending.VersionShown s ending.NotALine (λ q. cc) (λ q. cc) (λ q. cc) e)
+  not_a_line_of (of_memory s) e = let q = sym s.is ∙ e in cc
+
+  -- what was written of a text that is shown
+  shown_whole : (text : List ℕ) (shown : Ending) → IsShown text shown r f → (ending.WriteFault ≡ shown → ⊥) → (ending.Memory ≡ shown → ⊥) → r ≡ shown → Appends text f.held_old f.held_new
+  shown_whole text shown s a b e = elim s.written [ delivered is w ↦ w.appends | cut is w ↦ absurd (a (sym is ∙ e)) | no_room is same ↦ absurd (b (sym is ∙ e)) ]
+
+  shown_cut : (text : List ℕ) (shown : Ending) → IsShown text shown r f → (shown ≡ ending.WriteFault → ⊥) → (ending.Memory ≡ ending.WriteFault → ⊥) → r ≡ ending.WriteFault → AppendsPrefix text f.held_old f.held_new
+  shown_cut text shown s a b e = elim s.written [ delivered is w ↦ absurd (a (sym is ∙ e)) | cut is w ↦ w.appends | no_room is same ↦ absurd (b (sym is ∙ e)) ]
+
+  shown_rose : (text : List ℕ) (shown : Ending) → IsShown text shown r f → (shown ≡ ending.WriteFault → ⊥) → (ending.Memory ≡ ending.WriteFault → ⊥) → r ≡ ending.WriteFault → Rose f.write_faults_old f.write_faults_new
+  shown_rose text shown s a b e = elim s.written [ delivered is w ↦ absurd (a (sym is ∙ e)) | cut is w ↦ w.rose | no_room is same ↦ absurd (b (sym is ∙ e)) ]
+
+  -- where the ending is that of a text that is shown, or a write fault, something may have been written
+  shown_kept : (text : List ℕ) (shown : Ending) → IsShown text shown r f → writes_nothing shown ≡ false → IsTrue (writes_nothing r) → f.held_new ≡ f.held_old
+  shown_kept text shown s b k = elim s.written [
+    | delivered is w ↦ absurd (false≢true (sym b ∙ ap writes_nothing (sym is) ∙ k))
+    | cut is w ↦ absurd (false≢true (ap writes_nothing (sym is) ∙ k))
+    | no_room is same ↦ same
+  ]
+
+  help_of : Kind → r ≡ ending.HelpShown → IsLine words line.Help × Appends help_text f.held_old f.held_new
+  help_of (of_none n s) e = let q = sym s.is ∙ e in cc
+  help_of (of_unbuilt u s) e = let q = sym s.is ∙ e in cc
+  help_of (of_synth set h s) e = absurd (synth_not set ending.HelpShown s refl e)
+  help_of (of_help h s) e = (h, shown_whole help_text ending.HelpShown s (λ q. cc) (λ q. cc) e)
+  help_of (of_version h s) e = absurd (shown_not version_text ending.VersionShown s ending.HelpShown (λ q. cc) (λ q. cc) (λ q. cc) e)
+  help_of (of_memory s) e = let q = sym s.is ∙ e in cc
+
+  version_of : Kind → r ≡ ending.VersionShown → IsLine words line.Version × Appends version_text f.held_old f.held_new
+  version_of (of_none n s) e = let q = sym s.is ∙ e in cc
+  version_of (of_unbuilt u s) e = let q = sym s.is ∙ e in cc
+  version_of (of_synth set h s) e = absurd (synth_not set ending.VersionShown s refl e)
+  version_of (of_help h s) e = absurd (shown_not help_text ending.HelpShown s ending.VersionShown (λ q. cc) (λ q. cc) (λ q. cc) e)
+  version_of (of_version h s) e = (h, shown_whole version_text ending.VersionShown s (λ q. cc) (λ q. cc) e)
+  version_of (of_memory s) e = let q = sym s.is ∙ e in cc
+
+  not_built_of : Kind → r ≡ ending.NotBuilt → IsUnbuiltLine words ⊎ ForSynth words (λ set. IfSome f.left_old (IsNotBuilt set))
+  not_built_of (of_none n s) e = let q = sym s.is ∙ e in cc
+  not_built_of (of_unbuilt u s) e = inl u
+  not_built_of (of_synth set h s) e = inr (record { set = set; is = h; holds = s.not_built e })
+  not_built_of (of_help h s) e = absurd (shown_not help_text ending.HelpShown s ending.NotBuilt (λ q. cc) (λ q. cc) (λ q. cc) e)
+  not_built_of (of_version h s) e = absurd (shown_not version_text ending.VersionShown s ending.NotBuilt (λ q. cc) (λ q. cc) (λ q. cc) e)
+  not_built_of (of_memory s) e = let q = sym s.is ∙ e in cc
+
+  write_fault_of : Kind → r ≡ ending.WriteFault → Rose f.write_faults_old f.write_faults_new
+  write_fault_of (of_none n s) e = let q = sym s.is ∙ e in cc
+  write_fault_of (of_unbuilt u s) e = let q = sym s.is ∙ e in cc
+  write_fault_of (of_synth set h s) e = s.write_fault e
+  write_fault_of (of_help h s) e = shown_rose help_text ending.HelpShown s (λ q. cc) (λ q. cc) e
+  write_fault_of (of_version h s) e = shown_rose version_text ending.VersionShown s (λ q. cc) (λ q. cc) e
+  write_fault_of (of_memory s) e = let q = sym s.is ∙ e in cc
+
+  abbrev Cut : List ℕ → Type 0
+  Cut text = WritesPart (IsOutput words text) f.held_old f.held_new
+
+  prefix_of : Kind → r ≡ ending.WriteFault → IfSome f.left_old Cut
+  prefix_of (of_none n s) e = let q = sym s.is ∙ e in cc
+  prefix_of (of_unbuilt u s) e = let q = sym s.is ∙ e in cc
+  prefix_of (of_synth set h s) e = mapped f.left_old (λ text. WritesPart (IsResult set text) f.held_old f.held_new) Cut (λ text w. record { out = w.out; is = output.result (record { set = set; is = h; holds = w.is }); appends = w.appends }) (s.prefix e)
+  prefix_of (of_help h s) e = every f.left_old Cut (λ text. record { out = help_text; is = output.help h refl; appends = shown_cut help_text ending.HelpShown s (λ q. cc) (λ q. cc) e })
+  prefix_of (of_version h s) e = every f.left_old Cut (λ text. record { out = version_text; is = output.version h refl; appends = shown_cut version_text ending.VersionShown s (λ q. cc) (λ q. cc) e })
+  prefix_of (of_memory s) e = let q = sym s.is ∙ e in cc
+
+  kept_of : Kind → IsTrue (writes_nothing r) → f.held_new ≡ f.held_old
+  kept_of (of_none n s) k = s.nothing.unwritten
+  kept_of (of_unbuilt u s) k = s.nothing.unwritten
+  kept_of (of_synth set h s) k = s.kept k
+  kept_of (of_help h s) k = shown_kept help_text ending.HelpShown s refl k
+  kept_of (of_version h s) k = shown_kept version_text ending.VersionShown s refl k
+  kept_of (of_memory s) k = s.nothing.unwritten
+
+  few_of : Kind → TakesFew f.left_old f.left_new
+  few_of (of_none n s) = nothing_taken f.left_old f.left_new s.nothing.unread.left
+  few_of (of_unbuilt u s) = nothing_taken f.left_old f.left_new s.nothing.unread.left
+  few_of (of_synth set h s) = s.few
+  few_of (of_help h s) = nothing_taken f.left_old f.left_new s.unread.left
+  few_of (of_version h s) = nothing_taken f.left_old f.left_new s.unread.left
+  few_of (of_memory s) = nothing_taken f.left_old f.left_new s.nothing.unread.left
+
+  unread_of : Kind → ((set : Set) → IsSynth words set → ⊥) → f.left_new ≡ f.left_old
+  unread_of (of_none n s) spells = s.nothing.unread.left
+  unread_of (of_unbuilt u s) spells = s.nothing.unread.left
+  unread_of (of_synth set h s) spells = absurd (spells set h)
+  unread_of (of_help h s) spells = s.unread.left
+  unread_of (of_version h s) spells = s.unread.left
+  unread_of (of_memory s) spells = s.nothing.unread.left
+
+  -- Clauses that follow from the line
+
+  one : (l m : Line) → IsLine words l → IsLine words m → l ≡ m
+  one l m = lines_are_one words l m
+
+  not_unbuilt : {A : Type 0} (l : Line) → is_unbuilt l ≡ false → IsLine words l → IsUnbuiltLine words → A
+  not_unbuilt l b h u = absurd (false≢true (sym b ∙ ap is_unbuilt (one l u.line h u.is) ∙ u.unbuilt))
+
+  unbuilt_not : {A : Type 0} (l : Line) → is_unbuilt l ≡ false → IsUnbuiltLine words → IsLine words l → A
+  unbuilt_not l b u h = not_unbuilt l b h u
+
+  ends_no_line_of : Kind → IsNoLine words → EndsNoLine r
+  ends_no_line_of (of_none n s) spells = subst EndsNoLine (sym s.is) tt
+  ends_no_line_of (of_unbuilt u s) spells = absurd (spells u.line u.is)
+  ends_no_line_of (of_synth set h s) spells = absurd (spells (line.Synth set h.budget false) h.is)
+  ends_no_line_of (of_help h s) spells = absurd (spells line.Help h)
+  ends_no_line_of (of_version h s) spells = absurd (spells line.Version h)
+  ends_no_line_of (of_memory s) spells = subst EndsNoLine (sym s.is) tt
+
+  ends_unbuilt_line_of : Kind → IsUnbuiltLine words → EndsUnbuiltLine r
+  ends_unbuilt_line_of (of_none n s) u = absurd (n u.line u.is)
+  ends_unbuilt_line_of (of_unbuilt v s) u = subst EndsUnbuiltLine (sym s.is) tt
+  ends_unbuilt_line_of (of_synth set h s) u = unbuilt_not (line.Synth set h.budget false) refl u h.is
+  ends_unbuilt_line_of (of_help h s) u = unbuilt_not line.Help refl u h
+  ends_unbuilt_line_of (of_version h s) u = unbuilt_not line.Version refl u h
+  ends_unbuilt_line_of (of_memory s) u = subst EndsUnbuiltLine (sym s.is) tt
+
+  -- the endings of a text that is shown
+  shown_ends : (text : List ℕ) (shown : Ending) (P : Ending → Type 0) → IsShown text shown r f → P shown → (Rose f.write_faults_old f.write_faults_new → P ending.WriteFault) → P ending.Memory → P r
+  shown_ends text shown P s a b c = elim s.written [ delivered is w ↦ subst P (sym is) a | cut is w ↦ subst P (sym is) (b w.rose) | no_room is same ↦ subst P (sym is) c ]
+
+  ends_help_of : Kind → IsLine words line.Help → EndsHelp r f.write_faults_old f.write_faults_new
+  ends_help_of (of_none n s) h = absurd (n line.Help h)
+  ends_help_of (of_unbuilt u s) h = not_unbuilt line.Help refl h u
+  ends_help_of (of_synth set g s) h = let q = one (line.Synth set g.budget false) line.Help g.is h in cc
+  ends_help_of (of_help g s) h = shown_ends help_text ending.HelpShown (λ x. EndsHelp x f.write_faults_old f.write_faults_new) s tt (λ w. w) tt
+  ends_help_of (of_version g s) h = let q = one line.Version line.Help g h in cc
+  ends_help_of (of_memory s) h = subst (λ x. EndsHelp x f.write_faults_old f.write_faults_new) (sym s.is) tt
+
+  ends_version_of : Kind → IsLine words line.Version → EndsVersion r f.write_faults_old f.write_faults_new
+  ends_version_of (of_none n s) h = absurd (n line.Version h)
+  ends_version_of (of_unbuilt u s) h = not_unbuilt line.Version refl h u
+  ends_version_of (of_synth set g s) h = let q = one (line.Synth set g.budget false) line.Version g.is h in cc
+  ends_version_of (of_help g s) h = let q = one line.Help line.Version g h in cc
+  ends_version_of (of_version g s) h = shown_ends version_text ending.VersionShown (λ x. EndsVersion x f.write_faults_old f.write_faults_new) s tt (λ w. w) tt
+  ends_version_of (of_memory s) h = subst (λ x. EndsVersion x f.write_faults_old f.write_faults_new) (sym s.is) tt
+
+  prefix_help_of : Kind → IsLine words line.Help → r ≡ ending.WriteFault → AppendsPrefix help_text f.held_old f.held_new
+  prefix_help_of (of_none n s) h e = absurd (n line.Help h)
+  prefix_help_of (of_unbuilt u s) h e = not_unbuilt line.Help refl h u
+  prefix_help_of (of_synth set g s) h e = let q = one (line.Synth set g.budget false) line.Help g.is h in cc
+  prefix_help_of (of_help g s) h e = shown_cut help_text ending.HelpShown s (λ q. cc) (λ q. cc) e
+  prefix_help_of (of_version g s) h e = let q = one line.Version line.Help g h in cc
+  prefix_help_of (of_memory s) h e = let q = sym s.is ∙ e in cc
+
+  prefix_version_of : Kind → IsLine words line.Version → r ≡ ending.WriteFault → AppendsPrefix version_text f.held_old f.held_new
+  prefix_version_of (of_none n s) h e = absurd (n line.Version h)
+  prefix_version_of (of_unbuilt u s) h e = not_unbuilt line.Version refl h u
+  prefix_version_of (of_synth set g s) h e = let q = one (line.Synth set g.budget false) line.Version g.is h in cc
+  prefix_version_of (of_help g s) h e = let q = one line.Help line.Version g h in cc
+  prefix_version_of (of_version g s) h e = shown_cut version_text ending.VersionShown s (λ q. cc) (λ q. cc) e
+  prefix_version_of (of_memory s) h e = let q = sym s.is ∙ e in cc
+
+  -- what follows for a line `synth` from its own call, or from want of memory
+  for_synth : (P : Set → Type 0) → ((set : Set) → Synthesises set r f → P set) → ((set : Set) → r ≡ ending.Memory → P set) → Kind → (set : Set) → IsSynth words set → P set
+  for_synth P a m (of_none n s) set h = absurd (n (line.Synth set h.budget false) h.is)
+  for_synth P a m (of_unbuilt u s) set h = not_unbuilt (line.Synth set h.budget false) refl h.is u
+  for_synth P a m (of_synth t g s) set h =
+      let q = one (line.Synth t g.budget false) (line.Synth set h.budget false) g.is h.is in
+      let same : t ≡ set = cc in
+      subst P same (a t s)
+  for_synth P a m (of_help g s) set h = let q = one line.Help (line.Synth set h.budget false) g h.is in cc
+  for_synth P a m (of_version g s) set h = let q = one line.Version (line.Synth set h.budget false) g h.is in cc
+  for_synth P a m (of_memory s) set h = m set s.is
+
+-- The clauses of `run`
+
+module _ {words : List (List ℕ)} {r : Ending} {f : Effect} (a : Answers words r f) where
+  abbrev the : Kind words r f
+  the = kind words r f a
+
+  pub not_a_line : r ≡ ending.NotALine → IsNoLine words
+  not_a_line = not_a_line_of words r f the
+
+  pub completed : r ≡ ending.Completed → ForSynth words (λ set. IfSome f.left_old (λ text. Writes (IsCompletion set text) f.held_old f.held_new))
+  completed e = let s = synth_of words r f ending.Completed refl the e in record { set = s.set; is = s.is; holds = (s.holds).completed e }
+
+  pub none : r ≡ ending.NoCompletion → ForSynth words (λ set. IfSome f.left_old (λ text. Writes (IsNone set text) f.held_old f.held_new))
+  none e = let s = synth_of words r f ending.NoCompletion refl the e in record { set = s.set; is = s.is; holds = (s.holds).none e }
+
+  pub help : r ≡ ending.HelpShown → IsLine words line.Help × Appends help_text f.held_old f.held_new
+  help = help_of words r f the
+
+  pub version : r ≡ ending.VersionShown → IsLine words line.Version × Appends version_text f.held_old f.held_new
+  version = version_of words r f the
+
+  pub not_text : (fault : TextFault) → r ≡ ending.NotText fault → IfSome f.left_old (IsTextFault fault)
+  not_text fault e = let s = synth_of words r f (ending.NotText fault) refl the e in (s.holds).not_text fault e
+
+  pub not_built : r ≡ ending.NotBuilt → IsUnbuiltLine words ⊎ ForSynth words (λ set. IfSome f.left_old (IsNotBuilt set))
+  not_built = not_built_of words r f the
+
+  pub too_long : r ≡ ending.TooLong → IfSome f.left_old (λ text. most_bytes < length text)
+  too_long e = let s = synth_of words r f ending.TooLong refl the e in (s.holds).too_long e
+
+  pub read_fault : r ≡ ending.ReadFault → Rose f.read_faults_old f.read_faults_new
+  read_fault e = let s = synth_of words r f ending.ReadFault refl the e in (s.holds).read_fault e
+
+  pub write_fault : r ≡ ending.WriteFault → Rose f.write_faults_old f.write_faults_new
+  write_fault = write_fault_of words r f the
+
+  pub prefix : r ≡ ending.WriteFault → IfSome f.left_old (λ text. WritesPart (IsOutput words text) f.held_old f.held_new)
+  prefix = prefix_of words r f the
+
+  pub prefix_help : IsLine words line.Help → r ≡ ending.WriteFault → AppendsPrefix help_text f.held_old f.held_new
+  prefix_help = prefix_help_of words r f the
+
+  pub prefix_version : IsLine words line.Version → r ≡ ending.WriteFault → AppendsPrefix version_text f.held_old f.held_new
+  prefix_version = prefix_version_of words r f the
+
+  pub kept : IsTrue (writes_nothing r) → f.held_new ≡ f.held_old
+  kept = kept_of words r f the
+
+  pub few : TakesFew f.left_old f.left_new
+  few = few_of words r f the
+
+  pub unread : ((set : Set) → IsSynth words set → ⊥) → f.left_new ≡ f.left_old
+  unread = unread_of words r f the
+
+  pub ends_no_line : IsNoLine words → EndsNoLine r
+  ends_no_line = ends_no_line_of words r f the
+
+  pub ends_unbuilt_line : IsUnbuiltLine words → EndsUnbuiltLine r
+  ends_unbuilt_line = ends_unbuilt_line_of words r f the
+
+  pub ends_help : IsLine words line.Help → EndsHelp r f.write_faults_old f.write_faults_new
+  ends_help = ends_help_of words r f the
+
+  pub ends_version : IsLine words line.Version → EndsVersion r f.write_faults_old f.write_faults_new
+  ends_version = ends_version_of words r f the
+
+  abbrev Built : Set → List ℕ → Type 0
+  Built set text = (bounds : Bounds) (e : Expanded) → IsBuilt set text bounds e → EndsBuilt r f.read_faults_old f.read_faults_new f.write_faults_old f.write_faults_new
+
+  pub ends_built : (set : Set) → IsSynth words set → IfSome f.left_old (λ text. (bounds : Bounds) (e : Expanded) → IsBuilt set text bounds e → EndsBuilt r f.read_faults_old f.read_faults_new f.write_faults_old f.write_faults_new)
+  ends_built = for_synth words r f (λ set. IfSome f.left_old (Built set)) (λ set s. s.ends_built) (λ set m. every f.left_old (Built set) (λ text b e is. subst (λ x. EndsBuilt x f.read_faults_old f.read_faults_new f.write_faults_old f.write_faults_new) (sym m) tt)) the
+
+  abbrev Faulty : List ℕ → Type 0
+  Faulty text = length text ≤ most_bytes → (fault : TextFault) → IsTextFault fault text → EndsFaulty fault r f.read_faults_old f.read_faults_new
+
+  pub ends_faulty : (set : Set) → IsSynth words set → IfSome f.left_old (λ text. length text ≤ most_bytes → (fault : TextFault) → IsTextFault fault text → EndsFaulty fault r f.read_faults_old f.read_faults_new)
+  ends_faulty = for_synth words r f (λ set. IfSome f.left_old Faulty) (λ set s. s.ends_faulty) (λ set m. every f.left_old Faulty (λ text short fault is. subst (λ x. EndsFaulty fault x f.read_faults_old f.read_faults_new) (sym m) tt)) the
+
+  abbrev Unbuilt : Set → List ℕ → Type 0
+  Unbuilt set text = length text ≤ most_bytes → IsNotBuilt set text → EndsUnbuilt r f.read_faults_old f.read_faults_new
+
+  pub ends_unbuilt : (set : Set) → IsSynth words set → IfSome f.left_old (λ text. length text ≤ most_bytes → IsNotBuilt set text → EndsUnbuilt r f.read_faults_old f.read_faults_new)
+  ends_unbuilt = for_synth words r f (λ set. IfSome f.left_old (Unbuilt set)) (λ set s. s.ends_unbuilt) (λ set m. every f.left_old (Unbuilt set) (λ text short is. subst (λ x. EndsUnbuilt x f.read_faults_old f.read_faults_new) (sym m) tt)) the
+
+  abbrev Long : List ℕ → Type 0
+  Long text = most_bytes < length text → EndsLong r f.read_faults_old f.read_faults_new
+
+  pub ends_long : (set : Set) → IsSynth words set → IfSome f.left_old (λ text. most_bytes < length text → EndsLong r f.read_faults_old f.read_faults_new)
+  ends_long = for_synth words r f (λ set. IfSome f.left_old Long) (λ set s. s.ends_long) (λ set m. every f.left_old Long (λ text long. subst (λ x. EndsLong x f.read_faults_old f.read_faults_new) (sym m) tt)) the
+
+-- a call for a line `synth` without a certificate
+pub serves_synth : (l : Line) (set : Set) (budget : Budget) (r : Ending) (f : Effect) → l ≡ line.Synth set budget false → Synthesises set r f → Serves l r f
+serves_synth l set budget r f is s = subst (λ x. Serves x r f) (sym is) s

@@ -1,0 +1,27 @@
+use Rattle.std.proofs.Common.{◌≡◌, false}
+use Rattle.sk_opts.specs.declared.line.Line.TheVariants as line
+use Rattle.sk_app.proofs.EffectLaws.{serves_synth}
+use Rattle.sk_app.proofs.command.serve.Goals as goal
+
+pub returns-in-Synth-default-default-false : goal.returns-in-Synth-default-default-false
+returns-in-Synth-default-default-false g c =
+    let m = c.in-Synth-default-default-false in
+    let s = c.synth.ensures in
+    let is : c.args.line.now ≡ line.Synth m.set m.budget false = let a = m.is in let b = m.cert-is in cc in
+    serves_synth c.args.line.now m.set m.budget c.synth.result _ is (record {
+      ends = s.ends;
+      completed = s.completed;
+      none = s.none;
+      not_text = s.not_text;
+      not_built = s.not_built;
+      too_long = s.too_long;
+      read_fault = s.read_fault;
+      write_fault = s.write_fault;
+      prefix = s.prefix;
+      kept = s.kept;
+      few = s.few;
+      ends_built = s.ends_built;
+      ends_faulty = s.ends_faulty;
+      ends_unbuilt = s.ends_unbuilt;
+      ends_long = s.ends_long;
+    })

@@ -1,0 +1,44 @@
+-- What the lines `--help` and `--version` write.
+use Rattle.std.specs.Prelude.{ℕ, List, ◌++◌, codes}
+
+-- how the program is called, and its options
+abbrev pub usage_text : List ℕ
+usage_text =
+    codes "Completes sketches: programs with open parts, and harnesses that say what must hold.\n"
+    ++ codes "\n"
+    ++ codes "sketch synth [OPTION].. < SKETCH    writes the sketch completed, or the line //@ none\n"
+    ++ codes "sketch --help                       writes this help\n"
+    ++ codes "sketch --version                    writes the version\n"
+    ++ codes "\n"
+    ++ codes "An option is --name N or --name=N, and stands once.\n"
+    ++ codes "\n"
+    ++ codes "  --bnd-cbits        1 to 16, else 5          bits of an open number\n"
+    ++ codes "  --bnd-inbits       1 to 16, else 5          bits of an integer input\n"
+    ++ codes "  --bnd-unroll-amnt  0 to 64, else 8          turns of a loop\n"
+    ++ codes "  --bnd-inline-amnt  1 to 16, else 5          active calls of one function\n"
+    ++ codes "  --int-bits         6 to 32, else 16         bits of int\n"
+    ++ codes "  --rounds           0 to 1000000, else 0     not used yet\n"
+    ++ codes "  --conflicts        0 to 1000000000, else 0  not used yet\n"
+
+-- the statuses with which it ends
+abbrev pub statuses_text : List ℕ
+statuses_text =
+    codes "\n"
+    ++ codes "It ends with one of these, and from 10 on says more on standard error.\n"
+    ++ codes "\n"
+    ++ codes "   0  completed\n"
+    ++ codes "   1  no completion meets the harness on every input\n"
+    ++ codes "  10  the words are no command line\n"
+    ++ codes "  11  the text has no tokens, or reads as no program\n"
+    ++ codes "  14  standard input failed\n"
+    ++ codes "  15  standard output failed\n"
+    ++ codes "  16  the text has more than 1048576 bytes\n"
+    ++ codes "  17  memory was wanting\n"
+    ++ codes "  20  not there yet: exec, check, self, --cert, and programs beyond one harness\n"
+    ++ codes "      of int parameters, declarations, assignments and equations\n"
+
+abbrev pub help_text : List ℕ
+help_text = usage_text ++ statuses_text
+
+abbrev pub version_text : List ℕ
+version_text = codes "sketch 0.1.0\n"

@@ -1,0 +1,38 @@
+-- What the program does so far with the line that words spell.
+use Rattle.std.specs.Prelude.{ℕ, Bool, true, false, IsTrue, List}
+use Rattle.sk_base.specs.declared.bounds.Budget.{Budget}
+use Rattle.sk_opts.specs.declared.line.Set.{Set}
+use Rattle.sk_opts.specs.declared.line.Line.{Line}
+use Rattle.sk_opts.specs.declared.line.Line.TheVariants as line
+use Rattle.sk_opts.specs.CommandLine.{IsLine}
+
+-- the words spell no line
+abbrev pub IsNoLine : List (List ℕ) → Type 0
+IsNoLine words = (l : Line) → IsLine words l → ⊥
+
+-- The words are a line `synth` with these options and without a certificate. Its budgets may be any: to try every
+-- filling spends none.
+pub record IsSynth (words : List (List ℕ)) (set : Set) : Type 0 where
+  pub budget : Budget
+  pub is : IsLine words (line.Synth set budget false)
+
+-- they are such a line, and this holds of its options
+pub record ForSynth (words : List (List ℕ)) (Holds : Set → Type 0) : Type 0 where
+  pub set : Set
+  pub is : IsSynth words set
+  pub holds : Holds set
+
+-- whether the program does nothing for a line so far: its command is not there yet, or it asks for a certificate
+abbrev pub is_unbuilt : Line → Bool
+is_unbuilt (line.Synth set budget cert) = cert
+is_unbuilt (line.Exec set name values) = true
+is_unbuilt (line.Check set) = true
+is_unbuilt (line.Itself n) = true
+is_unbuilt line.Help = false
+is_unbuilt line.Version = false
+
+-- the words are such a line
+pub record IsUnbuiltLine (words : List (List ℕ)) : Type 0 where
+  pub line : Line
+  pub is : IsLine words line
+  pub unbuilt : IsTrue (is_unbuilt line)

@@ -1,0 +1,64 @@
+//! What the lines `--help` and `--version` write.
+
+ghost use Rattle.std.specs.Prelude.{◌≡◌, ◌++◌, IfOk};
+ghost use Rattle.sk_app.specs.Help.{usage_text, statuses_text, help_text, version_text};
+
+use std::alloc::{AllocError, Global};
+
+/// How the program is called, and its options.
+fn usage() -> &'static [u8]
+    ensures { result.now ≡ usage_text }
+{
+    b"Completes sketches: programs with open parts, and harnesses that say what must hold.
+
+sketch synth [OPTION].. < SKETCH    writes the sketch completed, or the line //@ none
+sketch --help                       writes this help
+sketch --version                    writes the version
+
+An option is --name N or --name=N, and stands once.
+
+  --bnd-cbits        1 to 16, else 5          bits of an open number
+  --bnd-inbits       1 to 16, else 5          bits of an integer input
+  --bnd-unroll-amnt  0 to 64, else 8          turns of a loop
+  --bnd-inline-amnt  1 to 16, else 5          active calls of one function
+  --int-bits         6 to 32, else 16         bits of int
+  --rounds           0 to 1000000, else 0     not used yet
+  --conflicts        0 to 1000000000, else 0  not used yet
+"
+}
+
+/// The statuses with which it ends.
+fn statuses() -> &'static [u8]
+    ensures { result.now ≡ statuses_text }
+{
+    b"
+It ends with one of these, and from 10 on says more on standard error.
+
+   0  completed
+   1  no completion meets the harness on every input
+  10  the words are no command line
+  11  the text has no tokens, or reads as no program
+  14  standard input failed
+  15  standard output failed
+  16  the text has more than 1048576 bytes
+  17  memory was wanting
+  20  not there yet: exec, check, self, --cert, and programs beyond one harness
+      of int parameters, declarations, assignments and equations
+"
+}
+
+/// The help.
+pub fn help(alloc: Global) -> Result<Vec<u8>, AllocError>
+    ensures { IfOk result (λ text. text.items ≡ help_text) }
+{
+    let mut text = Vec::from_slice(alloc, usage())?;
+    text.extend_from_slice(statuses())?;
+    Ok(text)
+}
+
+/// The version.
+pub fn version() -> &'static [u8]
+    ensures { result.now ≡ version_text }
+{
+    b"sketch 0.1.0\n"
+}
