@@ -1,0 +1,5 @@
+pub mod TargetLaws
+pub mod RoomLaws
+pub mod TypeLaws
+pub mod CallLaws
+pub mod IfLaws
