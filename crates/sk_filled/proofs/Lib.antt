@@ -1,0 +1,4 @@
+pub mod Fitting
+pub mod Operands
+pub mod Standing
+pub mod Meant

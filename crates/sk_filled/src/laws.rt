@@ -1,0 +1,20 @@
+//! Laws of own types where an expression is filled.
+ghost use Rattle.sk_filled.specs.LawNames.{OwnsFit, OperandsStay, ChoicesStay};
+
+/// Where no struct names a field twice, what means an expression at a type has an own type that fits this
+/// type, or is loose.
+pub fn own_types_fit()
+    ensures { OwnsFit }
+{}
+
+/// What an operator wants of two operands at a type, it wants of them still where one, or both, which stand at
+/// that type have it by themselves.
+pub fn operands_stay()
+    ensures { OperandsStay }
+{}
+
+/// The own type of `c ? a : b`, of which a or b, or both, have by themselves the type at which they stand, is what
+/// it was, or that type.
+pub fn choices_stay()
+    ensures { ChoicesStay }
+{}
