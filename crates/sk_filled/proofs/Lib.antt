@@ -2,3 +2,4 @@ pub mod Fitting
 pub mod Operands
 pub mod Standing
 pub mod Meant
+pub mod Holes

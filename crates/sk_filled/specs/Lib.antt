@@ -1,2 +1,3 @@
 pub mod Owns
 pub mod LawNames
+pub mod Holes

@@ -1,4 +1,5 @@
 //! Laws of own types where an expression is filled.
+ghost use Rattle.sk_filled.specs.Holes.{HolesFill};
 ghost use Rattle.sk_filled.specs.LawNames.{OwnsFit, OperandsStay, ChoicesStay};
 
 /// Where no struct names a field twice, what means an expression at a type has an own type that fits this
@@ -17,4 +18,10 @@ pub fn operands_stay()
 /// it was, or that type.
 pub fn choices_stay()
     ensures { ChoicesStay }
+{}
+
+/// In the place of a hole that keeps the rules at a type, whose values are in range, filling puts a number, or
+/// braces of bits, that means an expression at that type.
+pub fn holes_fill()
+    ensures { HolesFill }
 {}
