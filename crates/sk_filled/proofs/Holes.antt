@@ -49,7 +49,7 @@ bit_range bounds v wide below =
     below_range bounds 1 v one below
 
 module _ (context : Context) (scope : List Variable) where
-  mean : (l : P.PEForm-F PEForm PExpr PField) (g : PEForm) → roll-PEForm l ≡ g → (t : Option Ty) (e : Expr) → rule context scope l t e → Means context scope (record { span = e.span; ty = t; form = g }) e
+  pub mean : (l : P.PEForm-F PEForm PExpr PField) (g : PEForm) → roll-PEForm l ≡ g → (t : Option Ty) (e : Expr) → rule context scope l t e → Means context scope (record { span = e.span; ty = t; form = g }) e
   mean l g is t e r = means_from context scope (record { span = e.span; ty = t; form = g }) e refl (subst (λ g. FormMeans context scope g t e) is (subst (λ (M : EFormRule). M t e) (sym (form_means_are context scope l)) r))
 
   abbrev number_tree : Span → ℕ → Expr

@@ -3,3 +3,4 @@ pub mod Operands
 pub mod Standing
 pub mod Meant
 pub mod Holes
+pub mod Strings

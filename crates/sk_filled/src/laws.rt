@@ -1,6 +1,7 @@
 //! Laws of own types where an expression is filled.
 ghost use Rattle.sk_filled.specs.Holes.{HolesFill};
 ghost use Rattle.sk_filled.specs.LawNames.{OwnsFit, OperandsStay, ChoicesStay};
+ghost use Rattle.sk_filled.specs.Strings.{KeptAreStrings, StringsFill};
 
 /// Where no struct names a field twice, what means an expression at a type has an own type that fits this
 /// type, or is loose.
@@ -24,4 +25,15 @@ pub fn choices_stay()
 /// braces of bits, that means an expression at that type.
 pub fn holes_fill()
     ensures { HolesFill }
+{}
+
+/// What a pattern keeps at a type means expressions that are loose, or of that type by themselves.
+pub fn kept_are_strings()
+    ensures { KeptAreStrings }
+{}
+
+/// In the place of a pattern at a type, filling puts such a string, which means an expression at that type, in
+/// parentheses or as it is.
+pub fn strings_fill()
+    ensures { StringsFill }
 {}
