@@ -1,0 +1,4 @@
+pub mod Owns
+pub mod LawNames
+pub mod Holes
+pub mod Strings
