@@ -15,3 +15,4 @@ mod StmtsRead
 mod ItemsRead
 mod Placed
 mod TextReads
+mod Inverted

@@ -1,3 +1,4 @@
+use Rattle.sk_shown.proofs.Inverted.{cond_back}
 use Rattle.sk_shown.proofs.TextReads.{text_reads}
 use Rattle.sk_shown.proofs.laws.text_reads.Goals as goal
 
