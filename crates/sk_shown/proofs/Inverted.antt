@@ -1,5 +1,5 @@
 -- The form of an expression that differs in spans alone from one of a given form.
-use Rattle.std.proofs.Common.{◌≡◌, ℕ, List, [], ◌∷◌, map, Option, Some, None, refl, sym, ap, ◌∙◌}
+use Rattle.std.proofs.Common.{◌≡◌, ℕ, List, [], ◌∷◌, map, Option, refl, sym, ap, ◌∙◌}
 use Rattle.sk_base.specs.declared.span.Span.{Span}
 use Rattle.sk_tree.specs.declared.token.Mark.{Mark}
 use Rattle.sk_tree.specs.declared.pattern.Pattern.{Pattern}
@@ -10,7 +10,7 @@ use Rattle.sk_tree.specs.declared.expr.EForm.TheVariants as eform
 use Rattle.sk_tree.specs.declared.expr.EForm.TheOpen as E
 use Rattle.sk_tree.specs.declared.expr.EForm.TheViews.{roll-EForm}
 use Rattle.sk_tree.specs.declared.expr.EForm.TheFolds.{map-EForm, para-EForm, para-Expr, para-NewField, para-roll-EForm}
-use Rattle.sk_tree.proofs.Layers.{ExprLayer, expr_parts, expr_law}
+use Rattle.sk_tree.proofs.Layers.{expr_parts, expr_law}
 use Rattle.sk_types.specs.Erase.{nowhere, at}
 use Rattle.sk_shown.specs.SpanlessTree.{spanless_pattern, spanless_expr}
 use Rattle.sk_shown.proofs.Respelt.{Layer, field_off, spans_off, spanless_layer, Alike}

@@ -16,3 +16,5 @@ mod ItemsRead
 mod Placed
 mod TextReads
 mod Inverted
+mod NamesBack
+mod MeansAgain

@@ -5,3 +5,4 @@ pub mod SpanlessTree
 pub mod Readable
 pub mod Respans
 pub mod ReadsAs
+pub mod MeansAgain

@@ -1,4 +1,3 @@
-use Rattle.sk_shown.proofs.Inverted.{cond_back}
 use Rattle.sk_shown.proofs.TextReads.{text_reads}
 use Rattle.sk_shown.proofs.laws.text_reads.Goals as goal
 
