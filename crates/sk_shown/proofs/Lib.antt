@@ -18,3 +18,4 @@ mod TextReads
 mod Inverted
 mod NamesBack
 mod MeansAgain
+mod PlacedAgain

@@ -6,3 +6,4 @@ pub mod Readable
 pub mod Respans
 pub mod ReadsAs
 pub mod MeansAgain
+pub mod PlacedAgain

@@ -1,5 +1,6 @@
 //! Laws of what a layout shows, with nothing to run.
 ghost use Rattle.sk_shown.specs.MeansAgain.{ExpressionsMean};
+ghost use Rattle.sk_shown.specs.PlacedAgain.{ExpressionsPlaced};
 ghost use Rattle.sk_shown.specs.ReadsAs.{TextReads};
 ghost use Rattle.sk_shown.specs.Respans.{Respans};
 ghost use Rattle.sk_shown.specs.Tells.{Tells};
@@ -27,4 +28,9 @@ pub fn text_reads()
 /// behind `::`, and no coercions.
 pub fn expressions_mean_again()
     ensures { ExpressionsMean }
+{}
+
+/// What means an expression whose operands stand where they may is printed so, and with the level of that expression.
+pub fn expressions_are_placed()
+    ensures { ExpressionsPlaced }
 {}
