@@ -1,15 +1,13 @@
 -- Tokens of the kinds that spell a printed expression are found to spell one that differs in spans alone.
-use Rattle.std.proofs.Common.{◌≡◌, ℕ, suc, Bool, true, false, ◌&&◌, List, [], ◌∷◌, map, length, Option, Some, None, refl, sym, ap, ◌∙◌, subst}
-use Rattle.std.specs.Prelude.{IsTrue, nat_le}
+use Rattle.std.proofs.Common.{◌≡◌, ℕ, suc, Bool, true, ◌&&◌, List, [], ◌∷◌, map, length, Option, Some, None, refl, sym, ap, ◌∙◌, subst}
+use Rattle.std.specs.Prelude.{nat_le}
 use Rattle.std.specs.List.{list_all}
 use Rattle.std.proofs.lemmas.Bool.{and_parts}
 use Rattle.sk_base.specs.declared.span.Span.{Span}
 use Rattle.sk_tree.specs.declared.expr.Expr.{Expr}
-use Rattle.sk_tree.specs.declared.expr.NewField.{NewField}
 use Rattle.sk_tree.specs.declared.expr.EForm.TheVariants as eform
 use Rattle.sk_tree.specs.Strings.{most_strings}
-use Rattle.sk_tree.specs.Spelt.{Saying, are_some, is_unary, SpeltPattern}
-use Rattle.sk_tree.specs.Spell.{spell_expr}
+use Rattle.sk_tree.specs.Spelt.{are_some, is_unary, SpeltPattern}
 use Rattle.sk_tree.proofs.Layers.{FieldBy}
 use Rattle.sk_prog.specs.declared.ty.Ty.{Ty}
 use Rattle.sk_prog.specs.declared.ids.StructId.{StructId}
@@ -27,7 +25,7 @@ use Rattle.sk_types.specs.Erase.{nowhere, at, mark_of, unary_mark, field_name, f
 use Rattle.sk_types.specs.Erase as R
 use Rattle.sk_types.specs.WellTyped.{no_bar}
 use Rattle.sk_shown.specs.Printed.{eform_printed, printed_expr}
-use Rattle.sk_shown.specs.Readable.{eform_string, is_string, tree_stands, string_stands, strings_stand, all_readable, eform_readable, expr_readable}
+use Rattle.sk_shown.specs.Readable.{eform_string, is_string, tree_stands, string_stands, all_readable, eform_readable, expr_readable}
 use Rattle.sk_shown.proofs.Spelled.{field_kinds}
 use Rattle.sk_shown.proofs.Finds.{All}
 use Rattle.sk_shown.proofs.Respelt.{AlikeField, Said, SaidField, AllSaid, number_said, true_said, false_said, null_said, word_said, hole_said, width_said, paren_said, call_said, new_said, braces_said, member_said, index_said, slice_said, unary_said, binary_said, cond_said, field_said}

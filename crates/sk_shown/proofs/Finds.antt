@@ -1,6 +1,5 @@
 -- Tokens of given kinds are found to spell something: the parts of a phrase are found one after another.
-use Rattle.std.proofs.Common.{◌≡◌, true, List, [], ◌∷◌, ◌++◌, map, refl, sym, ap, ◌∙◌, subst}
-use Rattle.sk_base.specs.declared.span.Span.{Span}
+use Rattle.std.proofs.Common.{◌≡◌, true, List, [], ◌∷◌, ◌++◌, map, refl, ap, ◌∙◌}
 use Rattle.sk_tree.specs.declared.token.Token.{Token}
 use Rattle.sk_tree.specs.declared.token.Kind.{Kind}
 use Rattle.sk_tree.specs.declared.token.Kind.TheVariants as kind
@@ -8,7 +7,7 @@ use Rattle.sk_tree.specs.declared.token.Mark.{Mark}
 use Rattle.sk_tree.specs.declared.token.Key.{Key}
 use Rattle.sk_tree.specs.Phrase.{Phrase, Nothing, One, Sign, Keyword, ◌▸◌, Each, Behind, Between}
 use Rattle.sk_tree.specs.Spelt.{are_some}
-use Rattle.sk_tree.specs.Spell.{Kinds, each, behind, between, sign, keyword, word, number}
+use Rattle.sk_tree.specs.Spell.{Kinds, each, behind, between, sign, keyword}
 use Rattle.sk_print.proofs.Lexed.{kinds}
 
 abbrev Nil : Type 0

@@ -1,5 +1,5 @@
 -- Tokens of the kinds that spell the printed tree are found to spell a tree that differs in spans alone.
-use Rattle.std.proofs.Common.{◌≡◌, Bool, true, false, ◌&&◌, List, [], ◌∷◌, ◌++◌, map, Option, Some, None, refl, sym, ap, ◌∙◌, subst}
+use Rattle.std.proofs.Common.{◌≡◌, Bool, true, false, List, [], ◌∷◌, ◌++◌, map, Option, Some, None, refl, ap}
 use Rattle.std.specs.Prelude.{IsTrue}
 use Rattle.std.specs.List.{list_all, flat_map}
 use Rattle.std.proofs.lemmas.Bool.{and_parts}
@@ -7,7 +7,6 @@ use Rattle.sk_tree.specs.declared.token.Token.{Token}
 use Rattle.sk_tree.specs.declared.token.Kind.TheVariants as kind
 use Rattle.sk_tree.specs.declared.token.Mark.TheVariants as mark
 use Rattle.sk_tree.specs.declared.token.Key.TheVariants as key
-use Rattle.sk_tree.specs.declared.stmt.Stmt.{Stmt}
 use Rattle.sk_tree.specs.declared.item.TyTree.{TyTree}
 use Rattle.sk_tree.specs.declared.item.Field.{Field}
 use Rattle.sk_tree.specs.declared.item.Param.{Param}
@@ -17,7 +16,7 @@ use Rattle.sk_tree.specs.declared.item.Item.{Item}
 use Rattle.sk_tree.specs.declared.item.Item.TheVariants as item
 use Rattle.sk_tree.specs.declared.item.Tree.{Tree}
 use Rattle.sk_tree.specs.Phrase.{One, Keyword, ◌▸◌, Perhaps}
-use Rattle.sk_tree.specs.Spelt.{SpeltTy, SpeltField, SpeltRef, SpeltParam, SpeltKind, SpeltResult, SpeltItem, SpeltTree}
+use Rattle.sk_tree.specs.Spelt.{SpeltField, SpeltRef, SpeltParam, SpeltKind, SpeltResult, SpeltItem, SpeltTree}
 use Rattle.sk_tree.specs.Spell.{◌▹◌, word, keyword, perhaps, spell_field, spell_ref, spell_param, spell_kind, spell_result, spell_item, spell}
 use Rattle.sk_prog.specs.declared.ty.Ty.{Ty}
 use Rattle.sk_prog.specs.declared.prog.FieldDef.{FieldDef}
@@ -27,12 +26,12 @@ use Rattle.sk_prog.specs.declared.prog.ParamDef.{ParamDef}
 use Rattle.sk_prog.specs.declared.prog.Fun.{Fun}
 use Rattle.sk_prog.specs.declared.prog.Prog.{Prog}
 use Rattle.sk_types.specs.Erase.{erase_ty, erase_any_ty, erase_kind, erase_implements, erase_struct, erase_param}
-use Rattle.sk_shown.specs.Printed.{printed_expr, stmt_shown, printed_const, printed_fun, printed}
-use Rattle.sk_shown.specs.SpanlessTree.{any_spanless_ty, spanless_expr, spanless_field, spanless_param, spanless_stmt, spanless_item, spanless_tree}
-use Rattle.sk_shown.specs.Readable.{expr_readable, stmt_readable, fun_readable, prog_readable}
-use Rattle.sk_shown.proofs.Finds.{Finds, finds_then, finds_as, finds_nothing, finds_one, finds_sign, finds_key, Match, All, finds_each, finds_between, match_map}
+use Rattle.sk_shown.specs.Printed.{stmt_shown, printed_const, printed_fun, printed}
+use Rattle.sk_shown.specs.SpanlessTree.{any_spanless_ty, spanless_field, spanless_param, spanless_item, spanless_tree}
+use Rattle.sk_shown.specs.Readable.{expr_readable, fun_readable, prog_readable}
+use Rattle.sk_shown.proofs.Finds.{Finds, finds_then, finds_as, finds_nothing, finds_one, finds_sign, finds_key, All, finds_each, finds_between, match_map}
 use Rattle.sk_shown.proofs.ExprsRead.{expr_said}
-use Rattle.sk_shown.proofs.StmtsRead.{ty_said, ListSaid, body_said}
+use Rattle.sk_shown.proofs.StmtsRead.{ty_said, body_said}
 
 abbrev AlikeItem : Item → Item → Type 0
 AlikeItem i0 i = spanless_item i ≡ spanless_item i0

@@ -15,3 +15,7 @@ mod StmtsRead
 mod ItemsRead
 mod Placed
 mod TextReads
+mod Inverted
+mod NamesBack
+mod MeansAgain
+mod PlacedAgain

@@ -1,7 +1,6 @@
 -- Tokens of the kinds that spell an expression of one form are found to spell one that differs in spans alone, where
 -- its parts are.
-use Rattle.std.proofs.Common.{◌≡◌, ℕ, Bool, true, false, List, [], ◌∷◌, ◌++◌, map, Option, Some, None, refl, sym, ap, ◌∙◌, subst}
-use Rattle.std.specs.Prelude.{IsTrue}
+use Rattle.std.proofs.Common.{◌≡◌, ℕ, true, List, Some, None, refl, sym, ap, ◌∙◌, subst}
 use Rattle.sk_base.specs.declared.span.Span.{Span}
 use Rattle.sk_tree.specs.declared.token.Token.{Token}
 use Rattle.sk_tree.specs.declared.token.Kind.TheVariants as kind
@@ -16,13 +15,12 @@ use Rattle.sk_tree.specs.declared.expr.EForm.TheOpen as E
 use Rattle.sk_tree.specs.declared.expr.EForm.TheViews.{roll-EForm}
 use Rattle.sk_tree.specs.declared.expr.EForm.TheFolds.{map-EForm, fold-EForm, fold-NewField, fold-roll-EForm, fold-roll-Expr, fold-roll-NewField}
 use Rattle.sk_tree.specs.Phrase.{Phrase, span_of}
-use Rattle.sk_tree.specs.Spelt.{Saying, are_some, is_unary, field_spelt}
+use Rattle.sk_tree.specs.Spelt.{Saying, are_some, is_unary}
 use Rattle.sk_tree.specs.Spell.{Kinds, spell_expr}
 use Rattle.sk_tree.proofs.Layers.{FormBy, ExprBy, FieldBy, LayerBy, form_by, expr_by, field_by}
 use Rattle.sk_types.specs.Erase.{nowhere, at}
-use Rattle.sk_print.proofs.Lexed.{kinds}
 use Rattle.sk_shown.specs.SpanlessTree.{parts_spanless, expr_nowhere, field_again, spanless_expr}
-use Rattle.sk_shown.proofs.Finds.{Finds, finds_then, finds_as, finds_one, finds_sign, finds_key, Match, All, finds_between, match_map, match_some}
+use Rattle.sk_shown.proofs.Finds.{Finds, finds_then, finds_as, finds_one, finds_sign, finds_key, All, finds_between, match_map, match_some}
 use Rattle.sk_shown.proofs.Spelled.{field_kinds, field_spelled, number_spelled, true_spelled, false_spelled, null_spelled, word_spelled, hole_spelled, width_spelled, paren_spelled, call_spelled, new_spelled, braces_spelled, member_spelled, index_spelled, slice_spelled, unary_spelled, binary_spelled, cond_spelled}
 
 abbrev pub Layer : Type 0

@@ -1,5 +1,5 @@
 -- What a fold that doesn't look at spans says of an expression it says of each that differs in spans alone.
-use Rattle.std.proofs.Common.{◌≡◌, ℕ, suc, Bool, true, false, List, [], ◌∷◌, map, Option, Some, None, refl, sym, ap, ◌∙◌, ◌||◌}
+use Rattle.std.proofs.Common.{◌≡◌, ℕ, suc, Bool, List, [], ◌∷◌, map, refl, sym, ap, ◌∙◌, ◌||◌}
 use Rattle.sk_base.specs.declared.span.Span.{Span}
 use Rattle.sk_tree.specs.declared.pattern.Pattern.{Pattern}
 use Rattle.sk_tree.specs.declared.pattern.Pattern.TheOpen as P
@@ -12,12 +12,12 @@ use Rattle.sk_tree.specs.declared.expr.EForm.TheOpen as E
 use Rattle.sk_tree.specs.declared.expr.EForm.TheViews.{roll-EForm}
 use Rattle.sk_tree.specs.declared.expr.EForm.TheFolds.{map-EForm, fold-EForm, fold-Expr, fold-NewField, fold-roll-EForm, fold-roll-Expr, fold-roll-NewField}
 use Rattle.sk_tree.specs.Depth.{pattern_step_depth, pattern_depth, eform_depth, expr_depth}
-use Rattle.sk_tree.specs.Placed.{Place, eform_place, expr_place, field_placed, place_of}
-use Rattle.sk_tree.specs.Spelt.{asks, eform_is_place, eform_is_pattern, eform_is_call, is_target, is_call}
+use Rattle.sk_tree.specs.Placed.{Place, eform_place, field_placed, place_of}
+use Rattle.sk_tree.specs.Spelt.{eform_is_place, eform_is_pattern, eform_is_call, is_target, is_call}
 use Rattle.sk_tree.proofs.Layers.{PatternLayer, pattern_parts, pattern_law, ExprLayer, expr_parts, expr_law}
 use Rattle.sk_types.specs.Erase.{nowhere, at}
 use Rattle.sk_shown.specs.SpanlessTree.{part_spanless, spanless_pattern, parts_spanless, expr_nowhere, field_again, spanless_expr}
-use Rattle.sk_shown.proofs.Respelt.{Layer, field_off, spans_off, spanless_layer, Alike}
+use Rattle.sk_shown.proofs.Respelt.{Layer, field_off, spans_off, Alike}
 
 -- Patterns
 

@@ -1,6 +1,6 @@
 -- Tokens of the kinds that spell the statements that are printed are found to spell some that differ in spans alone.
 use Rattle.std.proofs.Common.{◌≡◌, ℕ, suc, Bool, true, false, ◌&&◌, List, [], ◌∷◌, ◌++◌, map, length, Option, Some, None, refl, sym, ap, ◌∙◌, subst, append_assoc, append-nil}
-use Rattle.std.specs.Prelude.{IsTrue, nat_le}
+use Rattle.std.specs.Prelude.{nat_le}
 use Rattle.std.specs.List.{list_all, flat_map}
 use Rattle.std.proofs.lemmas.Bool.{and_parts}
 use Rattle.std.proofs.lemmas.List.{map-append}
@@ -10,7 +10,6 @@ use Rattle.sk_tree.specs.declared.token.Kind.TheVariants as kind
 use Rattle.sk_tree.specs.declared.token.Mark.TheVariants as mark
 use Rattle.sk_tree.specs.declared.token.Key.TheVariants as key
 use Rattle.sk_tree.specs.declared.expr.Expr.{Expr}
-use Rattle.sk_tree.specs.declared.expr.EForm.TheVariants as eform
 use Rattle.sk_tree.specs.declared.stmt.Stmt.{Stmt}
 use Rattle.sk_tree.specs.declared.stmt.Form.{Form}
 use Rattle.sk_tree.specs.declared.stmt.Form.TheVariants as form
@@ -21,9 +20,9 @@ use Rattle.sk_tree.specs.declared.stmt.Declared.{Declared}
 use Rattle.sk_tree.specs.declared.item.Base.{Base}
 use Rattle.sk_tree.specs.declared.item.Base.TheVariants as base
 use Rattle.sk_tree.specs.declared.item.TyTree.{TyTree}
-use Rattle.sk_tree.specs.Phrase.{Phrase, Nothing, ◌▸◌, Each, span_of}
-use Rattle.sk_tree.specs.Spelt.{Role, InBlock, AsBody, is_whole, is_target, is_call, SpeltExpr, SpeltPattern, SpeltTarget, SpeltBase, SpeltLength, SpeltTy, SpeltDeclared, SpeltParens, SpeltStmt}
-use Rattle.sk_tree.specs.Spell.{Kinds, ◌▹◌, each, spell_expr, spell_base, spell_length, spell_ty, spell_declared, spell_parens, spell_stmt}
+use Rattle.sk_tree.specs.Phrase.{Phrase, ◌▸◌, Each, span_of}
+use Rattle.sk_tree.specs.Spelt.{Role, InBlock, AsBody, is_whole, is_target, is_call, SpeltPattern, SpeltTarget, SpeltBase, SpeltLength, SpeltTy, SpeltDeclared, SpeltParens, SpeltStmt}
+use Rattle.sk_tree.specs.Spell.{Kinds, spell_expr, spell_base, spell_length, spell_ty, spell_declared, spell_parens, spell_stmt}
 use Rattle.sk_tree.proofs.Layers.{SpeltForm, FormLayer, form_is, stmt_is}
 use Rattle.sk_prog.specs.declared.ty.Ty.{Ty}
 use Rattle.sk_prog.specs.declared.ty.Ty.TheVariants as ty
@@ -34,10 +33,9 @@ use Rattle.sk_prog.specs.declared.stmt.PForm.TheOpen as S
 use Rattle.sk_prog.specs.declared.stmt.PForm.TheViews.{roll-PForm, roll-PStmt}
 use Rattle.sk_prog.specs.declared.stmt.PForm.TheFolds.{map-PForm, fold-PForm, fold-roll-PForm, fold-roll-PStmt, ind-PStmt}
 use Rattle.sk_prog.specs.declared.prog.Prog.{Prog}
-use Rattle.sk_prog.specs.Names.{is_yes, any_yes}
+use Rattle.sk_prog.specs.Names.{is_yes}
 use Rattle.sk_types.specs.Erase.{nowhere, at, elem_base, erase_ty}
 use Rattle.sk_types.specs.Erase as R
-use Rattle.sk_print.proofs.Lexed.{kinds}
 use Rattle.sk_shown.specs.Printed.{printed_expr, printed_any, Shown, all_shown, of_form, block_of, form_printed, stmt_shown}
 use Rattle.sk_shown.specs.SpanlessTree.{spanless_expr, spanless_ty, spanless_declared, acts_spanless, stmt_nowhere, spanless_stmt}
 use Rattle.sk_shown.specs.Readable.{expr_readable, any_readable, target_readable, form_readable, stmt_readable}

@@ -1,6 +1,6 @@
 -- The pattern of a choice of strings: tokens of the kinds that spell it are found to spell one with the same strings.
-use Rattle.std.proofs.Common.{◌≡◌, ℕ, ◌+◌, ◌≤◌, Bool, true, false, ◌&&◌, List, [], ◌∷◌, ◌++◌, map, map-id, length, Option, Some, None, refl, sym, ap, ◌∙◌, subst, arith, inl, suc}
-use Rattle.std.specs.Prelude.{IsTrue, nat_le, flat_map}
+use Rattle.std.proofs.Common.{◌≡◌, ◌≤◌, true, ◌&&◌, List, [], ◌∷◌, ◌++◌, map, map-id, length, refl, sym, ap, ◌∙◌, subst, arith, inl, suc}
+use Rattle.std.specs.Prelude.{nat_le, flat_map}
 use Rattle.std.specs.List.{list_all, AllZip}
 use Rattle.std.proofs.lemmas.Bool.{and_parts}
 use Rattle.std.proofs.lemmas.Bool.Decides.{nat_tests}
@@ -16,20 +16,20 @@ use Rattle.sk_tree.specs.declared.pattern.Pattern.TheFolds.{map-Pattern, fold-ro
 use Rattle.sk_tree.specs.declared.expr.Expr.{Expr}
 use Rattle.sk_tree.specs.declared.expr.EForm.TheVariants as eform
 use Rattle.sk_tree.specs.declared.expr.EForm.TheOpen as E
-use Rattle.sk_tree.specs.Phrase.{Phrase, Never, Sign, ◌▸◌, Each, Between}
+use Rattle.sk_tree.specs.Phrase.{Phrase, Never, Sign, Each, Between}
 use Rattle.sk_tree.specs.Strings.{Strings, most_strings, pairs, rows, pattern_strings, strings_of}
 use Rattle.sk_tree.specs.Depth.{expr_depth, most_levels}
 use Rattle.sk_tree.specs.Placed.{expr_placed}
-use Rattle.sk_tree.specs.Spelt.{Saying, PatternRole, AsChoice, AsSequence, AsPart, may_stand, are_some, SpeltPart, SpeltPattern, ReadsString, HasTrees, Holds}
-use Rattle.sk_tree.specs.Spell.{Kinds, spell_expr}
+use Rattle.sk_tree.specs.Spelt.{Saying, PatternRole, AsChoice, AsSequence, AsPart, may_stand, are_some, SpeltPart, SpeltPattern, ReadsString, Holds}
+use Rattle.sk_tree.specs.Spell.{spell_expr}
 use Rattle.sk_tree.proofs.Says.{between_map}
-use Rattle.sk_tree.proofs.Layers.{PartLayer, part_spelt, LayerBy}
+use Rattle.sk_tree.proofs.Layers.{PartLayer, part_spelt}
 use Rattle.sk_types.specs.Erase.{nowhere, at}
 use Rattle.sk_print.proofs.Lexed.{kinds}
 use Rattle.sk_shown.specs.Printed.{part_of_kind, sequence_of, choice_of}
 use Rattle.sk_shown.specs.SpanlessTree.{part_spanless, spanless_pattern, spanless_expr}
 use Rattle.sk_shown.specs.Readable.{kinds_stand, tree_stands}
-use Rattle.sk_shown.proofs.Finds.{Finds, finds_then, finds_sign, Match, All, finds_between, match_map}
+use Rattle.sk_shown.proofs.Finds.{Finds, finds_then, finds_sign, Match, All, finds_between}
 use Rattle.sk_shown.proofs.Respelt.{Alike, Said, made}
 use Rattle.sk_shown.proofs.Spanless.{place_alike, depth_alike}
 use Rattle.sk_shown.proofs.Spelled.{pattern_spelled}

@@ -5,3 +5,5 @@ pub mod SpanlessTree
 pub mod Readable
 pub mod Respans
 pub mod ReadsAs
+pub mod MeansAgain
+pub mod PlacedAgain

@@ -1,7 +1,7 @@
 -- Programs whose layout is spelt as a tree may be: patterns and braces hold something, the strings of patterns are
 -- spelt without the marks of patterns, and a target or a call stands where one is wanted. A program that keeps the
 -- rules is of these, but well-formedness does not say so.
-use Rattle.std.specs.Prelude.{ℕ, nat_le, Bool, true, false, ◌&&◌, ◌||◌, List, [], ◌∷◌, map, length, Option, Some, None}
+use Rattle.std.specs.Prelude.{nat_le, Bool, true, ◌&&◌, List, length, Option, Some, None}
 use Rattle.std.specs.List.{list_all}
 use Rattle.sk_tree.specs.declared.expr.Expr.{Expr}
 use Rattle.sk_tree.specs.declared.token.Kind.{Kind}

@@ -1,6 +1,5 @@
 -- A tree without its spans, in patterns too: two trees are the same where they differ in spans alone.
-use Rattle.std.specs.Prelude.{List, map, Option, Some, None}
-use Rattle.sk_base.specs.declared.span.Span.{Span}
+use Rattle.std.specs.Prelude.{map, Option, Some, None}
 use Rattle.sk_tree.specs.declared.token.Token.{Token}
 use Rattle.sk_tree.specs.declared.pattern.Pattern.{Pattern}
 use Rattle.sk_tree.specs.declared.pattern.Pattern.TheOpen as P

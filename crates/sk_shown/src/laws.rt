@@ -1,4 +1,6 @@
 //! Laws of what a layout shows, with nothing to run.
+ghost use Rattle.sk_shown.specs.MeansAgain.{ExpressionsMean};
+ghost use Rattle.sk_shown.specs.PlacedAgain.{ExpressionsPlaced};
 ghost use Rattle.sk_shown.specs.ReadsAs.{TextReads};
 ghost use Rattle.sk_shown.specs.Respans.{Respans};
 ghost use Rattle.sk_shown.specs.Tells.{Tells};
@@ -19,4 +21,16 @@ pub fn tokens_read()
 /// alone, if the operands of the printed tree stand where they may.
 pub fn text_reads()
     ensures { TextReads }
+{}
+
+/// An expression that differs in spans alone from a printed one means what was printed, spans aside. The printed one
+/// holds fewer strings in its patterns than the tree that it comes from, numbers in place of constant expressions
+/// behind `::`, and no coercions.
+pub fn expressions_mean_again()
+    ensures { ExpressionsMean }
+{}
+
+/// What means an expression whose operands stand where they may is printed so, and with the level of that expression.
+pub fn expressions_are_placed()
+    ensures { ExpressionsPlaced }
 {}
