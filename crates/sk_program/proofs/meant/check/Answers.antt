@@ -1,0 +1,19 @@
+use Rattle.std.proofs.lemmas.Result.{err_from_is_err_and}
+use Rattle.sk_program.proofs.CheckLaws.{is_meant, made_once, only_memory, no_program}
+use Rattle.sk_program.proofs.meant.check.Goals as goal
+
+pub returns-in_err-meant-clause-only : goal.returns-in_err-meant-clause-only
+returns-in_err-meant-clause-only c =
+    let p = err_from_is_err_and c.from_residual.result c.from_residual.ensures.1 in
+    rw (p.1, p.2) (λ prog m. only_memory c.args.bounds.now c.args.tree.now _ prog c.in_err-meant.ensures m)
+
+pub returns-in_err-meant-clause-fault : goal.returns-in_err-meant-clause-fault
+returns-in_err-meant-clause-fault c =
+    let p = err_from_is_err_and c.from_residual.result c.from_residual.ensures.1 in
+    rw (p.1, p.2) (λ is prog m. no_program c.args.bounds.now c.args.tree.now _ prog c.in_err-meant.ensures is m)
+
+pub returns-clause-found : goal.returns-clause-found
+returns-clause-found c = is_meant c.args.bounds.now c.args.tree.now c.in_ok-meant.meant c.in_ok-meant.ensures
+
+pub returns-clause-only : goal.returns-clause-only
+returns-clause-only c = λ prog m. made_once c.args.bounds.now c.args.tree.now c.in_ok-meant.meant prog c.in_ok-meant.ensures m

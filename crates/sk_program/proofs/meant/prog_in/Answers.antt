@@ -1,0 +1,13 @@
+use Rattle.std.proofs.Common.{true, false, sym, ◌∙◌}
+use Rattle.sk_typing.specs.Envs.{top_seen}
+use Rattle.sk_program.specs.Tops.{bodies_seen}
+use Rattle.sk_program.proofs.SignatureLaws.{refused}
+use Rattle.sk_program.proofs.WholeLaws.{prog_kept}
+use Rattle.sk_program.proofs.meant.prog_in.Goals as goal
+
+pub returns-then-not-may_keep_names : goal.returns-then-not-may_keep_names
+returns-then-not-may_keep_names c =
+    refused _ _ _ c.fault.ensures (prog_kept c.args.bounds.now (top_seen c.args.top) c.args.items.now (bodies_seen c.in_ok-whole.whole) false c.in_ok-whole.ensures (sym c.may_keep_names.ensures ∙ c.if-not-may_keep_names.true))
+
+pub returns : goal.returns
+returns c = prog_kept c.args.bounds.now (top_seen c.args.top) c.args.items.now (bodies_seen c.in_ok-whole.whole) true c.in_ok-whole.ensures (sym c.may_keep_names.ensures ∙ c.if-not-may_keep_names.false)

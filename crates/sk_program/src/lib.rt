@@ -1,0 +1,12 @@
+//! The program that a tree means: names at the top, items, bodies, and `check`.
+#![tactic(auto)]
+
+mod bodies;
+mod items;
+mod meant;
+mod names;
+mod signature;
+#[cfg(test)]
+mod tests;
+
+pub use meant::check;

@@ -1,0 +1,288 @@
+//! Signatures and structs: the types of fields, parameters and results, and what functions may be.
+ghost use Rattle.std.specs.Prelude.{◌≡◌, not, ◌&&◌, map};
+ghost use Rattle.std.specs.List.{list_any, list_all};
+ghost use Rattle.std.specs.Str.{bytes_eq};
+ghost use Rattle.sk_prog.specs.declared.prog.FieldDef.{FieldDef};
+ghost use Rattle.sk_prog.specs.declared.prog.ParamDef.{ParamDef};
+ghost use Rattle.sk_types.specs.Rules.{base_of, holds_references, ty_eq};
+ghost use Rattle.sk_types.specs.Scope.{all_distinct};
+ghost use Rattle.sk_types.specs.Types.{kind_of, any_references, speaks_of_records, may_be, is_generator, same_bool, same_params, same_result, may_implement};
+ghost use Rattle.sk_check.specs.Envs.{signature};
+ghost use Rattle.sk_check.specs.Whole.{any_written, fields_of, params_of, struct_of, heading_of};
+ghost use Rattle.sk_typing.specs.Gives.{Gives};
+ghost use Rattle.sk_typing.specs.Leaves.{GivesHeading};
+ghost use Rattle.sk_typing.specs.Envs.{context_of, IsEnv};
+
+use sk_base::{List, Name, Span, at as item_at};
+use sk_bodies::written;
+use sk_check::{Heading, Rule, Typing};
+use sk_prog::{Elem, FieldDef, FunKind as PFunKind, ParamDef, StructDef, Ty};
+use sk_tree::{Field, FunItem, FunKind, Param, TyTree};
+use sk_types::ty_eq;
+use sk_typing::{Env, Scope, copied, fault, is_same};
+
+/// Items and names have no span.
+pub const NOWHERE: Span = Span { from: 0, to: 0 };
+
+pub fn kind_of(kind: FunKind) -> PFunKind
+    ensures { result ≡ kind_of kind }
+{
+    match kind {
+        FunKind::Plain => PFunKind::Plain,
+        FunKind::Harness => PFunKind::Harness,
+        FunKind::Generator => PFunKind::Generator,
+    }
+}
+
+fn base_of(ty: Ty) -> Elem
+    ensures { result ≡ base_of ty }
+{
+    match ty {
+        Ty::One(elem) => elem,
+        Ty::Array(elem, _) => elem,
+        Ty::Grid(elem, _, _) => elem,
+    }
+}
+
+fn holds_references(ty: Ty) -> bool
+    ensures { result ≡ holds_references ty }
+{
+    match base_of(ty) {
+        Elem::Reference(_) => true,
+        _ => false,
+    }
+}
+
+fn any_references(ty: Option<Ty>) -> bool
+    ensures { result ≡ any_references ty }
+{
+    match ty {
+        None => false,
+        Some(ty) => holds_references(ty),
+    }
+}
+
+#[tactic(auto, using(sk_typing::proofs::Places::split_at))]
+fn some_hold_references(params: &[ParamDef]) -> bool
+    ensures { result ≡ list_any (λ (d : ParamDef). holds_references d.ty) params.now }
+{
+    for param in params {
+        if holds_references(param.ty) {
+            return true;
+        }
+    }
+    false
+}
+
+fn speaks_of_records(params: &[ParamDef], result_ty: Option<Ty>) -> bool
+    ensures { result ≡ speaks_of_records params.now result_ty }
+{
+    some_hold_references(params) || any_references(result_ty)
+}
+
+#[tactic(auto, using(sk_typing::proofs::Places::split_at))]
+fn none_by_ref(params: &[ParamDef]) -> bool
+    ensures { result ≡ list_all (λ (d : ParamDef). not d.by_ref) params.now }
+{
+    for param in params {
+        if param.by_ref {
+            return false;
+        }
+    }
+    true
+}
+
+fn may_be(kind: PFunKind, params: &[ParamDef], result_ty: Option<Ty>) -> bool
+    ensures { result ≡ may_be kind params.now result_ty }
+{
+    match kind {
+        PFunKind::Harness => none_by_ref(params) && !speaks_of_records(params, result_ty),
+        PFunKind::Plain | PFunKind::Generator => true,
+    }
+}
+
+pub fn is_generator(kind: PFunKind) -> bool
+    ensures { result ≡ is_generator kind }
+{
+    match kind {
+        PFunKind::Generator => true,
+        _ => false,
+    }
+}
+
+fn same_param(a: &ParamDef, b: &ParamDef) -> bool
+    ensures { result ≡ (ty_eq a.now.ty b.now.ty && same_bool a.now.by_ref b.now.by_ref) }
+{
+    ty_eq(a.ty, b.ty) && a.by_ref == b.by_ref
+}
+
+/// Whether parameters have the same types and the same marks `ref`, in order.
+#[tactic(auto, using(crate::proofs::SignatureLaws::rows))]
+fn same_params(a: &[ParamDef], b: &[ParamDef]) -> bool
+    ensures { result ≡ same_params a.now b.now }
+{
+    for (i, param) in a.iter().enumerate() {
+        let Some(other) = item_at(b, i) else {
+            return false;
+        };
+        if !same_param(param, other) {
+            return false;
+        }
+    }
+    if a.len() < b.len() {
+        return false;
+    }
+    true
+}
+
+fn same_result(a: Option<Ty>, b: Option<Ty>) -> bool
+    ensures { result ≡ same_result a b }
+{
+    match (a, b) {
+        (None, None) => true,
+        (Some(a), Some(b)) => ty_eq(a, b),
+        _ => false,
+    }
+}
+
+#[tactic(auto, using(sk_typing::proofs::Places::split_at))]
+fn field_named(fields: &[FieldDef], name: &Name) -> bool
+    ensures { result ≡ list_any (bytes_eq name.now) (map (λ (d : FieldDef). d.name) fields.now) }
+{
+    for field in fields {
+        if is_same(name, &field.name) {
+            return true;
+        }
+    }
+    false
+}
+
+#[tactic(auto, using(sk_typing::proofs::Places::split_at))]
+fn fields_distinct(fields: &[FieldDef]) -> bool
+    ensures { result ≡ all_distinct (map (λ (d : FieldDef). d.name) fields.now) }
+{
+    for (i, field) in fields.iter().enumerate() {
+        if field_named(&fields[i + 1..], &field.name) {
+            return false;
+        }
+    }
+    true
+}
+
+#[tactic(auto, using(sk_typing::proofs::Places::split_at))]
+fn param_named(params: &[ParamDef], name: &Name) -> bool
+    ensures { result ≡ list_any (bytes_eq name.now) (map (λ (d : ParamDef). d.name) params.now) }
+{
+    for param in params {
+        if is_same(name, &param.name) {
+            return true;
+        }
+    }
+    false
+}
+
+#[tactic(auto, using(sk_typing::proofs::Places::split_at))]
+fn params_distinct(params: &[ParamDef]) -> bool
+    ensures { result ≡ all_distinct (map (λ (d : ParamDef). d.name) params.now) }
+{
+    for (i, param) in params.iter().enumerate() {
+        if param_named(&params[i + 1..], &param.name) {
+            return false;
+        }
+    }
+    true
+}
+
+fn any_written(env: &Env, ty: &Option<TyTree>) -> Result<Option<Ty>, Typing>
+    requires { IsEnv env.now }
+    ensures { Gives result (any_written (context_of env.now) ty.now) }
+{
+    match ty {
+        None => Ok(None),
+        Some(ty) => {
+            let scope = Scope::new(env.alloc);
+            let ty = written(env, &scope, NOWHERE, ty)?;
+            Ok(Some(ty))
+        }
+    }
+}
+
+#[tactic(auto, using(sk_typing::proofs::Follows::steps))]
+fn fields_of(env: &Env, fields: &[Field]) -> Result<List<FieldDef>, Typing>
+    requires { IsEnv env.now }
+    ensures { Gives result (fields_of (context_of env.now) fields.now) }
+{
+    let scope = Scope::new(env.alloc);
+    let mut made = List::new(env.alloc);
+    for field in fields {
+        let ty = written(env, &scope, NOWHERE, &field.ty)?;
+        let name = copied(env.alloc, &field.name)?;
+        made.push(FieldDef { name, ty })?;
+    }
+    Ok(made)
+}
+
+#[tactic(auto, using(sk_typing::proofs::Follows::steps))]
+fn params_of(env: &Env, params: &[Param]) -> Result<List<ParamDef>, Typing>
+    requires { IsEnv env.now }
+    ensures { Gives result (params_of (context_of env.now) params.now) }
+{
+    let scope = Scope::new(env.alloc);
+    let mut made = List::new(env.alloc);
+    for param in params {
+        let ty = written(env, &scope, NOWHERE, &param.ty)?;
+        let name = copied(env.alloc, &param.name)?;
+        made.push(ParamDef {
+            name,
+            ty,
+            by_ref: param.by_ref,
+        })?;
+    }
+    Ok(made)
+}
+
+/// A struct, with the types of its fields.
+pub fn struct_of(env: &Env, name: &Name, fields: &[Field]) -> Result<StructDef, Typing>
+    requires { IsEnv env.now }
+    ensures { Gives result (struct_of (context_of env.now) name.now fields.now) }
+{
+    let fields = fields_of(env, fields)?;
+    if !fields_distinct(fields.as_slice()) {
+        return Err(fault(Rule::Twice, NOWHERE));
+    }
+    let name = copied(env.alloc, name)?;
+    Ok(StructDef { name, fields })
+}
+
+/// What a function is to its callers.
+pub fn heading_of(env: &Env, item: &FunItem) -> Result<Heading, Typing>
+    requires { IsEnv env.now }
+    ensures { GivesHeading result (heading_of (context_of env.now) item.now) }
+{
+    let kind = kind_of(item.kind);
+    let returns = any_written(env, &item.result)?;
+    let params = params_of(env, item.params.as_slice())?;
+    if !may_be(kind, params.as_slice(), returns) {
+        return Err(fault(Rule::BadSignature, NOWHERE));
+    }
+    if !params_distinct(params.as_slice()) {
+        return Err(fault(Rule::Twice, NOWHERE));
+    }
+    let name = copied(env.alloc, &item.name)?;
+    Ok(Heading {
+        name,
+        kind,
+        result: returns,
+        params,
+    })
+}
+
+/// Whether the first may implement the second.
+pub fn may_implement(f: &Heading, g: &Heading) -> bool
+    ensures { result ≡ may_implement (signature f.now) (signature g.now) }
+{
+    !(is_generator(f.kind) || is_generator(g.kind))
+        && (same_params(f.params.as_slice(), g.params.as_slice())
+            && (same_result(f.result, g.result)
+                && !speaks_of_records(g.params.as_slice(), g.result)))
+}
