@@ -2,7 +2,7 @@
 use Rattle.std.specs.Prelude.{ℕ, ◌≡◌, Bool, true, false, List, Option}
 use Rattle.sk_base.specs.Stream.{Rose}
 use Rattle.sk_app.specs.declared.ending.Ending.{Ending}
-use Rattle.sk_app.specs.declared.ending.Ending.TheVariants.{Completed, NoCompletion, HelpShown, VersionShown, NotALine, NotText, ReadFault, WriteFault, TooLong, Memory, NotBuilt}
+use Rattle.sk_app.specs.declared.ending.Ending.TheVariants.{Completed, NoCompletion, HelpShown, VersionShown, ExecDone, ExecFailed, ExecSkipped, NotALine, NotText, ReadFault, WriteFault, TooLong, Memory, NotBuilt}
 use Rattle.sk_app.specs.declared.ending.TextFault.{TextFault}
 use Rattle.sk_app.specs.TextFaults.{IsSameFault}
 use Rattle.sk_app.specs.Streams.{Appends, AppendsPrefix}
@@ -25,6 +25,9 @@ writes_nothing Completed = false
 writes_nothing NoCompletion = false
 writes_nothing HelpShown = false
 writes_nothing VersionShown = false
+writes_nothing ExecDone = false
+writes_nothing (ExecFailed span) = false
+writes_nothing (ExecSkipped span) = false
 writes_nothing WriteFault = false
 writes_nothing _ = true
 

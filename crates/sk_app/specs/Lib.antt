@@ -21,6 +21,7 @@ pub mod Ends
 pub mod Help
 pub mod Lines
 pub mod Effects
+pub mod Executed
 pub mod Typing
 pub mod Filling
 pub mod Searching

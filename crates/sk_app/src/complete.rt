@@ -92,6 +92,28 @@ fn expanded_of(alloc: Global, tree: &Tree, bounds: &Bounds) -> Result<Option<Exp
     }
 }
 
+/// The expansion of an early tree that means a program, if it has few enough nodes to be taken.
+pub fn runnable_of(
+    alloc: Global,
+    tree: &Tree,
+    bounds: &Bounds,
+) -> Result<Option<Expanded>, AllocError>
+    requires { AreInRanges bounds.now }
+    ensures early { IfOk result (λ o. IfSome o (λ e. IsEarlyExpansion e bounds.now)) }
+{
+    match prog_of(alloc, tree, bounds)? {
+        Some(prog) => {
+            let expanded = expand_early(alloc, prog, bounds)?;
+            if is_within(&expanded.prog, MOST_NODES) {
+                Ok(Some(expanded))
+            } else {
+                Ok(None)
+            }
+        }
+        None => Ok(None),
+    }
+}
+
 /// What is built of a text with the options of a line: the expansion of one that is taken, or why there is none.
 fn built(alloc: Global, set: &Set, text: &[u8]) -> Result<Building, AllocError>
     requires short { length text.now ≤ most_bytes }

@@ -2,11 +2,11 @@
 
 ghost use Rattle.std.specs.Prelude.{◌≡◌, ◌++◌, codes, IfOk};
 ghost use Rattle.std.specs.Fmt.{decimal};
-ghost use Rattle.sk_texts.specs.Messages.{refusal_status, refusal_message};
+ghost use Rattle.sk_texts.specs.Messages.{refusal_status, refusal_message, NotRun};
 ghost use Rattle.sk_app.specs.declared.ending.TextFault.TheVariants.{Lex, Parse};
-ghost use Rattle.sk_app.specs.Ending.{text_refusal, status_of, message_of};
+ghost use Rattle.sk_app.specs.Ending.{text_refusal, exec_refusal, status_of, message_of};
 
-use sk_base::{Name, push_number};
+use sk_base::{Name, Span, push_number};
 use sk_lexer::LexFault;
 use sk_parser::ParseFault;
 use std::alloc::{AllocError, Global};
@@ -16,6 +16,21 @@ use std::alloc::{AllocError, Global};
 pub enum TextFault {
     Lex(LexFault),
     Parse(ParseFault),
+}
+
+/// Why a line `exec` runs no function.
+#[derive(Debug, Drop, Clone, Copy, PartialEq, Eq)]
+pub enum ExecFault {
+    /// No function of the text has the name.
+    NoFunction,
+    /// The program has an open part, or the function is a generator.
+    Unfilled,
+    /// The type of a parameter or of the result holds a reference.
+    References,
+    /// There are not as many values as parameters.
+    Count,
+    /// A value spells none of its parameter's type; all before it spell one.
+    Value { index: usize },
 }
 
 /// How `run` ends.
@@ -29,6 +44,14 @@ pub enum Ending {
     HelpShown,
     /// The sink got the version.
     VersionShown,
+    /// The run was done. The sink got its text, as it did in the next two cases.
+    ExecDone,
+    /// The run failed at the statement with this span.
+    ExecFailed { span: Span },
+    /// The run was skipped at the statement with this span.
+    ExecSkipped { span: Span },
+    /// No function was run.
+    NotRun(ExecFault),
     /// The words are no command line.
     NotALine,
     /// The text has no tokens, or these read as no tree.
@@ -51,7 +74,10 @@ pub fn status(ending: &Ending) -> u8
     ensures { result ≡ status_of ending.now }
 {
     match ending {
-        Ending::Completed | Ending::HelpShown | Ending::VersionShown => 0,
+        Ending::Completed | Ending::HelpShown | Ending::VersionShown | Ending::ExecDone => 0,
+        Ending::ExecFailed { span: _ } => 4,
+        Ending::ExecSkipped { span: _ } => 5,
+        Ending::NotRun(_) => 18,
         Ending::NoCompletion => 1,
         Ending::NotALine => 10,
         Ending::NotText(fault) => text_status(fault),
@@ -71,6 +97,10 @@ pub fn message(alloc: Global, ending: &Ending) -> Result<Name, AllocError>
         Ending::Completed | Ending::NoCompletion | Ending::HelpShown | Ending::VersionShown => {
             said(alloc, b"")
         }
+        Ending::ExecDone | Ending::ExecFailed { span: _ } | Ending::ExecSkipped { span: _ } => {
+            said(alloc, b"")
+        }
+        Ending::NotRun(fault) => exec_message(alloc, fault),
         Ending::NotALine => said(alloc, b"usage"),
         Ending::NotText(fault) => text_message(alloc, fault),
         Ending::ReadFault => said(alloc, b"read fault"),
@@ -89,6 +119,18 @@ fn text_status(fault: &TextFault) -> u8
         TextFault::Lex(LexFault::Memory) => 17,
         TextFault::Parse(ParseFault::Memory) => 17,
         _ => 11,
+    }
+}
+
+fn exec_message(alloc: Global, fault: &ExecFault) -> Result<Name, AllocError>
+    ensures { IfOk result (λ name. name ≡ refusal_message (NotRun (exec_refusal fault.now))) }
+{
+    match fault {
+        ExecFault::NoFunction => said(alloc, b"exec NoFunction"),
+        ExecFault::Unfilled => said(alloc, b"exec Unfilled"),
+        ExecFault::References => said(alloc, b"exec References"),
+        ExecFault::Count => said(alloc, b"exec Count"),
+        ExecFault::Value { index: _ } => said(alloc, b"exec Value"),
     }
 }
 

@@ -6,6 +6,7 @@ mod complete;
 mod early;
 mod early_rules;
 mod ending;
+mod executing;
 mod filling;
 mod help;
 pub mod laws;
@@ -19,5 +20,5 @@ mod tree;
 mod typing;
 
 pub use command::run;
-pub use ending::{Ending, TextFault, message, status};
+pub use ending::{Ending, ExecFault, TextFault, message, status};
 pub use std_streams::{StdSink, StdSource};
