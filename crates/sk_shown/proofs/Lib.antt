@@ -19,3 +19,4 @@ mod Inverted
 mod NamesBack
 mod MeansAgain
 mod PlacedAgain
+mod Bald
