@@ -1,6 +1,8 @@
 //! The program that a tree means.
 ghost use Rattle.std.specs.Prelude.{◌≡◌, not, ◌&&◌, ◌||◌, ◌↔◌, IsTrue, IfOk, IfErr, MatchResult};
 ghost use Rattle.std.specs.List.{list_any, list_all};
+ghost use Rattle.sk_tree.specs.Names.{all_names};
+ghost use Rattle.sk_prog.specs.Fits.{is_name, prog_fits};
 ghost use Rattle.sk_prog.specs.declared.prog.Fun.{Fun};
 ghost use Rattle.sk_prog.specs.declared.prog.ParamDef.{ParamDef};
 ghost use Rattle.sk_prog.specs.declared.prog.FieldDef.{FieldDef};
@@ -204,13 +206,15 @@ fn prog_of(alloc: Global, tree: &Tree, bounds: &Bounds) -> Result<Prog, Typing>
     }
 }
 
-/// The program that a tree means. A fault names the rule that is broken, and a span of the tree at which it is, or 0
+/// The program that a tree means. Where the names of the tree are words and no keywords, as those of a tree that is
+/// read are, the program is well-formed: its numbers name what is there. A fault names the rule that is broken, and a span of the tree at which it is, or 0
 /// to 0 where what breaks it has none.
 pub fn check(alloc: Global, tree: &Tree, bounds: &Bounds) -> Result<Prog, Typing>
     requires { IsWidth bounds.now }
     ensures found { IfOk result (λ prog. Types tree.now bounds.now prog) }
     ensures only { (prog : Prog) → Types tree.now bounds.now prog → MatchResult result (λ made. made ≡ prog) IsMemory }
     ensures fault { IfErr result (λ why. IsFault why → (prog : Prog) → Types tree.now bounds.now prog → ⊥) }
+    ensures fits { IfOk result (λ prog. IsTrue (all_names is_name tree.now) → IsTrue (prog_fits prog)) }
 {
     let meant = prog_of(alloc, tree, bounds)?;
     Ok(meant)

@@ -1,4 +1,5 @@
 use Rattle.std.proofs.lemmas.Result.{err_from_is_err_and}
+use Rattle.sk_fits.proofs.Whole.{well_formed}
 use Rattle.sk_program.proofs.CheckLaws.{is_meant, made_once, only_memory, no_program}
 use Rattle.sk_program.proofs.meant.check.Goals as goal
 
@@ -17,3 +18,6 @@ returns-clause-found c = is_meant c.args.bounds.now c.args.tree.now c.in_ok-mean
 
 pub returns-clause-only : goal.returns-clause-only
 returns-clause-only c = λ prog m. made_once c.args.bounds.now c.args.tree.now c.in_ok-meant.meant prog c.in_ok-meant.ensures m
+
+pub returns-clause-fits : goal.returns-clause-fits
+returns-clause-fits c = λ names. well_formed c.args.bounds.now c.args.tree.now c.in_ok-meant.meant names (is_meant c.args.bounds.now c.args.tree.now c.in_ok-meant.meant c.in_ok-meant.ensures)
