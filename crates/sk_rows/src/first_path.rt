@@ -190,7 +190,12 @@ fn takes_options(rt: HostRuntime) -> Result<(), Fail> {
             Ending::Completed,
             b"harness void f(int x) {\n    assert x * x == x;\n}\n//@ completion\n//@ value 0\n//@ holes\n",
         ),
-        (&["synth", "--bnd-inbits=16"], square, Ending::NoCompletion, none),
+        (
+            &["synth", "--bnd-inbits=16"],
+            square,
+            Ending::NoCompletion,
+            none,
+        ),
         (&["synth", "--bnd-inbits=8"], pair, Ending::NotBuilt, b""),
     ];
     for (line, text, ending, wanted) in rows {
