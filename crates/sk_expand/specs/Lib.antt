@@ -1,0 +1,4 @@
+pub mod Made
+pub mod Nodes
+pub mod Walking
+pub mod Whole

@@ -1,0 +1,17 @@
+//! The expansion of a typed program: each call of a generator is a call of a copy of its own, and each repeat holds its
+//! copies.
+#![tactic(auto)]
+
+mod building;
+mod copies;
+mod counting;
+mod fault;
+mod program;
+mod repeats;
+mod stop;
+#[cfg(test)]
+mod tests;
+mod walker;
+
+pub use fault::SizeFault;
+pub use program::expand;
