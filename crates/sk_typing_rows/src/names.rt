@@ -2,7 +2,7 @@
 use crate::text::{is_as_wanted, typed};
 use std::alloc::{AllocError, Global};
 
-const NAMES: [(&[u8], bool); 29] = [
+const NAMES: [(&[u8], bool); 35] = [
     (b"", true),
     (
         b"int f(int y) { int x = x + y; { int y = x * 2; x = y; } return x + y; } int x = 7;",
@@ -65,6 +65,21 @@ const NAMES: [(&[u8], bool); 29] = [
         true,
     ),
     (b"int if_(int else_) { return else_; }", true),
+    (b"int N = 1; bit f() { return N; }", false),
+    (b"int N = 1; int f() { return N + N; }", true),
+    (
+        b"struct T { T[2] n; int[2][2] g; } int f(T p) { return p.n[1].n[0].g[1][0]; }",
+        true,
+    ),
+    (
+        b"struct T { int[2][2] g; } int f(T p) { return p.g[1]; }",
+        false,
+    ),
+    (
+        b"struct T { int u; } void f(T[3] p) { p[1].u = 2; p[0] = p[1]; }",
+        true,
+    ),
+    (b"struct T { int u; } void f(T[3] p) { p.u = 2; }", false),
 ];
 
 const CALLS: [(&[u8], bool); 19] = [

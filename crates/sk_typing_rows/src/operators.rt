@@ -199,7 +199,7 @@ const CHOICE: [(&[u8], bool); 18] = [
     (b"int[3] y = b ? {1} : a;", true),
 ];
 
-const PLACES: [(&[u8], bool); 46] = [
+const PLACES: [(&[u8], bool); 60] = [
     (b"int y = b;", true),
     (b"bit y = x;", false),
     (b"bit y = 2;", false),
@@ -246,6 +246,20 @@ const PLACES: [(&[u8], bool); 46] = [
     (b"S y = new S(u = b, n = new S());", true),
     (b"S y = new S(u = v);", false),
     (b"int y = new S(u = 1).n.u + (p).u;", true),
+    (b"bit y = (1);", true),
+    (b"bit y = ((??));", true),
+    (b"int[3] y = (b);", false),
+    (b"S y = (null);", true),
+    (b"int[2] y = ({1, 1});", true),
+    (b"assert ??; assume 1; assert ~0;", true),
+    (b"assert 2;", false),
+    (b"assume x;", false),
+    (b"minimize(??); minimize(b); minimize(1);", true),
+    (b"minimize(v);", false),
+    (b"minimize(null);", false),
+    (b"if (0) x = 1; else while (??) x = 2;", true),
+    (b"return;", true),
+    (b"return x;", false),
 ];
 
 const ASSIGNMENTS: [(&[u8], bool); 24] = [
@@ -275,7 +289,7 @@ const ASSIGNMENTS: [(&[u8], bool); 24] = [
     (b"x -= b ? 1 : 2;", true),
 ];
 
-const PATTERNS: [(&[u8], bool); 32] = [
+const PATTERNS: [(&[u8], bool); 44] = [
     (b"int y = {| v | b | x |};", true),
     (b"bit[3] y = {| w | v |};", true),
     (b"bit[3] y = {| w |};", false),
@@ -308,6 +322,61 @@ const PATTERNS: [(&[u8], bool); 32] = [
     (b"{| x | a |} = a;", false),
     (b"{| p.z | g[0] | a |} = {1, 2};", true),
     (b"{| z | x + x |} = 1;", false),
+    (b"bit[3] y = {| ~0 |};", true),
+    (b"int y = {| ~0 |};", false),
+    (b"int y = {| 0 & 1 | 3 |};", true),
+    (b"int[2] y = {| {1} | {1, 2, 3} |};", true),
+    (b"int[2] y = {| {1, 2, 3} |};", false),
+    (b"int y = {| y | x + y |};", false),
+    (b"int y = {| y | x |};", true),
+    (b"int y = {| a[v] | a[0] |};", true),
+    (b"bit y = {| - x | ! b |};", true),
+    (b"int y = {| x << 1 |};", false),
+    (b"{| a[x] | a[b] |} = 1;", true),
+    (b"{| b | v[0] |} = {| x | 1 |};", true),
+];
+
+const JOINS: [(&[u8], bool); 18] = [
+    (b"int y = (b ? g : g[0])[2][1];", true),
+    (b"int y = (b ? g : a)[0][0];", false),
+    (b"int y = (b ? a : 1)[2];", true),
+    (b"int y = (b ? {1} : a)[0];", true),
+    (b"int y = (b ? 0 : 1)[0];", false),
+    (b"int y = (b ? p : null).u;", true),
+    (b"int y = (b ? null : p).n.u;", true),
+    (b"int y = (b ? ?? : x) + 1;", true),
+    (b"bit y = b < {| x |};", true),
+    (b"bit y = b < {| c |};", false),
+    (b"bit y = b == {| c |};", true),
+    (b"bit y = b == {| x |};", false),
+    (b"bit y = x == {| b |};", false),
+    (b"int y = b + {| c |};", false),
+    (b"bit y = b & {| c | x |};", true),
+    (b"bit[3] y = w | {| v |};", false),
+    (b"bit[3] y = {| w |} | w;", true),
+    (b"int[2][3] y = b ? g : g[0];", true),
+];
+
+const GRIDS: [(&[u8], bool); 19] = [
+    (b"S[2][2] y = {p};", true),
+    (b"S[2][2] y = {null};", false),
+    (b"S[2][2] y = {{null}};", true),
+    (b"S[2][2] y = p;", false),
+    (b"bit[2][2] y = {1, ??};", true),
+    (b"bit[2][2] y = ??;", false),
+    (b"bit[2][2] y = ~0;", false),
+    (b"bit[2][2] y = w;", true),
+    (b"bit[3][2] y = w;", false),
+    (b"bit[2][2] y; y = y & y;", false),
+    (b"bit[2][2] y; y = y + y;", false),
+    (b"bit[2][2] y; y = y << 1;", false),
+    (b"bit[2][2] y; y[1] = y[0] << 1 | w;", true),
+    (b"bit[2][2] y; b = y == y && y != y[0];", true),
+    (b"bit[2][2] y; b = y == w[0];", false),
+    (b"int[2][1] y = g[0::1];", true),
+    (b"int[2][3] y = g[0::4];", false),
+    (b"g[x][b] = g[1][0] + 1;", true),
+    (b"g[x][w] = 1;", false),
 ];
 
 // The statement in its function.
@@ -334,7 +403,7 @@ fn wrong(alloc: Global, rows: &[(&[u8], bool)]) -> Result<Vec<usize>, AllocError
 
 #[test]
 fn statements_keep_the_rules_of_types(rt: HostRuntime) -> Result<(), AllocError> {
-    let tables: [&[(&[u8], bool)]; 11] = [
+    let tables: [&[(&[u8], bool)]; 13] = [
         &ADDITION,
         &ARITHMETIC,
         &ORDER,
@@ -346,6 +415,8 @@ fn statements_keep_the_rules_of_types(rt: HostRuntime) -> Result<(), AllocError>
         &PLACES,
         &ASSIGNMENTS,
         &PATTERNS,
+        &JOINS,
+        &GRIDS,
     ];
     for rows in tables {
         let found = wrong(rt.alloc(), rows)?;
