@@ -1,0 +1,86 @@
+//! A text read and typed.
+use sk_base::{Bounds, List, Span};
+use sk_check::{Rule, TypeFault, Typing};
+use sk_lexer::{LexFault, tokens};
+use sk_parser::{ParseFault, parse};
+use sk_program::check;
+use sk_tree::{Token, Tree};
+use std::alloc::{AllocError, Global};
+
+const BOUNDS: Bounds = Bounds {
+    int_bits: 16,
+    cbits: 5,
+    inbits: 5,
+    unroll: 8,
+    inline_amnt: 5,
+};
+
+/// What becomes of a text.
+#[derive(Debug, Drop, Clone, Copy, PartialEq, Eq)]
+pub enum Outcome {
+    /// It reads, and keeps the rules of types.
+    Accepted,
+    /// It reads, and breaks this rule at a place in the text.
+    Breaks(Rule),
+    /// It reads, and breaks a rule at a place that is none in the text.
+    Astray,
+    /// It does not read.
+    Unread,
+}
+
+// The tokens of a text of at most 1,048,576 bytes, if it has them.
+fn divided(alloc: Global, text: &[u8]) -> Result<Option<List<Token>>, AllocError> {
+    if text.len() > 1_048_576 {
+        return Ok(None);
+    }
+    match tokens(alloc, text) {
+        Ok(found) => Ok(Some(found)),
+        Err(LexFault::Memory) => Err(AllocError),
+        Err(_) => Ok(None),
+    }
+}
+
+// A fault in a text of this length.
+fn refused(fault: TypeFault, length: usize) -> Outcome {
+    let Span { from, to } = fault.span;
+    if from <= to && to as usize <= length {
+        Outcome::Breaks(fault.rule)
+    } else {
+        Outcome::Astray
+    }
+}
+
+// What becomes of the tree of a text of this length.
+fn judged(alloc: Global, tree: &Tree, length: usize) -> Result<Outcome, AllocError> {
+    match check(alloc, tree, &BOUNDS) {
+        Ok(_) => Ok(Outcome::Accepted),
+        Err(Typing::Fault(fault)) => Ok(refused(fault, length)),
+        Err(Typing::Memory) => Err(AllocError),
+    }
+}
+
+// What becomes of the tokens of a text of this length.
+fn parsed(alloc: Global, tokens: &[Token], length: usize) -> Result<Outcome, AllocError> {
+    match parse(alloc, tokens) {
+        Ok(tree) => judged(alloc, &tree, length),
+        Err(ParseFault::Memory) => Err(AllocError),
+        Err(_) => Ok(Outcome::Unread),
+    }
+}
+
+/// What becomes of a text where `int` has 16 bits.
+pub fn typed(alloc: Global, text: &[u8]) -> Result<Outcome, AllocError> {
+    match divided(alloc, text)? {
+        Some(found) => parsed(alloc, found.as_slice(), text.len()),
+        None => Ok(Outcome::Unread),
+    }
+}
+
+/// Whether a text is accepted, or refused as it breaks a rule, as is wanted.
+pub fn is_as_wanted(found: Outcome, accepted: bool) -> bool {
+    match found {
+        Outcome::Accepted => accepted,
+        Outcome::Breaks(_) => !accepted,
+        _ => false,
+    }
+}
