@@ -30,7 +30,7 @@ const MOST_NODES: usize = 262_144;
 
 /// How deep statements and expressions may nest, over all copies that are walked one inside another. An expansion that needs
 /// more ends as by want of memory, before its stack does.
-const MOST_LEVELS: u32 = 1024;
+const MOST_LEVELS: u32 = 768;
 
 /// The program of an expansion, and how many of its functions are ordinary.
 #[derive(Drop)]
