@@ -5,7 +5,6 @@
 mod building;
 mod copies;
 mod counting;
-mod fault;
 mod program;
 mod repeats;
 mod stop;
@@ -13,5 +12,5 @@ mod stop;
 mod tests;
 mod walker;
 
-pub use fault::SizeFault;
 pub use program::expand;
+pub use sk_sizes::SizeFault;

@@ -8,14 +8,13 @@ ghost use Rattle.sk_expand.specs.Made.{Gives, GivesList};
 ghost use Rattle.sk_expand.specs.Nodes.{fun_nodes};
 ghost use Rattle.sk_expand.specs.Walking.{HasNumbers};
 ghost use Rattle.sk_expand.specs.Whole.{IsFunctions, IsWhole, HasCause, TooManyNodes, TooManySites, IsOrMemory};
-ghost use Rattle.sk_expand.specs.declared.fault.SizeFault.TheVariants.{Copies, Sites};
+ghost use Rattle.sk_sizes.specs.declared.fault.SizeFault.TheVariants.{Copies, Sites};
 ghost use Rattle.sk_copy.specs.Ranks.{ranks_from};
 ghost use Rattle.sk_sites.specs.Small.{AreSmall};
 
 use crate::building::Building;
 use crate::copies::{is_generator, ordinary};
 use crate::counting::take_consts;
-use crate::fault::SizeFault;
 use crate::stop::Stop;
 use crate::walker::Walker;
 use sk_base::{Bounds, List};
@@ -23,6 +22,7 @@ use sk_copy::{copy_consts, copy_structs, number_functions};
 use sk_model::Expanded;
 use sk_prog::{Fun, FunId, Prog};
 use sk_sites::{SitesFault, sites_of};
+use sk_sizes::SizeFault;
 use std::alloc::{AllocError, Global};
 
 /// How many nodes an expansion may have.

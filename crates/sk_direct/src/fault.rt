@@ -1,0 +1,16 @@
+//! Why no function of a text is run.
+
+/// Why no function of a text is run.
+#[derive(Debug, Drop, Clone, Copy, PartialEq, Eq)]
+pub enum ExecFault {
+    /// No function that the text declares has the name.
+    NoFunction,
+    /// The program has a site, or the function is a generator.
+    Unfilled,
+    /// A parameter or the result holds a reference.
+    References,
+    /// There are not as many values as parameters.
+    Count,
+    /// The value with this index, from 0, is the first that spells none of its parameter's type.
+    Value { index: usize },
+}

@@ -1,0 +1,78 @@
+//! The expansion of the program that a text means.
+
+ghost use Rattle.std.specs.Prelude.{◌≤◌, length, IfOk, IfErr, MatchResult};
+ghost use Rattle.sk_base.specs.declared.bounds.Bounds.{Bounds};
+ghost use Rattle.sk_opts.specs.Ranges.{IsInRanges};
+ghost use Rattle.sk_front.specs.Texts.{most_bytes};
+ghost use Rattle.sk_front.specs.Front.{Expands, ExpandsWithin, IsFaultOfExpansion, IsFaultOfSizes};
+
+use crate::fault::SketchFault;
+use crate::program::program_of;
+use sk_base::Bounds;
+use sk_expand::expand;
+use sk_model::Expanded;
+use sk_opts::Set;
+use sk_prog::Prog;
+use sk_sizes::{SizeFault, sizes};
+use sk_tree::Tree;
+use std::alloc::Global;
+
+/// The tree of a text, its bounds, the program that it means, and the expansion of that.
+#[derive(Drop)]
+pub struct Expansion {
+    pub tree: Tree,
+    pub bounds: Bounds,
+    pub prog: Prog,
+    pub expanded: Expanded,
+}
+
+/// The fault of a text, for a fault of sizes.
+fn too_large(fault: SizeFault) -> SketchFault {
+    match fault {
+        SizeFault::Memory => SketchFault::Memory,
+        fault => SketchFault::TooLarge(fault),
+    }
+}
+
+/// What a text expands to with the options of a line.
+///
+/// # Errors
+///
+/// As `program_of`; else `TooLarge(Copies)` where the expansion has more than 262,144 nodes, else `TooLarge(Sites)` where
+/// it has more than 4,096 sites.
+pub fn expansion_of(alloc: Global, set: &Set, text: &[u8]) -> Result<Expansion, SketchFault>
+    requires short { length text.now ≤ most_bytes }
+    requires set { IsInRanges set.now }
+    ensures found { IfOk result (Expands set.now text.now) }
+    ensures fault { IfErr result (IsFaultOfExpansion set.now text.now) }
+{
+    let typed = program_of(alloc, set, text)?;
+    match expand(alloc, &typed.prog, &typed.bounds) {
+        Ok(expanded) => Ok(Expansion {
+            tree: typed.tree,
+            bounds: typed.bounds,
+            prog: typed.prog,
+            expanded,
+        }),
+        Err(fault) => Err(too_large(fault)),
+    }
+}
+
+/// The same, with the work of its obligations within the limits.
+///
+/// # Errors
+///
+/// As `expansion_of`; else `TooLarge(Steps)` where the runs of all obligations may take more than 262,144 steps, else
+/// `TooLarge(News)` where the runs of one may make more than 256 records.
+pub fn sized_expansion_of(alloc: Global, set: &Set, text: &[u8]) -> Result<Expansion, SketchFault>
+    requires short { length text.now ≤ most_bytes }
+    requires set { IsInRanges set.now }
+    ensures found { IfOk result (ExpandsWithin set.now text.now) }
+    ensures fault { IfErr result (IsFaultOfSizes set.now text.now) }
+{
+    let expansion = expansion_of(alloc, set, text)?;
+    match sizes(alloc, &expansion.expanded, &expansion.bounds) {
+        Ok(_) => Ok(expansion),
+        Err(fault) => Err(too_large(fault)),
+    }
+}

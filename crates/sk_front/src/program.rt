@@ -1,0 +1,46 @@
+//! The program that a text means.
+
+ghost use Rattle.std.specs.Prelude.{◌≤◌, length, IfOk, IfErr};
+ghost use Rattle.sk_opts.specs.Ranges.{IsInRanges};
+ghost use Rattle.sk_front.specs.Texts.{most_bytes};
+ghost use Rattle.sk_front.specs.Front.{Means, IsFaultOfProgram};
+
+use crate::fault::SketchFault;
+use crate::tree::tree_of;
+use sk_base::Bounds;
+use sk_check::Typing;
+use sk_opts::{Set, bounds};
+use sk_prog::Prog;
+use sk_program::check;
+use sk_tree::Tree;
+use std::alloc::Global;
+
+/// The tree of a text, its bounds, and the program that it means.
+#[derive(Drop)]
+pub struct Typed {
+    pub tree: Tree,
+    pub bounds: Bounds,
+    pub prog: Prog,
+}
+
+/// What a text means with the options of a line: the one tree as which it reads, the bounds that the options and the
+/// pragmas of the tree give, and the one program that the tree means under them.
+///
+/// # Errors
+///
+/// `NotText` where the text reads as no tree, `NotTyped` where its tree means no program, `Memory` where memory is
+/// wanting.
+pub fn program_of(alloc: Global, set: &Set, text: &[u8]) -> Result<Typed, SketchFault>
+    requires short { length text.now ≤ most_bytes }
+    requires set { IsInRanges set.now }
+    ensures found { IfOk result (Means set.now text.now) }
+    ensures fault { IfErr result (IsFaultOfProgram set.now text.now) }
+{
+    let tree = tree_of(alloc, text)?;
+    let bounds = bounds(set, &tree);
+    match check(alloc, &tree, &bounds) {
+        Ok(prog) => Ok(Typed { tree, bounds, prog }),
+        Err(Typing::Fault(fault)) => Err(SketchFault::NotTyped(fault)),
+        Err(Typing::Memory) => Err(SketchFault::Memory),
+    }
+}
