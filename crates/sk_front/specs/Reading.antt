@@ -4,7 +4,7 @@ use Rattle.sk_tree.specs.declared.token.Token.{Token}
 use Rattle.sk_parser.specs.declared.fault.ParseFault.{ParseFault}
 use Rattle.sk_parser.specs.declared.fault.ParseFault.TheVariants as parse
 use Rattle.sk_parser.specs.Parses.{ReadsAsNone, ReadsWithTooMany, ReadsWithBad, greatest_end}
-use Rattle.sk_front.specs.declared.fault.TextFault.TheVariants.{Lex, Parse}
+use Rattle.sk_front.specs.declared.fault.TextFault.TheVariants.{Parse}
 use Rattle.sk_front.specs.declared.fault.SketchFault.{SketchFault}
 use Rattle.sk_front.specs.declared.fault.SketchFault.TheVariants as fault
 
