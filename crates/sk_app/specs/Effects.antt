@@ -6,7 +6,7 @@ use Rattle.sk_opts.specs.declared.line.Line.{Line}
 use Rattle.sk_opts.specs.declared.line.Line.TheVariants as line
 use Rattle.sk_opts.specs.CommandLine.{IsLine}
 use Rattle.sk_app.specs.declared.ending.Ending.{Ending}
-use Rattle.sk_app.specs.declared.ending.Ending.TheVariants.{Completed, NoCompletion, HelpShown, VersionShown, NotALine, ReadFault, WriteFault, Memory, NotBuilt}
+use Rattle.sk_app.specs.declared.ending.Ending.TheVariants.{Completed, NoCompletion, HelpShown, VersionShown, ExecDone, ExecFailed, ExecSkipped, NotALine, NotRun, ReadFault, WriteFault, Memory, NotBuilt}
 use Rattle.sk_app.specs.Streams.{TakesFew}
 use Rattle.sk_app.specs.ResultText.{IsCompletion, IsNone}
 use Rattle.sk_app.specs.Help.{help_text, version_text}
@@ -50,6 +50,10 @@ abbrev pub is_of_synth : Ending → Bool
 is_of_synth NotALine = false
 is_of_synth HelpShown = false
 is_of_synth VersionShown = false
+is_of_synth ExecDone = false
+is_of_synth (ExecFailed span) = false
+is_of_synth (ExecSkipped span) = false
+is_of_synth (NotRun fault) = false
 is_of_synth _ = true
 
 -- a text that a line `synth` writes

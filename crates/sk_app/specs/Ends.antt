@@ -2,7 +2,7 @@
 use Rattle.std.specs.Prelude.{ℕ, ◌≡◌, ◌<◌, ◌≤◌, length, Bool, true, false, List, Option}
 use Rattle.sk_base.specs.Stream.{Rose}
 use Rattle.sk_app.specs.declared.ending.Ending.{Ending}
-use Rattle.sk_app.specs.declared.ending.Ending.TheVariants.{Completed, NoCompletion, HelpShown, VersionShown, NotALine, NotText, NotTyped, TooLarge, ReadFault, WriteFault, TooLong, Memory, NotBuilt}
+use Rattle.sk_app.specs.declared.ending.Ending.TheVariants.{Completed, NoCompletion, HelpShown, VersionShown, ExecDone, ExecFailed, ExecSkipped, NotALine, NotText, NotTyped, TooLarge, ReadFault, WriteFault, TooLong, Memory, NotBuilt}
 use Rattle.sk_front.specs.declared.fault.TextFault.{TextFault}
 use Rattle.sk_front.specs.Texts.{most_bytes, IsTextFault, IsSameFault}
 use Rattle.sk_front.specs.Front.{IsUntyped, IsTooLarge}
@@ -29,6 +29,9 @@ writes_nothing Completed = false
 writes_nothing NoCompletion = false
 writes_nothing HelpShown = false
 writes_nothing VersionShown = false
+writes_nothing ExecDone = false
+writes_nothing (ExecFailed span) = false
+writes_nothing (ExecSkipped span) = false
 writes_nothing WriteFault = false
 writes_nothing _ = true
 

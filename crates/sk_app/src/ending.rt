@@ -4,10 +4,11 @@ ghost use Rattle.std.specs.Prelude.{◌≡◌, ◌++◌, codes, IfOk, OnOk};
 ghost use Rattle.std.specs.Fmt.{decimal};
 ghost use Rattle.sk_texts.specs.Messages.{rule_number, refusal_status, refusal_message};
 ghost use Rattle.sk_front.specs.declared.fault.TextFault.TheVariants.{Lex, Parse};
-ghost use Rattle.sk_app.specs.Ending.{text_refusal, rule_of, type_refusal, size_refusal, status_of, message_of};
+ghost use Rattle.sk_app.specs.Ending.{text_refusal, rule_of, type_refusal, size_refusal, exec_refusal, status_of, message_of};
 
-use sk_base::{Name, push_number};
+use sk_base::{Name, Span, push_number};
 use sk_check::{Rule, TypeFault};
+use sk_direct::ExecFault;
 use sk_front::TextFault;
 use sk_lexer::LexFault;
 use sk_parser::ParseFault;
@@ -25,6 +26,12 @@ pub enum Ending {
     HelpShown,
     /// The sink got the version.
     VersionShown,
+    /// The function was run to its end. The sink got what it gives.
+    ExecDone,
+    /// The run of the function failed at these bytes. The sink got a line that says so.
+    ExecFailed { span: Span },
+    /// The run was skipped there. The sink got a line that says so.
+    ExecSkipped { span: Span },
     /// The words are no command line.
     NotALine,
     /// The text has no tokens, or these read as no tree.
@@ -33,6 +40,8 @@ pub enum Ending {
     NotTyped(TypeFault),
     /// The expansion of its program is too large.
     TooLarge(SizeFault),
+    /// No function of the text is run, for this reason.
+    NotRun(ExecFault),
     /// The source failed.
     ReadFault,
     /// The sink failed. It may hold a prefix of the result text.
@@ -51,12 +60,15 @@ pub fn status(ending: &Ending) -> u8
     ensures { result ≡ status_of ending.now }
 {
     match ending {
-        Ending::Completed | Ending::HelpShown | Ending::VersionShown => 0,
+        Ending::Completed | Ending::HelpShown | Ending::VersionShown | Ending::ExecDone => 0,
         Ending::NoCompletion => 1,
+        Ending::ExecFailed { span: _ } => 4,
+        Ending::ExecSkipped { span: _ } => 5,
         Ending::NotALine => 10,
         Ending::NotText(fault) => text_status(fault),
         Ending::NotTyped(_) => 12,
         Ending::TooLarge(reason) => size_status(*reason),
+        Ending::NotRun(_) => 18,
         Ending::ReadFault => 14,
         Ending::WriteFault => 15,
         Ending::TooLong => 16,
@@ -73,10 +85,14 @@ pub fn message(alloc: Global, ending: &Ending) -> Result<Name, AllocError>
         Ending::Completed | Ending::NoCompletion | Ending::HelpShown | Ending::VersionShown => {
             said(alloc, b"")
         }
+        Ending::ExecDone | Ending::ExecFailed { span: _ } | Ending::ExecSkipped { span: _ } => {
+            said(alloc, b"")
+        }
         Ending::NotALine => said(alloc, b"usage"),
         Ending::NotText(fault) => text_message(alloc, fault),
         Ending::NotTyped(fault) => type_message(alloc, fault),
         Ending::TooLarge(reason) => size_message(alloc, *reason),
+        Ending::NotRun(fault) => exec_message(alloc, fault),
         Ending::ReadFault => said(alloc, b"read fault"),
         Ending::WriteFault => said(alloc, b"write fault"),
         Ending::TooLong => said(alloc, b"too long"),
@@ -194,6 +210,27 @@ fn said(alloc: Global, words: &[u8]) -> Result<Name, AllocError>
 {
     let name = Name::from_slice(alloc, words)?;
     Ok(name)
+}
+
+fn exec_message(alloc: Global, fault: &ExecFault) -> Result<Name, AllocError>
+    ensures { IfOk result (λ name. name ≡ refusal_message (exec_refusal fault.now)) }
+{
+    match fault {
+        ExecFault::NoFunction => unrun(alloc, b"NoFunction"),
+        ExecFault::Unfilled => unrun(alloc, b"Unfilled"),
+        ExecFault::References => unrun(alloc, b"References"),
+        ExecFault::Count => unrun(alloc, b"Count"),
+        ExecFault::Value { index: _ } => unrun(alloc, b"Value"),
+    }
+}
+
+// The name of a reason for which no function is run.
+fn unrun(alloc: Global, name: &[u8]) -> Result<Name, AllocError>
+    ensures { IfOk result (λ text. text ≡ codes "exec " ++ name.now) }
+{
+    let mut out = Vec::from_slice(alloc, b"exec ")?;
+    out.extend_from_slice(name)?;
+    Ok(Name::from_vec(out))
 }
 
 // The name of a size that is passed, and its limit.

@@ -2,6 +2,7 @@
 use sk_app::{Ending, TextFault, message, run, status};
 use sk_base::{CalmSink, CalmSource, List, MemSink, MemSource, Span};
 use sk_check::{Rule, TypeFault};
+use sk_direct::ExecFault;
 use sk_lexer::LexFault;
 use sk_parser::ParseFault;
 use sk_sizes::SizeFault;
@@ -331,11 +332,15 @@ fn names_each_ending(rt: HostRuntime) -> Result<(), Fail> {
         rule: Rule::HoleWidth,
         span: Span { from: 7, to: 1024 },
     });
-    let rows: [(Ending, u8, &[u8]); 17] = [
+    let span = Span { from: 3, to: 9 };
+    let rows: [(Ending, u8, &[u8]); 22] = [
         (Ending::Completed, 0, b""),
         (Ending::NoCompletion, 1, b""),
         (Ending::HelpShown, 0, b""),
         (Ending::VersionShown, 0, b""),
+        (Ending::ExecDone, 0, b""),
+        (Ending::ExecFailed { span }, 4, b""),
+        (Ending::ExecSkipped { span }, 5, b""),
         (Ending::NotALine, 10, b"usage"),
         (lexed, 11, b"text OpenString 15"),
         (parsed, 11, b"text NoReading 1048576"),
@@ -348,6 +353,16 @@ fn names_each_ending(rt: HostRuntime) -> Result<(), Fail> {
         (Ending::TooLarge(SizeFault::Sites), 13, b"size Sites 4096"),
         (Ending::TooLarge(SizeFault::Steps), 13, b"size Steps 262144"),
         (Ending::TooLarge(SizeFault::News), 13, b"size News 256"),
+        (
+            Ending::NotRun(ExecFault::NoFunction),
+            18,
+            b"exec NoFunction",
+        ),
+        (
+            Ending::NotRun(ExecFault::Value { index: 2 }),
+            18,
+            b"exec Value",
+        ),
         (Ending::ReadFault, 14, b"read fault"),
         (Ending::WriteFault, 15, b"write fault"),
         (Ending::TooLong, 16, b"too long"),
