@@ -35,8 +35,8 @@ use Rattle.sk_types.specs.Types as whole_types
 use Rattle.sk_types.specs.Types.{HasType, Wanted}
 use Rattle.sk_types.proofs.SortLaws.{form_sort, field_sort, form_sort_is, sort_is}
 use Rattle.sk_types.proofs.Layers as whole_layers
-use Rattle.sk_app.specs.declared.early_rules.Class.{Class as EarlyClass}
-use Rattle.sk_app.specs.declared.early_rules.Class.TheVariants.{Plus, Arithmetic, Order, Equality, Bitwise, Special}
+use Rattle.sk_app.specs.EarlyRules.{Class as EarlyClass}
+use Rattle.sk_app.specs.EarlyRules.{Plus, Arithmetic, Order, Equality, Bitwise, Special}
 use Rattle.sk_app.specs.EarlyRules.{class_of, operand, loose_takes, result_of, result_own, hole_takes}
 use Rattle.sk_app.specs.EarlyTypes.{EFormRule, MeansOperation, Means, eform_own, operation_own, name_own, own}
 use Rattle.sk_app.specs.Early.{Rank, Operand, Sum, Equation, Other, is_sum, of_operands, of_sums, eform_rank, rank, poperator_rank}

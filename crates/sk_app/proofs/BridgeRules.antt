@@ -11,8 +11,8 @@ use Rattle.sk_types.specs.declared.rules.Class.{Class}
 use Rattle.sk_types.specs.declared.rules.Class.TheVariants as whole_class
 use Rattle.sk_types.specs.Rules as whole
 use Rattle.sk_types.specs.Types as whole_types
-use Rattle.sk_app.specs.declared.early_rules.Class.{Class as EarlyClass}
-use Rattle.sk_app.specs.declared.early_rules.Class.TheVariants.{Plus, Arithmetic, Order, Equality, Bitwise, Special}
+use Rattle.sk_app.specs.EarlyRules.{Class as EarlyClass}
+use Rattle.sk_app.specs.EarlyRules.{Plus, Arithmetic, Order, Equality, Bitwise, Special}
 use Rattle.sk_app.specs.EarlyRules.{joined, join, taken_as, joined_as, both_loose, operand, loose_takes, result_of, result_own, hole_takes}
 use Rattle.sk_types.specs.Types.{Wanted, HasType}
 use Rattle.sk_app.proofs.TypingLaws.{ty_same}

@@ -33,8 +33,8 @@ use Rattle.sk_prog.specs.declared.prog.ParamDef.{ParamDef}
 use Rattle.sk_prog.specs.declared.prog.Fun.{Fun}
 use Rattle.sk_prog.specs.declared.prog.Prog.{Prog}
 use Rattle.sk_prog.specs.Fits.{ty_fits, any_ty_fits, eform_fits, layer_fits, pfield_fits, expr_fits, any_expr_fits, form_fits, stmt_fits, struct_fits, const_fits, param_fits, implements_fits, fun_fits, prog_fits}
-use Rattle.sk_app.specs.declared.early_rules.Class.{Class}
-use Rattle.sk_app.specs.declared.early_rules.Class.TheVariants as class
+use Rattle.sk_app.specs.EarlyRules.{Class}
+use Rattle.sk_app.specs.EarlyRules as class
 use Rattle.sk_types.specs.declared.scope.Variable.{Variable}
 use Rattle.sk_types.specs.Rules.{bit, number_takes, in_range}
 use Rattle.sk_app.specs.EarlyRules.{class_of, result_of, hole_takes}

@@ -13,18 +13,21 @@ use Rattle.sk_opts.specs.CommandLine.{IsLine}
 use Rattle.sk_opts.proofs.LineLaws.{lines_are_one}
 use Rattle.sk_app.specs.declared.ending.Ending.{Ending}
 use Rattle.sk_app.specs.declared.ending.Ending.TheVariants as ending
-use Rattle.sk_app.specs.declared.ending.TextFault.{TextFault}
-use Rattle.sk_app.specs.TextFaults.{IsTextFault}
-use Rattle.sk_app.specs.Streams.{Appends, AppendsPrefix, TakesFew, most_bytes}
-use Rattle.sk_app.specs.Built.{IsBuilt}
+use Rattle.sk_check.specs.declared.fault.TypeFault.{TypeFault}
+use Rattle.sk_sizes.specs.declared.fault.SizeFault.{SizeFault}
+use Rattle.sk_front.specs.declared.fault.TextFault.{TextFault}
+use Rattle.sk_front.specs.Front.{IsUntyped, IsTooLarge}
+use Rattle.sk_front.specs.Texts.{most_bytes, IsTextFault}
+use Rattle.sk_app.specs.Streams.{Appends, AppendsPrefix, TakesFew}
+use Rattle.sk_app.specs.Built.{IsBuilt, IsNotBuilt}
 use Rattle.sk_app.specs.ResultText.{IsCompletion, IsNone}
-use Rattle.sk_app.specs.Prepared.{IsNotBuilt}
 use Rattle.sk_app.specs.Help.{help_text, version_text}
 use Rattle.sk_app.specs.Lines.{IsNoLine, IsSynth, ForSynth, is_unbuilt, IsUnbuiltLine}
-use Rattle.sk_app.specs.Ends.{delivered, cut, no_room, Writes, WritesPart, writes_nothing, EndsBuilt, EndsFaulty, EndsLong, EndsUnbuilt, EndsNoLine, EndsUnbuiltLine, EndsHelp, EndsVersion}
+use Rattle.sk_app.specs.Ends.{delivered, cut, no_room, Writes, WritesPart, writes_nothing, IsToldOf, EndsBuilt, EndsFaulty, EndsUntyped, EndsLarge, EndsLong, EndsUnbuilt, EndsNoLine, EndsUnbuiltLine, EndsHelp, EndsVersion}
 use Rattle.sk_app.specs.Effects.{Effect, ReadsNothing, DoesNothing, IsRefused, IsShown, is_of_synth, IsResult, Synthesises, Serves, Answers, no_line, served, no_memory, IsOutput}
 use Rattle.sk_app.specs.Effects as output
 use Rattle.sk_app.proofs.StreamLemmas.{front-nil}
+use Rattle.sk_app.proofs.ToldLaws as by
 
 every : (left : Option (List ℕ)) (P : List ℕ → Type 0) → ((text : List ℕ) → P text) → IfSome left P
 every None P h = tt
@@ -42,6 +45,8 @@ abbrev is_synth_alone : Ending → Bool
 is_synth_alone ending.Completed = true
 is_synth_alone ending.NoCompletion = true
 is_synth_alone (ending.NotText fault) = true
+is_synth_alone (ending.NotTyped fault) = true
+is_synth_alone (ending.TooLarge reason) = true
 is_synth_alone ending.ReadFault = true
 is_synth_alone ending.TooLong = true
 is_synth_alone _ = false
@@ -92,6 +97,10 @@ module _ (words : List (List ℕ)) (r : Ending) (f : Effect) where
   synth_not : (set : Set) (x : Ending) → Synthesises set r f → is_of_synth x ≡ false → r ≡ x → ⊥
   synth_not set x s b e = false≢true (sym b ∙ ap is_of_synth (sym e) ∙ s.ends)
 
+  -- what is told of the text with this ending
+  told_as : (set : Set) → Synthesises set r f → (x : Ending) (P : List ℕ → Type 0) → ((text : List ℕ) → IsToldOf set text x f.read_faults_old f.read_faults_new f.write_faults_old f.write_faults_new → P text) → r ≡ x → IfSome f.left_old P
+  told_as set s x P k e = mapped f.left_old (λ text. IsToldOf set text r f.read_faults_old f.read_faults_new f.write_faults_old f.write_faults_new) P (λ text h. k text (subst (λ y. IsToldOf set text y f.read_faults_old f.read_faults_new f.write_faults_old f.write_faults_new) e h)) s.told
+
   -- Clauses that follow from the ending
 
   not_a_line_of : Kind → r ≡ ending.NotALine → IsNoLine words
@@ -139,7 +148,7 @@ module _ (words : List (List ℕ)) (r : Ending) (f : Effect) where
   not_built_of : Kind → r ≡ ending.NotBuilt → IsUnbuiltLine words ⊎ ForSynth words (λ set. IfSome f.left_old (IsNotBuilt set))
   not_built_of (of_none n s) e = let q = sym s.is ∙ e in cc
   not_built_of (of_unbuilt u s) e = inl u
-  not_built_of (of_synth set h s) e = inr (record { set = set; is = h; holds = s.not_built e })
+  not_built_of (of_synth set h s) e = inr (record { set = set; is = h; holds = told_as set s ending.NotBuilt (IsNotBuilt set) (λ text h. h) e })
   not_built_of (of_help h s) e = absurd (shown_not help_text ending.HelpShown s ending.NotBuilt (λ q. cc) (λ q. cc) (λ q. cc) e)
   not_built_of (of_version h s) e = absurd (shown_not version_text ending.VersionShown s ending.NotBuilt (λ q. cc) (λ q. cc) (λ q. cc) e)
   not_built_of (of_memory s) e = let q = sym s.is ∙ e in cc
@@ -284,13 +293,19 @@ module _ {words : List (List ℕ)} {r : Ending} {f : Effect} (a : Answers words 
   version = version_of words r f the
 
   pub not_text : (fault : TextFault) → r ≡ ending.NotText fault → IfSome f.left_old (IsTextFault fault)
-  not_text fault e = let s = synth_of words r f (ending.NotText fault) refl the e in (s.holds).not_text fault e
+  not_text fault e = let s = synth_of words r f (ending.NotText fault) refl the e in told_as words r f s.set s.holds (ending.NotText fault) (IsTextFault fault) (λ text h. h.1) e
+
+  pub not_typed : (fault : TypeFault) → r ≡ ending.NotTyped fault → ForSynth words (λ set. IfSome f.left_old (IsUntyped set))
+  not_typed fault e = let s = synth_of words r f (ending.NotTyped fault) refl the e in record { set = s.set; is = s.is; holds = told_as words r f s.set s.holds (ending.NotTyped fault) (IsUntyped s.set) (λ text h. h.1) e }
+
+  pub too_large : (reason : SizeFault) → r ≡ ending.TooLarge reason → ForSynth words (λ set. IfSome f.left_old (λ text. IsTooLarge set text reason))
+  too_large reason e = let s = synth_of words r f (ending.TooLarge reason) refl the e in record { set = s.set; is = s.is; holds = told_as words r f s.set s.holds (ending.TooLarge reason) (λ text. IsTooLarge s.set text reason) (λ text h. h) e }
 
   pub not_built : r ≡ ending.NotBuilt → IsUnbuiltLine words ⊎ ForSynth words (λ set. IfSome f.left_old (IsNotBuilt set))
   not_built = not_built_of words r f the
 
   pub too_long : r ≡ ending.TooLong → IfSome f.left_old (λ text. most_bytes < length text)
-  too_long e = let s = synth_of words r f ending.TooLong refl the e in (s.holds).too_long e
+  too_long e = let s = synth_of words r f ending.TooLong refl the e in told_as words r f s.set s.holds ending.TooLong (λ text. most_bytes < length text) (λ text h. h) e
 
   pub read_fault : r ≡ ending.ReadFault → Rose f.read_faults_old f.read_faults_new
   read_fault e = let s = synth_of words r f ending.ReadFault refl the e in (s.holds).read_fault e
@@ -328,29 +343,27 @@ module _ {words : List (List ℕ)} {r : Ending} {f : Effect} (a : Answers words 
   pub ends_version : IsLine words line.Version → EndsVersion r f.write_faults_old f.write_faults_new
   ends_version = ends_version_of words r f the
 
-  abbrev Built : Set → List ℕ → Type 0
-  Built set text = (bounds : Bounds) (e : Expanded) → IsBuilt set text bounds e → EndsBuilt r f.read_faults_old f.read_faults_new f.write_faults_old f.write_faults_new
+  -- what follows for a line `synth` from what is told of its text; of want of memory that is nothing
+  for_text : (P : Set → List ℕ → Type 0) → ((set : Set) (text : List ℕ) → IsToldOf set text r f.read_faults_old f.read_faults_new f.write_faults_old f.write_faults_new → P set text) → (set : Set) → IsSynth words set → IfSome f.left_old (P set)
+  for_text P k = for_synth words r f (λ set. IfSome f.left_old (P set)) (λ set s. mapped f.left_old (λ text. IsToldOf set text r f.read_faults_old f.read_faults_new f.write_faults_old f.write_faults_new) (P set) (k set) s.told) (λ set m. every f.left_old (P set) (λ text. k set text (subst (λ x. IsToldOf set text x f.read_faults_old f.read_faults_new f.write_faults_old f.write_faults_new) (sym m) tt))) the
 
   pub ends_built : (set : Set) → IsSynth words set → IfSome f.left_old (λ text. (bounds : Bounds) (e : Expanded) → IsBuilt set text bounds e → EndsBuilt r f.read_faults_old f.read_faults_new f.write_faults_old f.write_faults_new)
-  ends_built = for_synth words r f (λ set. IfSome f.left_old (Built set)) (λ set s. s.ends_built) (λ set m. every f.left_old (Built set) (λ text b e is. subst (λ x. EndsBuilt x f.read_faults_old f.read_faults_new f.write_faults_old f.write_faults_new) (sym m) tt)) the
-
-  abbrev Faulty : List ℕ → Type 0
-  Faulty text = length text ≤ most_bytes → (fault : TextFault) → IsTextFault fault text → EndsFaulty fault r f.read_faults_old f.read_faults_new
+  ends_built = for_text (λ set text. (bounds : Bounds) (e : Expanded) → IsBuilt set text bounds e → EndsBuilt r f.read_faults_old f.read_faults_new f.write_faults_old f.write_faults_new) (λ set text. by.ends_built set text f.read_faults_old f.read_faults_new f.write_faults_old f.write_faults_new r)
 
   pub ends_faulty : (set : Set) → IsSynth words set → IfSome f.left_old (λ text. length text ≤ most_bytes → (fault : TextFault) → IsTextFault fault text → EndsFaulty fault r f.read_faults_old f.read_faults_new)
-  ends_faulty = for_synth words r f (λ set. IfSome f.left_old Faulty) (λ set s. s.ends_faulty) (λ set m. every f.left_old Faulty (λ text short fault is. subst (λ x. EndsFaulty fault x f.read_faults_old f.read_faults_new) (sym m) tt)) the
+  ends_faulty = for_text (λ set text. length text ≤ most_bytes → (fault : TextFault) → IsTextFault fault text → EndsFaulty fault r f.read_faults_old f.read_faults_new) (λ set text. by.ends_faulty set text f.read_faults_old f.read_faults_new f.write_faults_old f.write_faults_new r)
 
-  abbrev Unbuilt : Set → List ℕ → Type 0
-  Unbuilt set text = length text ≤ most_bytes → IsNotBuilt set text → EndsUnbuilt r f.read_faults_old f.read_faults_new
+  pub ends_untyped : (set : Set) → IsSynth words set → IfSome f.left_old (λ text. length text ≤ most_bytes → IsUntyped set text → EndsUntyped r f.read_faults_old f.read_faults_new)
+  ends_untyped = for_text (λ set text. length text ≤ most_bytes → IsUntyped set text → EndsUntyped r f.read_faults_old f.read_faults_new) (λ set text. by.ends_untyped set text f.read_faults_old f.read_faults_new f.write_faults_old f.write_faults_new r)
 
-  pub ends_unbuilt : (set : Set) → IsSynth words set → IfSome f.left_old (λ text. length text ≤ most_bytes → IsNotBuilt set text → EndsUnbuilt r f.read_faults_old f.read_faults_new)
-  ends_unbuilt = for_synth words r f (λ set. IfSome f.left_old (Unbuilt set)) (λ set s. s.ends_unbuilt) (λ set m. every f.left_old (Unbuilt set) (λ text short is. subst (λ x. EndsUnbuilt x f.read_faults_old f.read_faults_new) (sym m) tt)) the
+  pub ends_large : (set : Set) → IsSynth words set → IfSome f.left_old (λ text. (reason : SizeFault) → IsTooLarge set text reason → EndsLarge reason r f.read_faults_old f.read_faults_new)
+  ends_large = for_text (λ set text. (reason : SizeFault) → IsTooLarge set text reason → EndsLarge reason r f.read_faults_old f.read_faults_new) (λ set text. by.ends_large set text f.read_faults_old f.read_faults_new f.write_faults_old f.write_faults_new r)
 
-  abbrev Long : List ℕ → Type 0
-  Long text = most_bytes < length text → EndsLong r f.read_faults_old f.read_faults_new
+  pub ends_unbuilt : (set : Set) → IsSynth words set → IfSome f.left_old (λ text. IsNotBuilt set text → EndsUnbuilt r f.read_faults_old f.read_faults_new)
+  ends_unbuilt = for_text (λ set text. IsNotBuilt set text → EndsUnbuilt r f.read_faults_old f.read_faults_new) (λ set text. by.ends_unbuilt set text f.read_faults_old f.read_faults_new f.write_faults_old f.write_faults_new r)
 
   pub ends_long : (set : Set) → IsSynth words set → IfSome f.left_old (λ text. most_bytes < length text → EndsLong r f.read_faults_old f.read_faults_new)
-  ends_long = for_synth words r f (λ set. IfSome f.left_old Long) (λ set s. s.ends_long) (λ set m. every f.left_old Long (λ text long. subst (λ x. EndsLong x f.read_faults_old f.read_faults_new) (sym m) tt)) the
+  ends_long = for_text (λ set text. most_bytes < length text → EndsLong r f.read_faults_old f.read_faults_new) (λ set text. by.ends_long set text f.read_faults_old f.read_faults_new f.write_faults_old f.write_faults_new r)
 
 -- a call for a line `synth` without a certificate
 pub serves_synth : (l : Line) (set : Set) (budget : Budget) (r : Ending) (f : Effect) → l ≡ line.Synth set budget false → Synthesises set r f → Serves l r f

@@ -1,79 +1,92 @@
--- Which endings there are for a text that is taken, and for one that is not.
-use Rattle.std.proofs.Common.{ℕ, List, Option, Some, None, IfSome, ◌≤◌, ◌≡◌, length, subst, ap, ◌∙◌}
+-- What the endings of a line `synth` tell of its text.
+use Rattle.std.proofs.Common.{ℕ, List, Option, Some, None, ◌≤◌, ◌≡◌, length, inl, inr, sym, subst, ap, ◌∙◌}
+use Rattle.std.specs.Prelude.{IfSome}
 use Rattle.std.specs.declared.alloc.Global.{Global}
 use Rattle.std.specs.declared.vec.Vec.{Vec}
-use Rattle.sk_base.specs.declared.bounds.Bounds.{Bounds}
+use Rattle.sk_base.specs.Stream.{Rose}
+use Rattle.sk_check.specs.declared.fault.TypeFault.{TypeFault}
+use Rattle.sk_sizes.specs.declared.fault.SizeFault.{SizeFault}
 use Rattle.sk_opts.specs.declared.line.Set.{Set}
+use Rattle.sk_front.specs.declared.fault.TextFault.{TextFault}
+use Rattle.sk_front.specs.Texts.{most_bytes, IsTextFault}
+use Rattle.sk_front.specs.Front.{IsUntyped, IsTooLarge}
 use Rattle.sk_app.specs.declared.prepare.Found.{Found}
 use Rattle.sk_app.specs.declared.prepare.Found.TheVariants as found
 use Rattle.sk_app.specs.declared.prepare.Prepared.{Prepared}
 use Rattle.sk_app.specs.declared.prepare.Prepared.TheVariants as prepared
-use Rattle.sk_app.specs.declared.ending.TextFault.{TextFault}
+use Rattle.sk_app.specs.declared.ending.Ending.{Ending}
 use Rattle.sk_app.specs.declared.ending.Ending.TheVariants as ending
-use Rattle.sk_model.specs.declared.expanded.Expanded.{Expanded}
-use Rattle.sk_app.specs.Streams.{most_bytes}
-use Rattle.sk_app.specs.Built.{IsBuilt}
-use Rattle.sk_app.specs.TextFaults.{HasTree, IsTextFault, IsSameFault}
-use Rattle.sk_app.specs.Prepared.{IsNotBuilt, Finds, IsPrepared}
-use Rattle.sk_app.proofs.TextFaultLaws.{early_tree, no_fault, same_fault}
+use Rattle.sk_app.specs.Built.{IsTaken, IsNotBuilt}
+use Rattle.sk_app.specs.Prepared.{Finds, IsPrepared}
+use Rattle.sk_app.specs.Streams.{AppendsPrefix}
+use Rattle.sk_app.specs.Ends.{IsDelivered, delivered, cut, no_room, WritesPart, IsToldOf}
+use Rattle.sk_app.specs.Effects.{IsResult}
 
 module _ (set : Set) where
+  -- what was found of the text is what the ending tells of it
+
+  pub told_not_text : (left : Option (List ℕ)) (fault : TextFault) → IfSome left (Finds set (found.NotText fault)) → IfSome left (λ text. (length text ≤ most_bytes) × IsTextFault fault text)
+  told_not_text None fault h = tt
+  told_not_text (Some text) fault h = (h.short, h.found)
+
+  pub told_not_typed : (left : Option (List ℕ)) (fault : TypeFault) → IfSome left (Finds set (found.NotTyped fault)) → IfSome left (λ text. (length text ≤ most_bytes) × IsUntyped set text)
+  told_not_typed None fault h = tt
+  told_not_typed (Some text) fault h = (h.short, h.found)
+
+  pub told_too_large : (left : Option (List ℕ)) (reason : SizeFault) → IfSome left (Finds set (found.TooLarge reason)) → IfSome left (λ text. IsTooLarge set text reason)
+  told_too_large None reason h = tt
+  told_too_large (Some text) reason h = h.found
+
+  pub told_not_built : (left : Option (List ℕ)) → IfSome left (Finds set found.NotBuilt) → IfSome left (IsNotBuilt set)
+  told_not_built None h = tt
+  told_not_built (Some text) h = h.found
+
+  -- a prefix of a result text that was cut off
+
+  cut_off : (r done : Ending) (out : List ℕ) (c d : ℕ) (old new : Option (List ℕ)) → (done ≡ ending.WriteFault → ⊥) → (ending.Memory ≡ ending.WriteFault → ⊥) → IsDelivered r done out c d old new → r ≡ ending.WriteFault → AppendsPrefix out old new
+  cut_off r done out c d old new x y h e = elim h [ delivered is w ↦ absurd (x (sym is ∙ e)) | cut is w ↦ w.appends | no_room is same ↦ absurd (y (sym is ∙ e)) ]
+
+  pub part_of_nothing : (left : Option (List ℕ)) (out : Vec ℕ Global) (bytes : List ℕ) (r : Ending) (c d : ℕ) (old new : Option (List ℕ)) → bytes ≡ out.items → IfSome left (Finds set (found.Nothing out)) → IsDelivered r ending.NoCompletion bytes c d old new → r ≡ ending.WriteFault → IfSome left (λ text. WritesPart (IsResult set text) old new)
+  part_of_nothing None out bytes r c d old new same h by e = tt
+  part_of_nothing (Some text) out bytes r c d old new same h by e = record { out = bytes; is = subst (IsResult set text) (sym same) (inr h.found); appends = cut_off r ending.NoCompletion bytes c d old new (λ q. cc) (λ q. cc) by e }
+
+  pub part_of_completion : (left : Option (List ℕ)) (out : Vec ℕ Global) (bytes : List ℕ) (r : Ending) (c d : ℕ) (old new : Option (List ℕ)) → bytes ≡ out.items → IfSome left (Finds set (found.Completion out)) → IsDelivered r ending.Completed bytes c d old new → r ≡ ending.WriteFault → IfSome left (λ text. WritesPart (IsResult set text) old new)
+  part_of_completion None out bytes r c d old new same h by e = tt
+  part_of_completion (Some text) out bytes r c d old new same h by e = record { out = bytes; is = subst (IsResult set text) (sym same) (inl h.found); appends = cut_off r ending.Completed bytes c d old new (λ q. cc) (λ q. cc) by e }
+
+module _ (set : Set) (a b : ℕ) where
   -- what was found of a text that was read
-  pub found_of : (p : Prepared) (f g : Found) (left : Option (List ℕ)) (faults_old faults_new : ℕ) → p ≡ prepared.Found f → f ≡ g → IsPrepared set p faults_old faults_new left → IfSome left (Finds set g)
-  found_of p f g left faults_old faults_new is same h = subst (λ x. IsPrepared set x faults_old faults_new left) (is ∙ ap prepared.Found same) h
+  pub found_of : (p : Prepared) (f g : Found) (left : Option (List ℕ)) → p ≡ prepared.Found f → f ≡ g → IsPrepared set p a b left → IfSome left (Finds set g)
+  found_of p f g left is same h = subst (λ x. IsPrepared set x a b left) (is ∙ ap prepared.Found same) h
 
-  -- A text that is taken reads as a tree, so it is none that is not taken, and it has no fault.
+module _ (set : Set) (a b c d : ℕ) where
+  abbrev Told : Ending → List ℕ → Type 0
+  Told r text = IsToldOf set text r a b c d
 
-  taken_tree : (text : List ℕ) (bounds : Bounds) (e : Expanded) (b : IsBuilt set text bounds e) → HasTree text b.typed.tree
-  taken_tree text bounds e b = early_tree text b.typed.tree b.typed.is_tree
+  pub told_memory : (left : Option (List ℕ)) → IfSome left (λ text. IsToldOf set text ending.Memory a b c d)
+  told_memory None = tt
+  told_memory (Some text) = tt
 
-  -- The endings for a text that is taken
+  pub told_read_fault : (left : Option (List ℕ)) → Rose a b → IfSome left (λ text. IsToldOf set text ending.ReadFault a b c d)
+  told_read_fault None h = tt
+  told_read_fault (Some text) h = h
 
-  pub built_not_text : (left : Option (List ℕ)) (fault : TextFault) (P : Type 0) → IfSome left (Finds set (found.NotText fault)) → IfSome left (λ text. (bounds : Bounds) (e : Expanded) → IsBuilt set text bounds e → P)
-  built_not_text None fault P h = tt
-  built_not_text (Some text) fault P h = λ bounds e b. absurd (no_fault text b.typed.tree fault (taken_tree text bounds e b) h.found)
+  -- a result text that was delivered, cut off, or had no room
+  told_done : (text : List ℕ) (r done : Ending) (out : List ℕ) (old new : Option (List ℕ)) → Told done text → IsTaken set text → IsDelivered r done out c d old new → Told r text
+  told_done text r done out old new whole taken h = elim h [
+    | delivered is w ↦ subst (λ x. Told x text) (sym is) whole
+    | cut is w ↦ subst (λ x. Told x text) (sym is) (w.rose, taken)
+    | no_room is same ↦ subst (λ x. Told x text) (sym is) tt
+  ]
 
-  pub built_not_built : (left : Option (List ℕ)) (P : Type 0) → IfSome left (Finds set found.NotBuilt) → IfSome left (λ text. (bounds : Bounds) (e : Expanded) → IsBuilt set text bounds e → P)
-  built_not_built None P h = tt
-  built_not_built (Some text) P h = λ bounds e b. absurd (h.found.unbuilt bounds e b)
+  pub told_nothing : (left : Option (List ℕ)) (out : Vec ℕ Global) (r : Ending) (bytes : List ℕ) (old new : Option (List ℕ)) → IfSome left (Finds set (found.Nothing out)) → IsDelivered r ending.NoCompletion bytes c d old new → IfSome left (λ text. IsToldOf set text r a b c d)
+  told_nothing None out r bytes old new h by = tt
+  told_nothing (Some text) out r bytes old new h by =
+      let taken : IsTaken set text = record { bounds = h.found.bounds; e = h.found.e; built = h.found.only.built } in
+      told_done text r ending.NoCompletion bytes old new taken taken by
 
-  -- The endings for a text that reads as a tree and is not taken
-
-  pub unbuilt_not_text : (left : Option (List ℕ)) (fault : TextFault) (P : Type 0) → IfSome left (Finds set (found.NotText fault)) → IfSome left (λ text. length text ≤ most_bytes → IsNotBuilt set text → P)
-  unbuilt_not_text None fault P h = tt
-  unbuilt_not_text (Some text) fault P h = λ short n. absurd (no_fault text n.tree fault n.reads h.found)
-
-  pub unbuilt_nothing : (left : Option (List ℕ)) (out : Vec ℕ Global) (P : Type 0) → IfSome left (Finds set (found.Nothing out)) → IfSome left (λ text. length text ≤ most_bytes → IsNotBuilt set text → P)
-  unbuilt_nothing None out P h = tt
-  unbuilt_nothing (Some text) out P h = λ short n. absurd (n.unbuilt h.found.bounds h.found.e h.found.only.built)
-
-  pub unbuilt_completion : (left : Option (List ℕ)) (out : Vec ℕ Global) (P : Type 0) → IfSome left (Finds set (found.Completion out)) → IfSome left (λ text. length text ≤ most_bytes → IsNotBuilt set text → P)
-  unbuilt_completion None out P h = tt
-  unbuilt_completion (Some text) out P h = λ short n. absurd (n.unbuilt h.found.bounds h.found.e h.found.only.built)
-
-  -- The endings for a text with a fault
-
-  pub faulty_not_text : (left : Option (List ℕ)) (told : TextFault) → IfSome left (Finds set (found.NotText told)) → IfSome left (λ text. length text ≤ most_bytes → (fault : TextFault) → IsTextFault fault text → IsSameFault fault told)
-  faulty_not_text None told h = tt
-  faulty_not_text (Some text) told h = λ short fault is. same_fault text fault told is h.found
-
-  pub faulty_not_built : (left : Option (List ℕ)) (P : TextFault → Type 0) → IfSome left (Finds set found.NotBuilt) → IfSome left (λ text. length text ≤ most_bytes → (fault : TextFault) → IsTextFault fault text → P fault)
-  faulty_not_built None P h = tt
-  faulty_not_built (Some text) P h = λ short fault is. absurd (no_fault text h.found.tree fault h.found.reads is)
-
-  pub faulty_nothing : (left : Option (List ℕ)) (out : Vec ℕ Global) (P : TextFault → Type 0) → IfSome left (Finds set (found.Nothing out)) → IfSome left (λ text. length text ≤ most_bytes → (fault : TextFault) → IsTextFault fault text → P fault)
-  faulty_nothing None out P h = tt
-  faulty_nothing (Some text) out P h = λ short fault is. let b = h.found.only.built in absurd (no_fault text b.typed.tree fault (taken_tree text h.found.bounds h.found.e b) is)
-
-  pub faulty_completion : (left : Option (List ℕ)) (out : Vec ℕ Global) (P : TextFault → Type 0) → IfSome left (Finds set (found.Completion out)) → IfSome left (λ text. length text ≤ most_bytes → (fault : TextFault) → IsTextFault fault text → P fault)
-  faulty_completion None out P h = tt
-  faulty_completion (Some text) out P h = λ short fault is. let b = h.found.only.built in absurd (no_fault text b.typed.tree fault (taken_tree text h.found.bounds h.found.e b) is)
-
-  -- What is told of a text is its fault.
-  pub told_is : (left : Option (List ℕ)) (f g : TextFault) → IfSome left (Finds set (found.NotText f)) → ending.NotText f ≡ ending.NotText g → IfSome left (IsTextFault g)
-  told_is None f g h e = tt
-  told_is (Some text) f g h e = let same : f ≡ g = cc in subst (λ x. IsTextFault x text) same h.found
-
-  pub unbuilt_is : (left : Option (List ℕ)) → IfSome left (Finds set found.NotBuilt) → IfSome left (IsNotBuilt set)
-  unbuilt_is None h = tt
-  unbuilt_is (Some text) h = h.found
+  pub told_completion : (left : Option (List ℕ)) (out : Vec ℕ Global) (r : Ending) (bytes : List ℕ) (old new : Option (List ℕ)) → IfSome left (Finds set (found.Completion out)) → IsDelivered r ending.Completed bytes c d old new → IfSome left (λ text. IsToldOf set text r a b c d)
+  told_completion None out r bytes old new h by = tt
+  told_completion (Some text) out r bytes old new h by =
+      let taken : IsTaken set text = record { bounds = h.found.bounds; e = h.found.e; built = h.found.only.built } in
+      told_done text r ending.Completed bytes old new taken taken by

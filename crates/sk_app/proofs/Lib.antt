@@ -1,5 +1,6 @@
 mod StreamLemmas
 mod EndingLemmas
+mod ToldLaws
 mod EffectLaws
 pub mod FillingEarly
 pub mod FillingLaws
@@ -7,8 +8,6 @@ pub mod CostLaws
 pub mod ReadingLayers
 pub mod EarlyTrees
 pub mod EarlyRanks
-pub mod EarlyShallow
-pub mod TextFaultLaws
 pub mod ShownMeans
 pub mod ShownLayers
 pub mod ShownSpell
@@ -25,13 +24,11 @@ pub mod RunningLaws
 pub mod SearchingDigits
 pub mod SearchingLaws
 pub mod RunningRuns
-pub mod TypingFuns
 pub mod TypingEarly
 pub mod BridgeRules
 pub mod BridgeExprs
 pub mod BridgeStmts
 pub mod Bridge
-pub mod TypingChecks
 pub mod ShownFilled
 pub mod ShownFilling
 pub mod FillingWhole

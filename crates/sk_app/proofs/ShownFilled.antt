@@ -22,8 +22,8 @@ use Rattle.sk_prog.specs.declared.expr.PEForm.{PEForm}
 use Rattle.sk_prog.specs.declared.expr.PEForm.TheVariants as peform
 use Rattle.sk_types.specs.declared.rules.Own.{Own}
 use Rattle.sk_types.specs.declared.rules.Own.TheVariants.{Wrong, Loose, Firm}
-use Rattle.sk_app.specs.declared.early_rules.Class.{Class}
-use Rattle.sk_app.specs.declared.early_rules.Class.TheVariants.{Plus, Arithmetic, Order, Equality, Bitwise, Special}
+use Rattle.sk_app.specs.EarlyRules.{Class}
+use Rattle.sk_app.specs.EarlyRules.{Plus, Arithmetic, Order, Equality, Bitwise, Special}
 use Rattle.sk_types.specs.declared.scope.Variable.{Variable}
 use Rattle.sk_types.specs.Rules.{int, operator_of, number_own, number_takes, in_range}
 use Rattle.sk_app.specs.EarlyRules.{class_of, operand, result_of, result_own, loose_takes, hole_takes, join, joined_as, taken_as}

@@ -3,7 +3,8 @@ use Rattle.std.proofs.Common.{ℕ, List, [], ◌++◌, ◌≡◌, ◌≤◌, ◌
 use Rattle.std.specs.Prelude.{option_map}
 use Rattle.std.proofs.lemmas.List.{append-nil, append_assoc, length-append}
 use Rattle.sk_base.specs.Stream.{Counts, IsAppended}
-use Rattle.sk_app.specs.Streams.{Appends, TakesFew, most_bytes}
+use Rattle.sk_front.specs.Texts.{most_bytes}
+use Rattle.sk_app.specs.Streams.{Appends, TakesFew}
 use Rattle.sk_app.specs.ReadStep.{Loses}
 
 -- what is written, and what is left of the bytes

@@ -26,8 +26,8 @@ use Rattle.sk_prog.specs.declared.expr.PEForm.TheViews.{roll-PEForm, roll-PExpr}
 use Rattle.sk_prog.specs.declared.expr.PEForm.TheFolds.{map-PEForm, rec-PEForm, rec-PField, rec-roll-PEForm, rec-roll-PExpr, ind-PExpr}
 use Rattle.sk_types.specs.declared.rules.Own.{Own}
 use Rattle.sk_types.specs.declared.rules.Own.TheVariants.{Wrong, Loose, Firm}
-use Rattle.sk_app.specs.declared.early_rules.Class.{Class}
-use Rattle.sk_app.specs.declared.early_rules.Class.TheVariants.{Plus, Arithmetic, Order, Equality, Bitwise, Special}
+use Rattle.sk_app.specs.EarlyRules.{Class}
+use Rattle.sk_app.specs.EarlyRules.{Plus, Arithmetic, Order, Equality, Bitwise, Special}
 use Rattle.sk_types.specs.declared.scope.Variable.{Variable}
 use Rattle.sk_types.specs.declared.scope.Place.{Place}
 use Rattle.sk_types.specs.Rules.{elem_eq, ty_eq, operator_of, number_takes, in_range}

@@ -9,12 +9,10 @@ use Rattle.sk_prog.specs.declared.prog.Fun.{Fun}
 use Rattle.sk_prog.specs.declared.prog.Prog.{Prog}
 use Rattle.sk_types.specs.Types.{Types}
 use Rattle.sk_model.specs.declared.expanded.Expanded.{Expanded}
-use Rattle.sk_model.specs.Expand.{expand}
 use Rattle.sk_model.specs.Nodes.{nodes}
 use Rattle.sk_opts.specs.declared.line.Set.{Set}
-use Rattle.sk_opts.specs.BoundsOf.{bounds_of}
+use Rattle.sk_front.specs.Front.{IsSizedTo}
 use Rattle.sk_app.specs.Early.{is_early}
-use Rattle.sk_app.specs.Streams.{most_bytes}
 
 -- how many parameters all functions have
 abbrev pub params_count : List Fun → ℕ
@@ -51,15 +49,13 @@ pub record IsSmall (bounds : Bounds) (e : Expanded) : Type 0 where
   pub nodes_fit : nodes e.prog ≤ most_nodes
   pub bits_fit : bits_count e bounds ≤ most_bits
 
--- With these options the text is one that the program takes so far: it reads as an early tree, these bounds are those
--- that the options and the tree give, the tree means a program under them, e is its expansion, and that has at most so
--- many nodes and bits.
+-- With these options the text is one that the program takes so far: it means this program under these bounds, with e as
+-- its expansion, within the limits; its tree is early; and e is small enough to try.
 pub record IsBuilt (set : Set) (text : List ℕ) (bounds : Bounds) (e : Expanded) : Type 0 where
+  pub tree : Tree
   pub prog : Prog
-  pub short : length text ≤ most_bytes
-  pub typed : IsTyped bounds text prog
-  pub given : bounds ≡ bounds_of set typed.tree
-  pub expanded : e ≡ expand prog bounds
+  pub sized : IsSizedTo set text tree bounds prog e
+  pub early : IsTrue (is_early tree)
   pub small : IsSmall bounds e
 
 -- the bounds and the expansion of a text that is taken; with these options the text has no others
@@ -67,24 +63,18 @@ pub record IsOnly (set : Set) (text : List ℕ) (bounds : Bounds) (e : Expanded)
   pub built : IsBuilt set text bounds e
   pub only : (b : Bounds) (f : Expanded) → IsBuilt set text b f → (b ≡ bounds) × (f ≡ e)
 
--- The tree is early and means a program under these bounds, e is its expansion, and that is small enough to try.
-pub record IsBuiltOf (bounds : Bounds) (tree : Tree) (e : Expanded) : Type 0 where
-  pub early : IsTrue (is_early tree)
+-- some bounds and some expansion are those of a text that is taken
+pub record IsTaken (set : Set) (text : List ℕ) : Type 0 where
+  pub bounds : Bounds
+  pub e : Expanded
+  pub built : IsBuilt set text bounds e
+
+-- With these options the text means a program within the limits, and is not taken so far: its tree is not early, or the
+-- expansion is too large to try.
+pub record IsNotBuilt (set : Set) (text : List ℕ) : Type 0 where
+  pub tree : Tree
+  pub bounds : Bounds
   pub prog : Prog
-  pub types : Types tree bounds prog
-  pub expanded : e ≡ expand prog bounds
-  pub small : IsSmall bounds e
-
--- the expansion of a tree that is taken; the tree has no other
-pub record IsOnlyOf (bounds : Bounds) (tree : Tree) (e : Expanded) : Type 0 where
-  pub built : IsBuiltOf bounds tree e
-  pub only : (f : Expanded) → IsBuiltOf bounds tree f → f ≡ e
-
--- the tree has no expansion that the program takes so far
-abbrev pub IsUnbuiltOf : Bounds → Tree → Type 0
-IsUnbuiltOf bounds tree = (e : Expanded) → IsBuiltOf bounds tree e → ⊥
-
--- the early tree means this program
-pub record IsMeant (bounds : Bounds) (tree : Tree) (prog : Prog) : Type 0 where
-  pub early : IsTrue (is_early tree)
-  pub types : Types tree bounds prog
+  pub e : Expanded
+  pub sized : IsSizedTo set text tree bounds prog e
+  pub untaken : IsTrue (is_early tree) → IsSmall bounds e → ⊥

@@ -8,14 +8,21 @@ use Rattle.sk_prog.specs.declared.expr.BinOp.{BinOp}
 use Rattle.sk_prog.specs.declared.expr.BinOp.TheVariants as op
 use Rattle.sk_types.specs.declared.rules.Own.{Own}
 use Rattle.sk_types.specs.declared.rules.Own.TheVariants.{Wrong, Loose, Firm}
-use Rattle.sk_app.specs.declared.early_rules.Class.{Class}
-use Rattle.sk_app.specs.declared.early_rules.Class.TheVariants.{Plus, Arithmetic, Order, Equality, Bitwise, Special}
 use Rattle.sk_types.specs.Rules.{int, bit, ty_eq}
 
 -- Whether an expression of the first type stands as it is where the second is wanted. That a bit
 -- stands for an integer, and what is padded to a longer array, come later.
 abbrev pub fits : Ty → Ty → Bool
 fits u t = ty_eq u t
+
+-- the kinds of operators
+pub data Class : Type 0 where
+  Plus : Class
+  Arithmetic : Class
+  Order : Class
+  Equality : Class
+  Bitwise : Class
+  Special : Class
 
 -- What kind of operator it is. The special ones (`&&`, `||`, `<<`, `>>`) have rules of their own.
 abbrev pub class_of : BinOp → Class

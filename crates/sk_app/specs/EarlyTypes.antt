@@ -40,7 +40,7 @@ use Rattle.sk_prog.specs.declared.prog.Fun.{Fun}
 use Rattle.sk_prog.specs.declared.prog.Prog.{Prog}
 use Rattle.sk_types.specs.declared.rules.Own.{Own}
 use Rattle.sk_types.specs.declared.rules.Own.TheVariants.{Wrong, Loose, Firm}
-use Rattle.sk_app.specs.declared.early_rules.Class.{Class}
+use Rattle.sk_app.specs.EarlyRules.{Class}
 use Rattle.sk_types.specs.declared.scope.Variable.{Variable}
 use Rattle.sk_types.specs.declared.scope.Place.{Place}
 use Rattle.sk_types.specs.Rules.{int, bit, operator_of, number_own, number_takes, in_range}

@@ -1,23 +1,17 @@
 -- What a call does for a line: how it ends, and what it does to its source and its sink.
-use Rattle.std.specs.Prelude.{ℕ, ◌≡◌, ◌<◌, ◌≤◌, ◌⊎◌, Bool, true, false, IsTrue, List, length, Option, IfSome}
+use Rattle.std.specs.Prelude.{ℕ, ◌≡◌, ◌⊎◌, Bool, true, false, IsTrue, List, Option, IfSome}
 use Rattle.sk_base.specs.Stream.{Rose}
-use Rattle.sk_base.specs.declared.bounds.Bounds.{Bounds}
-use Rattle.sk_model.specs.declared.expanded.Expanded.{Expanded}
 use Rattle.sk_opts.specs.declared.line.Set.{Set}
 use Rattle.sk_opts.specs.declared.line.Line.{Line}
 use Rattle.sk_opts.specs.declared.line.Line.TheVariants as line
 use Rattle.sk_opts.specs.CommandLine.{IsLine}
 use Rattle.sk_app.specs.declared.ending.Ending.{Ending}
-use Rattle.sk_app.specs.declared.ending.Ending.TheVariants.{Completed, NoCompletion, HelpShown, VersionShown, NotALine, NotText, ReadFault, WriteFault, TooLong, Memory, NotBuilt}
-use Rattle.sk_app.specs.declared.ending.TextFault.{TextFault}
-use Rattle.sk_app.specs.TextFaults.{IsTextFault}
-use Rattle.sk_app.specs.Streams.{TakesFew, most_bytes}
-use Rattle.sk_app.specs.Built.{IsBuilt}
+use Rattle.sk_app.specs.declared.ending.Ending.TheVariants.{Completed, NoCompletion, HelpShown, VersionShown, ExecDone, ExecFailed, ExecSkipped, NotALine, NotRun, ReadFault, WriteFault, Memory, NotBuilt}
+use Rattle.sk_app.specs.Streams.{TakesFew}
 use Rattle.sk_app.specs.ResultText.{IsCompletion, IsNone}
-use Rattle.sk_app.specs.Prepared.{IsNotBuilt}
 use Rattle.sk_app.specs.Help.{help_text, version_text}
 use Rattle.sk_app.specs.Lines.{IsNoLine, ForSynth}
-use Rattle.sk_app.specs.Ends.{IsDelivered, Writes, WritesPart, writes_nothing, EndsBuilt, EndsFaulty, EndsUnbuilt, EndsLong}
+use Rattle.sk_app.specs.Ends.{IsDelivered, Writes, WritesPart, writes_nothing, IsToldOf}
 
 -- what is left of the source before and after a call, what the sink holds, where they tell it, and the counts of
 -- their faults
@@ -56,6 +50,10 @@ abbrev pub is_of_synth : Ending → Bool
 is_of_synth NotALine = false
 is_of_synth HelpShown = false
 is_of_synth VersionShown = false
+is_of_synth ExecDone = false
+is_of_synth (ExecFailed span) = false
+is_of_synth (ExecSkipped span) = false
+is_of_synth (NotRun fault) = false
 is_of_synth _ = true
 
 -- a text that a line `synth` writes
@@ -67,18 +65,12 @@ pub record Synthesises (set : Set) (result : Ending) (f : Effect) : Type 0 where
   pub ends : IsTrue (is_of_synth result)
   pub completed : result ≡ Completed → IfSome f.left_old (λ text. Writes (IsCompletion set text) f.held_old f.held_new)
   pub none : result ≡ NoCompletion → IfSome f.left_old (λ text. Writes (IsNone set text) f.held_old f.held_new)
-  pub not_text : (fault : TextFault) → result ≡ NotText fault → IfSome f.left_old (IsTextFault fault)
-  pub not_built : result ≡ NotBuilt → IfSome f.left_old (IsNotBuilt set)
-  pub too_long : result ≡ TooLong → IfSome f.left_old (λ text. most_bytes < length text)
+  pub told : IfSome f.left_old (λ text. IsToldOf set text result f.read_faults_old f.read_faults_new f.write_faults_old f.write_faults_new)
   pub read_fault : result ≡ ReadFault → Rose f.read_faults_old f.read_faults_new
   pub write_fault : result ≡ WriteFault → Rose f.write_faults_old f.write_faults_new
   pub prefix : result ≡ WriteFault → IfSome f.left_old (λ text. WritesPart (IsResult set text) f.held_old f.held_new)
   pub kept : IsTrue (writes_nothing result) → f.held_new ≡ f.held_old
   pub few : TakesFew f.left_old f.left_new
-  pub ends_built : IfSome f.left_old (λ text. (bounds : Bounds) (e : Expanded) → IsBuilt set text bounds e → EndsBuilt result f.read_faults_old f.read_faults_new f.write_faults_old f.write_faults_new)
-  pub ends_faulty : IfSome f.left_old (λ text. length text ≤ most_bytes → (fault : TextFault) → IsTextFault fault text → EndsFaulty fault result f.read_faults_old f.read_faults_new)
-  pub ends_unbuilt : IfSome f.left_old (λ text. length text ≤ most_bytes → IsNotBuilt set text → EndsUnbuilt result f.read_faults_old f.read_faults_new)
-  pub ends_long : IfSome f.left_old (λ text. most_bytes < length text → EndsLong result f.read_faults_old f.read_faults_new)
 
 -- what a call does for a line
 abbrev pub Serves : Line → Ending → Effect → Type 0

@@ -2,12 +2,19 @@
 use Rattle.std.specs.Prelude.{ℕ, List, [], codes}
 use Rattle.sk_lexer.specs.declared.fault.LexFault.TheVariants as lex
 use Rattle.sk_parser.specs.declared.fault.ParseFault.TheVariants as parse
+use Rattle.sk_check.specs.declared.fault.Rule.{Rule}
+use Rattle.sk_check.specs.declared.fault.Rule.TheVariants as rule
+use Rattle.sk_check.specs.declared.fault.TypeFault.{TypeFault}
+use Rattle.sk_sizes.specs.declared.fault.SizeFault.{SizeFault}
+use Rattle.sk_sizes.specs.declared.fault.SizeFault.TheVariants as size
+use Rattle.sk_direct.specs.declared.fault.ExecFault.{ExecFault}
+use Rattle.sk_direct.specs.declared.fault.ExecFault.TheVariants as exec
 use Rattle.sk_texts.specs.Messages.{Refusal, refusal_status, refusal_message}
 use Rattle.sk_texts.specs.Messages as said
-use Rattle.sk_app.specs.declared.ending.TextFault.{TextFault}
-use Rattle.sk_app.specs.declared.ending.TextFault.TheVariants.{Lex, Parse}
+use Rattle.sk_front.specs.declared.fault.TextFault.{TextFault}
+use Rattle.sk_front.specs.declared.fault.TextFault.TheVariants.{Lex, Parse}
 use Rattle.sk_app.specs.declared.ending.Ending.{Ending}
-use Rattle.sk_app.specs.declared.ending.Ending.TheVariants.{Completed, NoCompletion, HelpShown, VersionShown, NotALine, NotText, ReadFault, WriteFault, TooLong, Memory, NotBuilt}
+use Rattle.sk_app.specs.declared.ending.Ending.TheVariants.{Completed, NoCompletion, HelpShown, VersionShown, ExecDone, ExecFailed, ExecSkipped, NotALine, NotText, NotTyped, TooLarge, NotRun, ReadFault, WriteFault, TooLong, Memory, NotBuilt}
 
 -- The refusal for a fault of a text. Want of memory, which `run` answers as `Memory`, is no fault of it.
 abbrev pub text_refusal : TextFault → Refusal
@@ -21,13 +28,53 @@ text_refusal (Parse (parse.BadAlternative at)) = said.NotText said.BadAlternativ
 text_refusal (Parse (parse.TooManyStrings at)) = said.NotText said.TooManyStrings at
 text_refusal (Parse parse.Memory) = said.Memory
 
+abbrev pub rule_of : Rule → said.Rule
+rule_of rule.UnknownName = said.UnknownName
+rule_of rule.Twice = said.Twice
+rule_of rule.Mismatch = said.Mismatch
+rule_of rule.NotTarget = said.NotTarget
+rule_of rule.BadSignature = said.BadSignature
+rule_of rule.NotConstant = said.NotConstant
+rule_of rule.LiteralRange = said.LiteralRange
+rule_of rule.LengthRange = said.LengthRange
+rule_of rule.NoAlternative = said.NoAlternative
+rule_of rule.ReorderForm = said.ReorderForm
+rule_of rule.NameKept = said.NameKept
+rule_of rule.HoleWidth = said.HoleWidth
+
+-- the refusal for a rule of types that a text breaks
+abbrev pub type_refusal : TypeFault → Refusal
+type_refusal fault = said.NotTyped (rule_of fault.rule) fault.span
+
+-- The refusal for an expansion that is too large. Want of memory, which `run` answers as `Memory`, is no size.
+abbrev pub size_refusal : SizeFault → Refusal
+size_refusal size.Copies = said.TooLarge said.Copies
+size_refusal size.Sites = said.TooLarge said.Sites
+size_refusal size.Steps = said.TooLarge said.Steps
+size_refusal size.News = said.TooLarge said.News
+size_refusal size.Memory = said.Memory
+
+-- the refusal for a reason for which no function is run
+abbrev pub exec_refusal : ExecFault → Refusal
+exec_refusal exec.NoFunction = said.NotRun said.NoFunction
+exec_refusal exec.Unfilled = said.NotRun said.Unfilled
+exec_refusal exec.References = said.NotRun said.References
+exec_refusal exec.Count = said.NotRun said.Count
+exec_refusal (exec.Value index) = said.NotRun said.Value
+
 abbrev pub status_of : Ending → ℕ
 status_of Completed = 0
 status_of NoCompletion = 1
 status_of HelpShown = 0
 status_of VersionShown = 0
+status_of ExecDone = 0
+status_of (ExecFailed span) = 4
+status_of (ExecSkipped span) = 5
 status_of NotALine = 10
 status_of (NotText fault) = refusal_status (text_refusal fault)
+status_of (NotTyped fault) = refusal_status (type_refusal fault)
+status_of (TooLarge reason) = refusal_status (size_refusal reason)
+status_of (NotRun fault) = refusal_status (exec_refusal fault)
 status_of ReadFault = 14
 status_of WriteFault = 15
 status_of TooLong = 16
@@ -39,8 +86,14 @@ message_of Completed = []
 message_of NoCompletion = []
 message_of HelpShown = []
 message_of VersionShown = []
+message_of ExecDone = []
+message_of (ExecFailed span) = []
+message_of (ExecSkipped span) = []
 message_of NotALine = codes "usage"
 message_of (NotText fault) = refusal_message (text_refusal fault)
+message_of (NotTyped fault) = refusal_message (type_refusal fault)
+message_of (TooLarge reason) = refusal_message (size_refusal reason)
+message_of (NotRun fault) = refusal_message (exec_refusal fault)
 message_of ReadFault = codes "read fault"
 message_of WriteFault = codes "write fault"
 message_of TooLong = codes "too long"

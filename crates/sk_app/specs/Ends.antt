@@ -1,10 +1,14 @@
 -- What the sink holds after an ending, and which endings there are for a text.
-use Rattle.std.specs.Prelude.{ℕ, ◌≡◌, Bool, true, false, List, Option}
+use Rattle.std.specs.Prelude.{ℕ, ◌≡◌, ◌<◌, ◌≤◌, length, Bool, true, false, List, Option}
 use Rattle.sk_base.specs.Stream.{Rose}
 use Rattle.sk_app.specs.declared.ending.Ending.{Ending}
-use Rattle.sk_app.specs.declared.ending.Ending.TheVariants.{Completed, NoCompletion, HelpShown, VersionShown, NotALine, NotText, ReadFault, WriteFault, TooLong, Memory, NotBuilt}
-use Rattle.sk_app.specs.declared.ending.TextFault.{TextFault}
-use Rattle.sk_app.specs.TextFaults.{IsSameFault}
+use Rattle.sk_app.specs.declared.ending.Ending.TheVariants.{Completed, NoCompletion, HelpShown, VersionShown, ExecDone, ExecFailed, ExecSkipped, NotALine, NotText, NotTyped, TooLarge, ReadFault, WriteFault, TooLong, Memory, NotBuilt}
+use Rattle.sk_front.specs.declared.fault.TextFault.{TextFault}
+use Rattle.sk_front.specs.Texts.{most_bytes, IsTextFault, IsSameFault}
+use Rattle.sk_front.specs.Front.{IsUntyped, IsTooLarge}
+use Rattle.sk_opts.specs.declared.line.Set.{Set}
+use Rattle.sk_app.specs.Built.{IsTaken, IsNotBuilt}
+use Rattle.sk_sizes.specs.declared.fault.SizeFault.{SizeFault}
 use Rattle.sk_app.specs.Streams.{Appends, AppendsPrefix}
 
 -- a text of this kind was appended to what the sink held
@@ -25,6 +29,9 @@ writes_nothing Completed = false
 writes_nothing NoCompletion = false
 writes_nothing HelpShown = false
 writes_nothing VersionShown = false
+writes_nothing ExecDone = false
+writes_nothing (ExecFailed span) = false
+writes_nothing (ExecSkipped span) = false
 writes_nothing WriteFault = false
 writes_nothing _ = true
 
@@ -43,6 +50,21 @@ pub data IsDelivered (result done : Ending) (out : List ℕ) (faults_old faults_
   cut : result ≡ WriteFault → IsCut out faults_old faults_new old new → IsDelivered result done out faults_old faults_new old new
   no_room : result ≡ Memory → new ≡ old → IsDelivered result done out faults_old faults_new old new
 
+-- What an ending tells of a text: which cause it has there. Of want of memory it tells nothing, and of a failure only
+-- that the source or the sink failed.
+abbrev pub IsToldOf : Set → List ℕ → Ending → ℕ → ℕ → ℕ → ℕ → Type 0
+IsToldOf set text Completed source_old source_new sink_old sink_new = IsTaken set text
+IsToldOf set text NoCompletion source_old source_new sink_old sink_new = IsTaken set text
+IsToldOf set text (NotText fault) source_old source_new sink_old sink_new = (length text ≤ most_bytes) × IsTextFault fault text
+IsToldOf set text (NotTyped fault) source_old source_new sink_old sink_new = (length text ≤ most_bytes) × IsUntyped set text
+IsToldOf set text (TooLarge reason) source_old source_new sink_old sink_new = IsTooLarge set text reason
+IsToldOf set text NotBuilt source_old source_new sink_old sink_new = IsNotBuilt set text
+IsToldOf set text TooLong source_old source_new sink_old sink_new = most_bytes < length text
+IsToldOf set text ReadFault source_old source_new sink_old sink_new = Rose source_old source_new
+IsToldOf set text WriteFault source_old source_new sink_old sink_new = Rose sink_old sink_new × IsTaken set text
+IsToldOf set text Memory source_old source_new sink_old sink_new = Unit {0}
+IsToldOf set text _ source_old source_new sink_old sink_new = ⊥
+
 -- A text that is taken is completed, or has no completion; else a source or a sink failed, or memory was
 -- wanting.
 abbrev pub EndsBuilt : Ending → ℕ → ℕ → ℕ → ℕ → Type 0
@@ -60,7 +82,21 @@ EndsFaulty fault Memory source_old source_new = Unit {0}
 EndsFaulty fault ReadFault source_old source_new = Rose source_old source_new
 EndsFaulty fault _ source_old source_new = ⊥
 
--- A text that reads as a tree and is not taken is refused, unless the source failed or memory was wanting.
+-- A text whose tree means no program is refused as such, unless the source failed or memory was wanting.
+abbrev pub EndsUntyped : Ending → ℕ → ℕ → Type 0
+EndsUntyped (NotTyped fault) source_old source_new = Unit {0}
+EndsUntyped Memory source_old source_new = Unit {0}
+EndsUntyped ReadFault source_old source_new = Rose source_old source_new
+EndsUntyped _ source_old source_new = ⊥
+
+-- A text whose program is too large for this reason is refused for it, unless the source failed or memory was wanting.
+abbrev pub EndsLarge : SizeFault → Ending → ℕ → ℕ → Type 0
+EndsLarge reason (TooLarge told) source_old source_new = reason ≡ told
+EndsLarge reason Memory source_old source_new = Unit {0}
+EndsLarge reason ReadFault source_old source_new = Rose source_old source_new
+EndsLarge reason _ source_old source_new = ⊥
+
+-- A text that means a program within the limits and is not taken is refused, unless the source failed or memory was wanting.
 abbrev pub EndsUnbuilt : Ending → ℕ → ℕ → Type 0
 EndsUnbuilt NotBuilt source_old source_new = Unit {0}
 EndsUnbuilt Memory source_old source_new = Unit {0}

@@ -30,6 +30,8 @@ statuses_text =
     ++ codes "   1  no completion meets the harness on every input\n"
     ++ codes "  10  the words are no command line\n"
     ++ codes "  11  the text has no tokens, or reads as no program\n"
+    ++ codes "  12  the text breaks a rule of types\n"
+    ++ codes "  13  its program is too large\n"
     ++ codes "  14  standard input failed\n"
     ++ codes "  15  standard output failed\n"
     ++ codes "  16  the text has more than 1048576 bytes\n"

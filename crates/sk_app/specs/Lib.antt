@@ -13,8 +13,6 @@ pub mod Built
 pub mod ResultText
 pub mod SpentText
 pub mod Within
-pub mod TextFaults
-pub mod Read
 pub mod Prepared
 pub mod EarlyFit
 pub mod Ends

@@ -2,31 +2,40 @@
 use Rattle.std.specs.Prelude.{ℕ, ◌≤◌, List, length, Option, IfSome}
 use Rattle.sk_base.specs.Stream.{Rose}
 use Rattle.sk_base.specs.declared.bounds.Bounds.{Bounds}
-use Rattle.sk_tree.specs.declared.item.Tree.{Tree}
 use Rattle.sk_model.specs.declared.expanded.Expanded.{Expanded}
 use Rattle.sk_opts.specs.declared.line.Set.{Set}
+use Rattle.sk_opts.specs.Ranges.{AreInRanges}
+use Rattle.sk_front.specs.Texts.{most_bytes, IsTextFault}
+use Rattle.sk_front.specs.Front.{IsUntyped, IsTooLarge}
+use Rattle.sk_app.specs.declared.complete.Building.{Building}
+use Rattle.sk_app.specs.declared.complete.Building.TheVariants as built
 use Rattle.sk_app.specs.declared.prepare.Found.{Found}
 use Rattle.sk_app.specs.declared.prepare.Found.TheVariants as found
 use Rattle.sk_app.specs.declared.prepare.Prepared.{Prepared}
 use Rattle.sk_app.specs.declared.prepare.Prepared.TheVariants as prepared
-use Rattle.sk_app.specs.Streams.{IsLong, most_bytes}
-use Rattle.sk_app.specs.Built.{IsBuilt}
+use Rattle.sk_app.specs.Streams.{IsLong}
+use Rattle.sk_app.specs.Built.{IsOnly, IsNotBuilt}
+use Rattle.sk_app.specs.Filling.{IsEarlyExpansion}
 use Rattle.sk_app.specs.ResultText.{IsCompletion, IsNone}
-use Rattle.sk_app.specs.TextFaults.{HasTree, IsTextFault}
 
--- with these options the text has no expansion that the program takes so far
-abbrev pub IsUnbuilt : Set → List ℕ → Type 0
-IsUnbuilt set text = (bounds : Bounds) (e : Expanded) → IsBuilt set text bounds e → ⊥
+-- the bounds and the expansion of a text that is taken, as the search for a filling asks for them
+pub record IsReady (set : Set) (text : List ℕ) (bounds : Bounds) (e : Expanded) : Type 0 where
+  pub only : IsOnly set text bounds e
+  pub early : IsEarlyExpansion e bounds
+  pub ranges : AreInRanges bounds
 
--- The text reads as a tree, and has no expansion that the program takes so far: the tree is not early, or means no
--- program, or that is too large to try.
-pub record IsNotBuilt (set : Set) (text : List ℕ) : Type 0 where
-  pub tree : Tree
-  pub reads : HasTree text tree
-  pub unbuilt : IsUnbuilt set text
+-- what is built of a text with these options, or why nothing is
+abbrev pub IsBuilding : Set → Building → List ℕ → Type 0
+IsBuilding set (built.NotText fault) text = IsTextFault fault text
+IsBuilding set (built.NotTyped fault) text = IsUntyped set text
+IsBuilding set (built.TooLarge reason) text = IsTooLarge set text reason
+IsBuilding set built.NotBuilt text = IsNotBuilt set text
+IsBuilding set (built.Whole bounds e) text = IsReady set text bounds e
 
 abbrev pub IsFound : Set → Found → List ℕ → Type 0
 IsFound set (found.NotText fault) text = IsTextFault fault text
+IsFound set (found.NotTyped fault) text = IsUntyped set text
+IsFound set (found.TooLarge reason) text = IsTooLarge set text reason
 IsFound set found.NotBuilt text = IsNotBuilt set text
 IsFound set (found.Nothing out) text = IsNone set text out.items
 IsFound set (found.Completion out) text = IsCompletion set text out.items

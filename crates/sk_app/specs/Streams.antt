@@ -1,12 +1,9 @@
 -- What reading a whole source gives, and what writing a whole text leaves.
 use Rattle.std.specs.Prelude.{ℕ, ◌+◌, ◌<◌, ◌≤◌, ◌≡◌, List, ◌++◌, length, Option, option_map, IfSome}
 use Rattle.sk_base.specs.Stream.{Rose}
+use Rattle.sk_front.specs.Texts.{most_bytes}
 use Rattle.sk_app.specs.declared.text.Reading.{Reading}
 use Rattle.sk_app.specs.declared.text.Reading.TheVariants.{Whole, Long, Failed}
-
--- the greatest number of bytes of a sketch
-abbrev pub most_bytes : ℕ
-most_bytes = 1048576
 
 -- the whole text was read, and it is not too long
 pub record IsWhole (text : List ℕ) (old : Option (List ℕ)) : Type 0 where

@@ -1,6 +1,6 @@
 -- The typed program that an early tree becomes, as a function: the own type of an expression, what it is at
 -- a type that its place wants, and what statements and functions become.
-use Rattle.std.specs.Prelude.{◌≡◌, ◌≤◌, ℕ, Bool, ◌&&◌, not, if◌then◌else◌, List, [], ◌∷◌, ◌++◌, map, length, Option, Some, None, Result, Ok, Err, option_and_then}
+use Rattle.std.specs.Prelude.{ℕ, Bool, ◌&&◌, not, if◌then◌else◌, List, [], ◌∷◌, ◌++◌, map, length, Option, Some, None, option_and_then}
 use Rattle.std.specs.List.{list_all}
 use Rattle.sk_base.specs.declared.span.Span.{Span}
 use Rattle.sk_base.specs.declared.bounds.Bounds.{Bounds}
@@ -34,7 +34,7 @@ use Rattle.sk_prog.specs.declared.prog.Fun.{Fun}
 use Rattle.sk_prog.specs.declared.prog.Prog.{Prog}
 use Rattle.sk_types.specs.declared.rules.Own.{Own}
 use Rattle.sk_types.specs.declared.rules.Own.TheVariants.{Wrong, Loose, Firm}
-use Rattle.sk_app.specs.declared.early_rules.Class.{Class}
+use Rattle.sk_app.specs.EarlyRules.{Class}
 use Rattle.sk_types.specs.declared.scope.Variable.{Variable}
 use Rattle.sk_types.specs.declared.scope.Place.{Place}
 use Rattle.sk_types.specs.Rules.{int, bit, operator_of, number_own, number_takes, in_range}
@@ -43,8 +43,6 @@ use Rattle.sk_types.specs.Scope.{lookup, is_taken}
 use Rattle.sk_types.specs.Types.{kind_of, parameters}
 use Rattle.sk_types.specs.Scope.{all_distinct}
 use Rattle.sk_app.specs.EarlyTypes.{name_own, operation_own, may_be}
-use Rattle.sk_app.specs.declared.typing.Fault.{Fault}
-use Rattle.sk_app.specs.declared.typing.Fault.TheVariants.{Memory, Refused}
 
 infixl 10 ◌>>=◌
 abbrev pub ◌>>=◌ : {A B : Type 0} → Option A → (A → Option B) → Option B
@@ -209,26 +207,3 @@ items_of bounds _ = None
 -- the program that a tree of one function is
 abbrev pub prog_of : Bounds → Tree → Option Prog
 prog_of bounds tree = items_of bounds tree.items
-
--- the widths of `int` that the code takes
-pub record IsWidth (bounds : Bounds) : Type 0 where
-  pub at_least : 2 ≤ bounds.int_bits
-  pub at_most : bounds.int_bits ≤ 32
-
--- The code gives what the function does, unless memory runs out.
-abbrev pub Fails : {A : Type 0} → Fault → Option A → Type 0
-Fails Memory o = Unit {0}
-Fails Refused o = o ≡ None
-
-abbrev pub Gives : {A : Type 0} → Result A Fault → Option A → Type 0
-Gives (Ok a) o = o ≡ Some a
-Gives (Err fault) o = Fails fault o
-
-abbrev pub Enters : Result (Unit {0}) Fault → List Variable → List Variable → Type 0
-Enters (Ok a) s t = s ≡ t
-Enters (Err Memory) s t = Unit {0}
-Enters (Err Refused) s t = ⊥
-
-abbrev pub Leaves : {A : Type 0} → Result A Fault → List Variable → Option (Made A) → Type 0
-Leaves (Ok a) s o = o ≡ Some (record { made = a; scope = s })
-Leaves (Err fault) s o = Fails fault o

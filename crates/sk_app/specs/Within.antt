@@ -11,7 +11,7 @@ use Rattle.sk_types.specs.Types.{Types}
 use Rattle.sk_model.specs.declared.expanded.Expanded.{Expanded}
 use Rattle.sk_model.specs.Expand.{expand}
 use Rattle.sk_model.specs.Limits.{IsWithinLimits}
-use Rattle.sk_app.specs.Streams.{most_bytes}
+use Rattle.sk_front.specs.Texts.{most_bytes}
 
 -- The text is short enough; it reads as a tree that is not too deep, whose patterns have at most 128 strings, each
 -- of which reads as an expression; the tree means a program; and e is the expansion of that program, with nodes,

@@ -8,15 +8,17 @@ ghost use Rattle.sk_opts.specs.declared.line.Set.{Set};
 ghost use Rattle.sk_opts.specs.declared.line.Line.TheVariants as line;
 ghost use Rattle.sk_opts.specs.CommandLine.{IsLine};
 ghost use Rattle.sk_opts.specs.Ranges.{IsInRanges, LineIsInRanges};
-ghost use Rattle.sk_app.specs.Built.{IsBuilt};
+ghost use Rattle.sk_app.specs.Built.{IsBuilt, IsNotBuilt};
 ghost use Rattle.sk_app.specs.ResultText.{IsCompletion, IsNone};
-ghost use Rattle.sk_app.specs.Streams.{Appends, AppendsPrefix, TakesFew, most_bytes};
-ghost use Rattle.sk_app.specs.Prepared.{IsNotBuilt};
-ghost use Rattle.sk_app.specs.TextFaults.{IsTextFault};
-ghost use Rattle.sk_app.specs.declared.ending.TextFault.{TextFault};
+ghost use Rattle.sk_app.specs.Streams.{Appends, AppendsPrefix, TakesFew};
+ghost use Rattle.sk_front.specs.Texts.{most_bytes, IsTextFault};
+ghost use Rattle.sk_front.specs.Front.{IsUntyped, IsTooLarge};
+ghost use Rattle.sk_front.specs.declared.fault.TextFault.{TextFault};
+ghost use Rattle.sk_check.specs.declared.fault.TypeFault.{TypeFault};
+ghost use Rattle.sk_sizes.specs.declared.fault.SizeFault.{SizeFault};
 ghost use Rattle.sk_app.specs.Help.{help_text, version_text};
 ghost use Rattle.sk_app.specs.Lines.{IsNoLine, IsSynth, ForSynth, IsUnbuiltLine};
-ghost use Rattle.sk_app.specs.Ends.{IsDelivered, Writes, WritesPart, writes_nothing, EndsBuilt, EndsFaulty, EndsLong, EndsUnbuilt, EndsNoLine, EndsUnbuiltLine, EndsHelp, EndsVersion};
+ghost use Rattle.sk_app.specs.Ends.{IsDelivered, Writes, WritesPart, writes_nothing, IsToldOf, EndsBuilt, EndsFaulty, EndsUntyped, EndsLarge, EndsLong, EndsUnbuilt, EndsNoLine, EndsUnbuiltLine, EndsHelp, EndsVersion};
 ghost use Rattle.sk_app.specs.Effects.{is_of_synth, IsResult, IsShown, IsOutput, Serves, Answers};
 
 use crate::ending::Ending;
@@ -58,24 +60,20 @@ fn synth<S: Source, K: Sink>(alloc: Global, set: &Set, source: &mut S, sink: &mu
     ensures ends { IsTrue (is_of_synth result) }
     ensures completed { result ≡ Ending.Completed → IfSome (S.left source.old) (λ text. Writes (IsCompletion set.now text) (K.held sink.old) (K.held sink.new)) }
     ensures none { result ≡ Ending.NoCompletion → IfSome (S.left source.old) (λ text. Writes (IsNone set.now text) (K.held sink.old) (K.held sink.new)) }
-    ensures not_text { (fault : TextFault) → result ≡ Ending.NotText fault → IfSome (S.left source.old) (IsTextFault fault) }
-    ensures not_built { result ≡ Ending.NotBuilt → IfSome (S.left source.old) (IsNotBuilt set.now) }
-    ensures too_long { result ≡ Ending.TooLong → IfSome (S.left source.old) (λ text. most_bytes < length text) }
+    ensures told { IfSome (S.left source.old) (λ text. IsToldOf set.now text result (S.faults source.old) (S.faults source.new) (K.faults sink.old) (K.faults sink.new)) }
     ensures read_fault { result ≡ Ending.ReadFault → Rose (S.faults source.old) (S.faults source.new) }
     ensures write_fault { result ≡ Ending.WriteFault → Rose (K.faults sink.old) (K.faults sink.new) }
     ensures prefix { result ≡ Ending.WriteFault → IfSome (S.left source.old) (λ text. WritesPart (IsResult set.now text) (K.held sink.old) (K.held sink.new)) }
     ensures kept { IsTrue (writes_nothing result) → K.held sink.new ≡ K.held sink.old }
     ensures few { TakesFew (S.left source.old) (S.left source.new) }
-    ensures ends_built { IfSome (S.left source.old) (λ text. (bounds : Bounds) (e : Expanded) → IsBuilt set.now text bounds e → EndsBuilt result (S.faults source.old) (S.faults source.new) (K.faults sink.old) (K.faults sink.new)) }
-    ensures ends_faulty { IfSome (S.left source.old) (λ text. length text ≤ most_bytes → (fault : TextFault) → IsTextFault fault text → EndsFaulty fault result (S.faults source.old) (S.faults source.new)) }
-    ensures ends_unbuilt { IfSome (S.left source.old) (λ text. length text ≤ most_bytes → IsNotBuilt set.now text → EndsUnbuilt result (S.faults source.old) (S.faults source.new)) }
-    ensures ends_long { IfSome (S.left source.old) (λ text. most_bytes < length text → EndsLong result (S.faults source.old) (S.faults source.new)) }
 {
     match prepare(alloc, set, source) {
         Err(_) => Ending::Memory,
         Ok(Prepared::ReadFault) => Ending::ReadFault,
         Ok(Prepared::TooLong) => Ending::TooLong,
         Ok(Prepared::Found(Found::NotText(fault))) => Ending::NotText(fault),
+        Ok(Prepared::Found(Found::NotTyped(fault))) => Ending::NotTyped(fault),
+        Ok(Prepared::Found(Found::TooLarge(fault))) => Ending::TooLarge(fault),
         Ok(Prepared::Found(Found::NotBuilt)) => Ending::NotBuilt,
         Ok(Prepared::Found(Found::Nothing(out))) => {
             deliver(sink, out.as_slice(), Ending::NoCompletion)
@@ -167,7 +165,11 @@ pub fn run<S: Source, K: Sink>(
 
     // The text has this fault: its first as bytes, or what its tokens read as.
     ensures not_text { (fault : TextFault) → result ≡ Ending.NotText fault → IfSome (S.left source.old) (IsTextFault fault) }
-    // The program does nothing for the line so far; or the text reads as a tree, and that is not taken.
+    // The tree of the text means no program with the options of the line.
+    ensures not_typed { (fault : TypeFault) → result ≡ Ending.NotTyped fault → ForSynth (map string_bytes words.now) (λ set. IfSome (S.left source.old) (IsUntyped set)) }
+    // The expansion of its program passes this limit, and none before it.
+    ensures too_large { (reason : SizeFault) → result ≡ Ending.TooLarge reason → ForSynth (map string_bytes words.now) (λ set. IfSome (S.left source.old) (λ text. IsTooLarge set text reason)) }
+    // The program does nothing for the line so far; or the text means a program within the limits, and is not taken.
     ensures not_built { result ≡ Ending.NotBuilt → IsUnbuiltLine (map string_bytes words.now) ⊎ ForSynth (map string_bytes words.now) (λ set. IfSome (S.left source.old) (IsNotBuilt set)) }
     ensures too_long { result ≡ Ending.TooLong → IfSome (S.left source.old) (λ text. most_bytes < length text) }
     ensures read_fault { result ≡ Ending.ReadFault → Rose (S.faults source.old) (S.faults source.new) }
@@ -190,7 +192,9 @@ pub fn run<S: Source, K: Sink>(
     ensures ends_version { IsLine (map string_bytes words.now) line.Version → EndsVersion result (K.faults sink.old) (K.faults sink.new) }
     ensures ends_built { (set : Set) → IsSynth (map string_bytes words.now) set → IfSome (S.left source.old) (λ text. (bounds : Bounds) (e : Expanded) → IsBuilt set text bounds e → EndsBuilt result (S.faults source.old) (S.faults source.new) (K.faults sink.old) (K.faults sink.new)) }
     ensures ends_faulty { (set : Set) → IsSynth (map string_bytes words.now) set → IfSome (S.left source.old) (λ text. length text ≤ most_bytes → (fault : TextFault) → IsTextFault fault text → EndsFaulty fault result (S.faults source.old) (S.faults source.new)) }
-    ensures ends_unbuilt { (set : Set) → IsSynth (map string_bytes words.now) set → IfSome (S.left source.old) (λ text. length text ≤ most_bytes → IsNotBuilt set text → EndsUnbuilt result (S.faults source.old) (S.faults source.new)) }
+    ensures ends_untyped { (set : Set) → IsSynth (map string_bytes words.now) set → IfSome (S.left source.old) (λ text. length text ≤ most_bytes → IsUntyped set text → EndsUntyped result (S.faults source.old) (S.faults source.new)) }
+    ensures ends_large { (set : Set) → IsSynth (map string_bytes words.now) set → IfSome (S.left source.old) (λ text. (reason : SizeFault) → IsTooLarge set text reason → EndsLarge reason result (S.faults source.old) (S.faults source.new)) }
+    ensures ends_unbuilt { (set : Set) → IsSynth (map string_bytes words.now) set → IfSome (S.left source.old) (λ text. IsNotBuilt set text → EndsUnbuilt result (S.faults source.old) (S.faults source.new)) }
     ensures ends_long { (set : Set) → IsSynth (map string_bytes words.now) set → IfSome (S.left source.old) (λ text. most_bytes < length text → EndsLong result (S.faults source.old) (S.faults source.new)) }
 {
     let ending = answer(alloc, words, source, sink);

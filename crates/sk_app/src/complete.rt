@@ -1,30 +1,25 @@
 //! The completion of a text.
 
-ghost use Rattle.std.specs.Prelude.{ℕ, ◌≡◌, ◌≤◌, ◌<◌, ◌↔◌, ◌++◌, Some, length, IsTrue, IsNone, IfOk, OnOk, IfSome};
-ghost use Rattle.sk_prog.specs.declared.prog.Prog.{Prog};
+ghost use Rattle.std.specs.Prelude.{◌≡◌, ◌≤◌, ◌↔◌, ◌++◌, length, IsTrue, IfOk, OnOk};
 ghost use Rattle.sk_model.specs.Fill.{InRange, fill};
-ghost use Rattle.sk_opts.specs.Ranges.{IsInRanges, AreInRanges};
-ghost use Rattle.sk_app.specs.Streams.{most_bytes};
-ghost use Rattle.sk_app.specs.Built.{bits_count, most_bits, IsSmall, IsMeant, IsOnlyOf, IsUnbuiltOf};
+ghost use Rattle.sk_opts.specs.Ranges.{IsInRanges};
+ghost use Rattle.sk_front.specs.Texts.{most_bytes};
+ghost use Rattle.sk_app.specs.Built.{bits_count, most_bits, IsSmall};
 ghost use Rattle.sk_app.specs.ResultText.{spaced, completion_lines, completed_text, none_text};
-ghost use Rattle.sk_app.specs.Early.{early_prog};
 ghost use Rattle.sk_app.specs.Filling.{IsEarlyExpansion, FromEarly};
-ghost use Rattle.sk_app.specs.Prepared.{IsFound};
-ghost use Rattle.sk_app.specs.Read.{IsBuilding};
+ghost use Rattle.sk_app.specs.Prepared.{IsBuilding, IsFound};
 
 use crate::early::is_early;
-use crate::ending::TextFault;
-use crate::filling::{expand_early, fill_early, is_within};
+use crate::filling::{fill_early, is_within};
 use crate::prepare::Found;
 use crate::search::{is_searchable, search};
-use crate::tree::{Read, tree_of};
-use crate::typing::check_early;
 use sk_base::{Bounds, push_number};
+use sk_check::TypeFault;
+use sk_front::{SketchFault, TextFault, sized_expansion_of};
 use sk_model::{Choice, Expanded};
-use sk_opts::{Set, bounds};
+use sk_opts::Set;
 use sk_print::print;
-use sk_prog::Prog;
-use sk_tree::Tree;
+use sk_sizes::SizeFault;
 use std::alloc::{AllocError, Global};
 
 /// The greatest number of nodes of an expansion that is taken so far.
@@ -35,24 +30,14 @@ const MOST_NODES: usize = 4096;
 pub enum Building {
     /// It reads as no tree.
     NotText(TextFault),
-    /// It reads as a tree that is not taken so far.
+    /// It means no program.
+    NotTyped(TypeFault),
+    /// The program that it means is too large.
+    TooLarge(SizeFault),
+    /// It is none that is taken so far.
     NotBuilt,
     /// The bounds and the expansion.
     Whole { bounds: Bounds, expanded: Expanded },
-}
-
-/// The program that an early tree means, or none.
-fn prog_of(alloc: Global, tree: &Tree, bounds: &Bounds) -> Result<Option<Prog>, AllocError>
-    requires { AreInRanges bounds.now }
-    ensures found { IfOk result (λ o. IfSome o (IsMeant bounds.now tree.now)) }
-    ensures early { IfOk result (λ o. IfSome o (λ prog. IsTrue (early_prog prog))) }
-    ensures only { IfOk result (λ o. (prog : Prog) → IsMeant bounds.now tree.now prog → o ≡ Some prog) }
-{
-    if !is_early(tree) {
-        return Ok(None);
-    }
-    let prog = check_early(alloc, tree, bounds)?;
-    Ok(prog)
 }
 
 /// Whether the holes and the arguments have few enough bits to try all.
@@ -72,42 +57,29 @@ fn is_small(expanded: &Expanded, bounds: &Bounds) -> bool
     is_within(&expanded.prog, MOST_NODES) && has_few_bits(expanded, bounds)
 }
 
-/// The expansion of a tree that is taken, or none.
-fn expanded_of(alloc: Global, tree: &Tree, bounds: &Bounds) -> Result<Option<Expanded>, AllocError>
-    requires { AreInRanges bounds.now }
-    ensures found { IfOk result (λ o. IfSome o (IsOnlyOf bounds.now tree.now)) }
-    ensures early { IfOk result (λ o. IfSome o (λ e. IsEarlyExpansion e bounds.now)) }
-    ensures none { IfOk result (λ o. IsNone o → IsUnbuiltOf bounds.now tree.now) }
-{
-    match prog_of(alloc, tree, bounds)? {
-        Some(prog) => {
-            let expanded = expand_early(alloc, prog, bounds)?;
-            if is_small(&expanded, bounds) {
-                Ok(Some(expanded))
-            } else {
-                Ok(None)
-            }
-        }
-        None => Ok(None),
-    }
-}
-
 /// What is built of a text with the options of a line: the expansion of one that is taken, or why there is none.
 fn built(alloc: Global, set: &Set, text: &[u8]) -> Result<Building, AllocError>
     requires short { length text.now ≤ most_bytes }
     requires set { IsInRanges set.now }
     ensures { IfOk result (λ built. IsBuilding set.now built text.now) }
 {
-    match tree_of(alloc, text)? {
-        Read::Fault(fault) => Ok(Building::NotText(fault)),
-        Read::Tree(tree) => {
-            let bounds = bounds(set, &tree);
-            match expanded_of(alloc, &tree, &bounds)? {
-                Some(expanded) => Ok(Building::Whole { bounds, expanded }),
-                None => Ok(Building::NotBuilt),
-            }
-        }
+    let expansion = match sized_expansion_of(alloc, set, text) {
+        Ok(expansion) => expansion,
+        Err(SketchFault::NotText(fault)) => return Ok(Building::NotText(fault)),
+        Err(SketchFault::NotTyped(fault)) => return Ok(Building::NotTyped(fault)),
+        Err(SketchFault::TooLarge(fault)) => return Ok(Building::TooLarge(fault)),
+        Err(SketchFault::Memory) => return Err(AllocError),
+    };
+    if !is_early(&expansion.tree) {
+        return Ok(Building::NotBuilt);
     }
+    if !is_small(&expansion.expanded, &expansion.bounds) {
+        return Ok(Building::NotBuilt);
+    }
+    Ok(Building::Whole {
+        bounds: expansion.bounds,
+        expanded: expansion.expanded,
+    })
 }
 
 /// Appends each number with a space before it.
@@ -156,6 +128,8 @@ pub fn complete(alloc: Global, set: &Set, text: &[u8]) -> Result<Found, AllocErr
 {
     match built(alloc, set, text)? {
         Building::NotText(fault) => Ok(Found::NotText(fault)),
+        Building::NotTyped(fault) => Ok(Found::NotTyped(fault)),
+        Building::TooLarge(fault) => Ok(Found::TooLarge(fault)),
         Building::NotBuilt => Ok(Found::NotBuilt),
         Building::Whole { bounds, expanded } => match search(alloc, &expanded, &bounds)? {
             Some(choice) => {

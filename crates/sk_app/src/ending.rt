@@ -1,22 +1,19 @@
 //! How a call ends.
 
-ghost use Rattle.std.specs.Prelude.{◌≡◌, ◌++◌, codes, IfOk};
+ghost use Rattle.std.specs.Prelude.{◌≡◌, ◌++◌, codes, IfOk, OnOk};
 ghost use Rattle.std.specs.Fmt.{decimal};
-ghost use Rattle.sk_texts.specs.Messages.{refusal_status, refusal_message};
-ghost use Rattle.sk_app.specs.declared.ending.TextFault.TheVariants.{Lex, Parse};
-ghost use Rattle.sk_app.specs.Ending.{text_refusal, status_of, message_of};
+ghost use Rattle.sk_texts.specs.Messages.{rule_number, refusal_status, refusal_message};
+ghost use Rattle.sk_front.specs.declared.fault.TextFault.TheVariants.{Lex, Parse};
+ghost use Rattle.sk_app.specs.Ending.{text_refusal, rule_of, type_refusal, size_refusal, exec_refusal, status_of, message_of};
 
-use sk_base::{Name, push_number};
+use sk_base::{Name, Span, push_number};
+use sk_check::{Rule, TypeFault};
+use sk_direct::ExecFault;
+use sk_front::TextFault;
 use sk_lexer::LexFault;
 use sk_parser::ParseFault;
+use sk_sizes::SizeFault;
 use std::alloc::{AllocError, Global};
-
-/// What is wrong with a text, with a byte of it: its first fault as bytes, or why its tokens read as no tree.
-#[derive(Debug, Drop, Clone, Copy, PartialEq, Eq)]
-pub enum TextFault {
-    Lex(LexFault),
-    Parse(ParseFault),
-}
 
 /// How `run` ends.
 #[derive(Debug, Drop, Clone, Copy, PartialEq, Eq)]
@@ -29,10 +26,22 @@ pub enum Ending {
     HelpShown,
     /// The sink got the version.
     VersionShown,
+    /// The function was run to its end. The sink got what it gives.
+    ExecDone,
+    /// The run of the function failed at these bytes. The sink got a line that says so.
+    ExecFailed { span: Span },
+    /// The run was skipped there. The sink got a line that says so.
+    ExecSkipped { span: Span },
     /// The words are no command line.
     NotALine,
     /// The text has no tokens, or these read as no tree.
     NotText(TextFault),
+    /// The text means no program.
+    NotTyped(TypeFault),
+    /// The expansion of its program is too large.
+    TooLarge(SizeFault),
+    /// No function of the text is run, for this reason.
+    NotRun(ExecFault),
     /// The source failed.
     ReadFault,
     /// The sink failed. It may hold a prefix of the result text.
@@ -41,8 +50,8 @@ pub enum Ending {
     TooLong,
     /// Memory was wanting.
     Memory,
-    /// The line is one for which the program does nothing so far, or the text reads as a tree and is none that the
-    /// program takes so far.
+    /// The line is one for which the program does nothing so far, or the text means a program within the limits and is
+    /// none that is taken so far.
     NotBuilt,
 }
 
@@ -51,10 +60,15 @@ pub fn status(ending: &Ending) -> u8
     ensures { result ≡ status_of ending.now }
 {
     match ending {
-        Ending::Completed | Ending::HelpShown | Ending::VersionShown => 0,
+        Ending::Completed | Ending::HelpShown | Ending::VersionShown | Ending::ExecDone => 0,
         Ending::NoCompletion => 1,
+        Ending::ExecFailed { span: _ } => 4,
+        Ending::ExecSkipped { span: _ } => 5,
         Ending::NotALine => 10,
         Ending::NotText(fault) => text_status(fault),
+        Ending::NotTyped(_) => 12,
+        Ending::TooLarge(reason) => size_status(*reason),
+        Ending::NotRun(_) => 18,
         Ending::ReadFault => 14,
         Ending::WriteFault => 15,
         Ending::TooLong => 16,
@@ -71,8 +85,14 @@ pub fn message(alloc: Global, ending: &Ending) -> Result<Name, AllocError>
         Ending::Completed | Ending::NoCompletion | Ending::HelpShown | Ending::VersionShown => {
             said(alloc, b"")
         }
+        Ending::ExecDone | Ending::ExecFailed { span: _ } | Ending::ExecSkipped { span: _ } => {
+            said(alloc, b"")
+        }
         Ending::NotALine => said(alloc, b"usage"),
         Ending::NotText(fault) => text_message(alloc, fault),
+        Ending::NotTyped(fault) => type_message(alloc, fault),
+        Ending::TooLarge(reason) => size_message(alloc, *reason),
+        Ending::NotRun(fault) => exec_message(alloc, fault),
         Ending::ReadFault => said(alloc, b"read fault"),
         Ending::WriteFault => said(alloc, b"write fault"),
         Ending::TooLong => said(alloc, b"too long"),
@@ -89,6 +109,67 @@ fn text_status(fault: &TextFault) -> u8
         TextFault::Lex(LexFault::Memory) => 17,
         TextFault::Parse(ParseFault::Memory) => 17,
         _ => 11,
+    }
+}
+
+// The status for an expansion that is too large. Want of memory is no such.
+fn size_status(reason: SizeFault) -> u8
+    ensures { result ≡ refusal_status (size_refusal reason) }
+{
+    match reason {
+        SizeFault::Memory => 17,
+        _ => 13,
+    }
+}
+
+fn rule_number(rule: Rule) -> u64
+    ensures { result ≡ rule_number (rule_of rule) }
+{
+    match rule {
+        Rule::UnknownName => 1,
+        Rule::Twice => 2,
+        Rule::Mismatch => 3,
+        Rule::NotTarget => 4,
+        Rule::BadSignature => 5,
+        Rule::NotConstant => 6,
+        Rule::LiteralRange => 7,
+        Rule::LengthRange => 8,
+        Rule::NoAlternative => 9,
+        Rule::ReorderForm => 10,
+        Rule::NameKept => 11,
+        Rule::HoleWidth => 12,
+    }
+}
+
+// The number of the rule, and the place of what breaks it.
+fn type_message(alloc: Global, fault: &TypeFault) -> Result<Name, AllocError>
+    ensures { IfOk result (λ name. name ≡ refusal_message (type_refusal fault.now)) }
+{
+    let mut out = Vec::from_slice(alloc, b"type ")?;
+    push_number(&mut out, rule_number(fault.rule))?;
+    push_spaced(&mut out, fault.span.from)?;
+    push_spaced(&mut out, fault.span.to)?;
+    Ok(Name::from_vec(out))
+}
+
+// A number behind a space.
+fn push_spaced(out: &mut Vec<u8>, number: u32) -> Result<(), AllocError>
+    ensures { OnOk result (out.new.items ≡ out.old.items ++ codes " " ++ decimal number) }
+{
+    out.push(b' ')?;
+    push_number(out, u64::from(number))?;
+    Ok(())
+}
+
+fn size_message(alloc: Global, reason: SizeFault) -> Result<Name, AllocError>
+    ensures { IfOk result (λ name. name ≡ refusal_message (size_refusal reason)) }
+{
+    match reason {
+        SizeFault::Copies => limited(alloc, b"Copies", 262_144),
+        SizeFault::Sites => limited(alloc, b"Sites", 4096),
+        SizeFault::Steps => limited(alloc, b"Steps", 262_144),
+        SizeFault::News => limited(alloc, b"News", 256),
+        SizeFault::Memory => said(alloc, b"no memory"),
     }
 }
 
@@ -129,6 +210,37 @@ fn said(alloc: Global, words: &[u8]) -> Result<Name, AllocError>
 {
     let name = Name::from_slice(alloc, words)?;
     Ok(name)
+}
+
+fn exec_message(alloc: Global, fault: &ExecFault) -> Result<Name, AllocError>
+    ensures { IfOk result (λ name. name ≡ refusal_message (exec_refusal fault.now)) }
+{
+    match fault {
+        ExecFault::NoFunction => unrun(alloc, b"NoFunction"),
+        ExecFault::Unfilled => unrun(alloc, b"Unfilled"),
+        ExecFault::References => unrun(alloc, b"References"),
+        ExecFault::Count => unrun(alloc, b"Count"),
+        ExecFault::Value { index: _ } => unrun(alloc, b"Value"),
+    }
+}
+
+// The name of a reason for which no function is run.
+fn unrun(alloc: Global, name: &[u8]) -> Result<Name, AllocError>
+    ensures { IfOk result (λ text. text ≡ codes "exec " ++ name.now) }
+{
+    let mut out = Vec::from_slice(alloc, b"exec ")?;
+    out.extend_from_slice(name)?;
+    Ok(Name::from_vec(out))
+}
+
+// The name of a size that is passed, and its limit.
+fn limited(alloc: Global, name: &[u8], limit: u32) -> Result<Name, AllocError>
+    ensures { IfOk result (λ text. text ≡ codes "size " ++ name.now ++ codes " " ++ decimal limit) }
+{
+    let mut out = Vec::from_slice(alloc, b"size ")?;
+    out.extend_from_slice(name)?;
+    push_spaced(&mut out, limit)?;
+    Ok(Name::from_vec(out))
 }
 
 // The name of a fault of the text, and its place.

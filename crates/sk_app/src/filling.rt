@@ -1,116 +1,17 @@
-//! Expands and fills early programs, and counts their nodes.
+//! Fills early programs, and counts their nodes.
 
 ghost use Rattle.std.specs.Prelude.{◌≡◌, ◌↔◌, ◌+◌, ◌^◌, ◌<◌, ◌≤◌, ◌++◌, ◌∷◌, [], All, IsTrue, IfOk, OnOk, MatchOption, length, slice_index_or};
 ghost use Rattle.sk_model.specs.Parts.{value};
-ghost use Rattle.sk_model.specs.Sites.{hole_bits};
-ghost use Rattle.sk_model.specs.Expand.{expand};
 ghost use Rattle.sk_model.specs.Fill.{InRange, fill};
 ghost use Rattle.sk_model.specs.Nodes.{nodes};
 ghost use Rattle.sk_app.specs.Early.{early_prog};
-ghost use Rattle.sk_app.specs.EarlyFilling.{expr_sites, value_sites, stmt_sites, stmts_sites, funs_sites, fill_expr, fill_stmts, fill_funs, value_part, expr_part, stmt_part, stmts_count, expr_nodes, value_nodes, stmt_nodes, stmts_nodes, consts_nodes, funs_nodes, early_nodes};
-ghost use Rattle.sk_app.specs.Filling.{IsPlain, IsEarlyExpansion, expr_narrow, value_narrow, stmt_narrow, stmts_narrow, funs_narrow, funs_count, are_numbers, FromEarly};
+ghost use Rattle.sk_app.specs.EarlyFilling.{fill_expr, fill_stmts, fill_funs, value_part, expr_part, stmt_part, stmts_count, expr_nodes, value_nodes, stmt_nodes, stmts_nodes, consts_nodes, funs_nodes, early_nodes};
+ghost use Rattle.sk_app.specs.Filling.{funs_count, are_numbers, FromEarly};
 
-use sk_base::{Bounds, Boxed, List, Name, Span};
-use sk_model::{Choice, Expanded, Site};
+use sk_base::{Boxed, List, Name, Span};
+use sk_model::{Choice, Expanded};
 use sk_prog::{ConstDef, Fun, PEForm, PExpr, PForm, PStmt, ParamDef, Prog};
 use std::alloc::{AllocError, Global};
-
-/// How many bits a hole has: as many as it names, or else the width for all holes.
-fn hole_bits(width: Option<u32>, bounds: &Bounds) -> u32
-    ensures { result ≡ hole_bits bounds.now width }
-{
-    match width {
-        Some(bits) => bits,
-        None => bounds.cbits,
-    }
-}
-
-fn add_hole(sites: &mut Vec<Site>, bits: u32, span: Span) -> Result<(), AllocError>
-    requires { bits ≤ 31 }
-    ensures { OnOk result (sites.new.items ≡ sites.old.items ++ record { size = 2 ^ bits; span = span } ∷ []) }
-{
-    sites.push(Site {
-        size: 1u64 << bits,
-        span,
-    })?;
-    Ok(())
-}
-
-fn expr_sites(sites: &mut Vec<Site>, e: &PExpr, bounds: &Bounds) -> Result<(), AllocError>
-    requires { IsTrue (expr_narrow bounds.now e.now) }
-    ensures { OnOk result (sites.new.items ≡ sites.old.items ++ expr_sites bounds.now e.now) }
-{
-    match &e.form {
-        PEForm::Hole(width) => add_hole(sites, hole_bits(*width, bounds), e.span),
-        PEForm::Binary { op: _, left, right } => {
-            expr_sites(sites, left.get(), bounds)?;
-            expr_sites(sites, right.get(), bounds)?;
-            Ok(())
-        }
-        _ => Ok(()),
-    }
-}
-
-fn stmt_sites(sites: &mut Vec<Site>, s: &PStmt, bounds: &Bounds) -> Result<(), AllocError>
-    requires { IsTrue (stmt_narrow bounds.now s.now) }
-    ensures { OnOk result (sites.new.items ≡ sites.old.items ++ stmt_sites bounds.now s.now) }
-{
-    match &s.form {
-        PForm::Declare {
-            slot: _,
-            name: _,
-            ty: _,
-            value: Some(e),
-        } => expr_sites(sites, e, bounds),
-        PForm::Assign { target, value } => {
-            expr_sites(sites, target, bounds)?;
-            expr_sites(sites, value, bounds)?;
-            Ok(())
-        }
-        PForm::Assert(e) => expr_sites(sites, e, bounds),
-        _ => Ok(()),
-    }
-}
-
-fn stmts_sites(sites: &mut Vec<Site>, stmts: &[PStmt], bounds: &Bounds) -> Result<(), AllocError>
-    requires { IsTrue (stmts_narrow bounds.now stmts.now) }
-    ensures { OnOk result (sites.new.items ≡ sites.old.items ++ stmts_sites bounds.now stmts.now) }
-{
-    for stmt in stmts {
-        stmt_sites(sites, stmt, bounds)?;
-    }
-    Ok(())
-}
-
-fn funs_sites(alloc: Global, funs: &[Fun], bounds: &Bounds) -> Result<Vec<Site>, AllocError>
-    requires { IsTrue (funs_narrow bounds.now funs.now) }
-    ensures { IfOk result (λ sites. sites.items ≡ funs_sites bounds.now funs.now) }
-{
-    let mut sites = Vec::new(alloc);
-    for fun in funs {
-        stmts_sites(&mut sites, fun.body.as_slice(), bounds)?;
-    }
-    Ok(sites)
-}
-
-/// The expansion of an early program, which stands for itself.
-#[tactic(auto, using(crate::proofs::FillingLaws::prog_is_narrow, crate::proofs::FillingWhole::expand_whole))]
-pub fn expand_early(alloc: Global, prog: Prog, bounds: &Bounds) -> Result<Expanded, AllocError>
-    requires early { IsTrue (early_prog prog) }
-    requires plain { IsPlain prog }
-    requires narrow { bounds.now.cbits ≤ 31 }
-    ensures expanded { IfOk result (λ e. e ≡ expand prog bounds.now) }
-    ensures early { IfOk result (λ e. IsEarlyExpansion e bounds.now) }
-    ensures fillable { IfOk result (λ e. FromEarly e) }
-{
-    let sites = funs_sites(alloc, prog.funs.as_slice(), bounds)?;
-    let sites = List::from_vec(sites);
-    Ok(Expanded {
-        prog,
-        ordinary: 1,
-        sites,
-    })
-}
 
 /// What a program is filled with: a value for each of its sites.
 #[derive(Drop)]

@@ -38,6 +38,8 @@ It ends with one of these, and from 10 on says more on standard error.
    1  no completion meets the harness on every input
   10  the words are no command line
   11  the text has no tokens, or reads as no program
+  12  the text breaks a rule of types
+  13  its program is too large
   14  standard input failed
   15  standard output failed
   16  the text has more than 1048576 bytes

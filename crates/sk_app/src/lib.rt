@@ -4,7 +4,6 @@
 mod command;
 mod complete;
 mod early;
-mod early_rules;
 mod ending;
 mod filling;
 mod help;
@@ -15,9 +14,8 @@ mod running;
 mod search;
 mod std_streams;
 mod text;
-mod tree;
-mod typing;
 
 pub use command::run;
-pub use ending::{Ending, TextFault, message, status};
+pub use ending::{Ending, message, status};
+pub use sk_front::TextFault;
 pub use std_streams::{StdSink, StdSource};

@@ -2,14 +2,17 @@
 
 ghost use Rattle.std.specs.Prelude.{◌≡◌, ◌≤◌, length, IfOk};
 ghost use Rattle.sk_opts.specs.Ranges.{IsInRanges};
-ghost use Rattle.sk_app.specs.Streams.{TakesFew, most_bytes};
+ghost use Rattle.sk_front.specs.Texts.{most_bytes};
+ghost use Rattle.sk_app.specs.Streams.{TakesFew};
 ghost use Rattle.sk_app.specs.Prepared.{IsFound, IsPrepared};
 
 use crate::complete::complete;
-use crate::ending::TextFault;
 use crate::text::{Reading, read_text};
 use sk_base::Source;
+use sk_check::TypeFault;
+use sk_front::TextFault;
 use sk_opts::Set;
+use sk_sizes::SizeFault;
 use std::alloc::{AllocError, Global};
 
 /// What a text comes to.
@@ -17,7 +20,11 @@ use std::alloc::{AllocError, Global};
 pub enum Found {
     /// It reads as no tree.
     NotText(TextFault),
-    /// It reads as none that the program takes so far.
+    /// It means no program.
+    NotTyped(TypeFault),
+    /// The program that it means is too large.
+    TooLarge(SizeFault),
+    /// It is none that the program takes so far.
     NotBuilt,
     /// There is no completion: the result text that says so.
     Nothing(Vec<u8>),

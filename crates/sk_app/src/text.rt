@@ -1,7 +1,8 @@
 //! The text of the sketch, read from a source.
 
 ghost use Rattle.std.specs.Prelude.{◌≡◌, ◌≤◌, ◌<◌, ◌+◌, length, IfOk};
-ghost use Rattle.sk_app.specs.Streams.{IsRead, TakesFew, most_bytes};
+ghost use Rattle.sk_front.specs.Texts.{most_bytes};
+ghost use Rattle.sk_app.specs.Streams.{IsRead, TakesFew};
 ghost use Rattle.sk_app.specs.ReadStep.{IsStep};
 
 use sk_base::{Got, Source};

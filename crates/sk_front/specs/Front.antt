@@ -80,6 +80,19 @@ pub record ExpandsWithin (set : Set) (text : List ℕ) (x : Expansion) : Type 0 
   pub sized_to : IsSizedTo set text x.tree x.bounds x.prog x.expanded
   pub ranges : AreInRanges x.bounds
 
+-- the answers that these are
+
+abbrev pub IsTyped : Tree → Bounds → Prog → Typed → Type 0
+IsTyped tree bounds prog typed = typed ≡ record { tree = tree; bounds = bounds; prog = prog }
+
+abbrev pub IsExpansion : Tree → Bounds → Prog → Expanded → Expansion → Type 0
+IsExpansion tree bounds prog e x = x ≡ record { tree = tree; bounds = bounds; prog = prog; expanded = e }
+
+-- what is told of sizes
+abbrev pub too_large : SizeFault → SketchFault
+too_large size.Memory = fault.Memory
+too_large reason = fault.TooLarge reason
+
 -- Refusals. Each cause excludes the others, and each excludes that the text comes as far as the call that tells it. Want of
 -- memory has no cause.
 
@@ -113,6 +126,11 @@ IsSame (fault.NotText a) (fault.NotText b) = IsSameFault a b
 IsSame (fault.NotTyped a) (fault.NotTyped b) = ⊤
 IsSame (fault.TooLarge a) (fault.TooLarge b) = a ≡ b
 IsSame _ _ = ⊥
+
+-- The text is refused for this; want of memory is no cause.
+abbrev pub IsCause : (SketchFault → Type 0) → SketchFault → Type 0
+IsCause Fault fault.Memory = ⊥
+IsCause Fault told = Fault told
 
 -- a fault is told as this one, or memory is wanting
 abbrev pub IsToldAs : SketchFault → SketchFault → Type 0

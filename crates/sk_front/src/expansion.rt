@@ -1,10 +1,14 @@
 //! The expansion of the program that a text means.
 
-ghost use Rattle.std.specs.Prelude.{◌≤◌, length, IfOk, IfErr, MatchResult};
+ghost use Rattle.std.specs.Prelude.{◌≡◌, ◌≤◌, length, IfOk, IfErr, MatchResult};
 ghost use Rattle.sk_base.specs.declared.bounds.Bounds.{Bounds};
+ghost use Rattle.sk_tree.specs.declared.item.Tree.{Tree};
+ghost use Rattle.sk_prog.specs.declared.prog.Prog.{Prog};
+ghost use Rattle.sk_model.specs.declared.expanded.Expanded.{Expanded};
 ghost use Rattle.sk_opts.specs.Ranges.{IsInRanges};
+ghost use Rattle.sk_front.specs.declared.fault.SketchFault.{SketchFault};
 ghost use Rattle.sk_front.specs.Texts.{most_bytes};
-ghost use Rattle.sk_front.specs.Front.{Expands, ExpandsWithin, IsFaultOfExpansion, IsFaultOfSizes};
+ghost use Rattle.sk_front.specs.Front.{IsExpandedTo, IsSizedTo, IsExpansion, Expands, ExpandsWithin, IsFaultOfExpansion, IsFaultOfSizes, IsCause, IsToldAs, IsMemory, too_large};
 
 use crate::fault::SketchFault;
 use crate::program::program_of;
@@ -27,10 +31,14 @@ pub struct Expansion {
 }
 
 /// The fault of a text, for a fault of sizes.
-fn too_large(fault: SizeFault) -> SketchFault {
+fn too_large(fault: SizeFault) -> SketchFault
+    ensures { result ≡ too_large fault }
+{
     match fault {
         SizeFault::Memory => SketchFault::Memory,
-        fault => SketchFault::TooLarge(fault),
+        SizeFault::Copies | SizeFault::Sites | SizeFault::Steps | SizeFault::News => {
+            SketchFault::TooLarge(fault)
+        }
     }
 }
 
@@ -45,8 +53,23 @@ pub fn expansion_of(alloc: Global, set: &Set, text: &[u8]) -> Result<Expansion, 
     requires set { IsInRanges set.now }
     ensures found { IfOk result (Expands set.now text.now) }
     ensures fault { IfErr result (IsFaultOfExpansion set.now text.now) }
+    ensures only { (told : SketchFault) → IsCause (IsFaultOfExpansion set.now text.now) told → MatchResult result (λ _. ⊥) (IsToldAs told) }
+    ensures taken { (t : Tree) (b : Bounds) (p : Prog) (e : Expanded) → IsExpandedTo set.now text.now t b p e → MatchResult result (IsExpansion t b p e) IsMemory }
 {
-    let typed = program_of(alloc, set, text)?;
+    expanded(alloc, set, text)
+}
+
+/// The same, with the causes of what is answered alone.
+fn expanded(alloc: Global, set: &Set, text: &[u8]) -> Result<Expansion, SketchFault>
+    requires short { length text.now ≤ most_bytes }
+    requires set { IsInRanges set.now }
+    ensures found { IfOk result (Expands set.now text.now) }
+    ensures fault { IfErr result (IsFaultOfExpansion set.now text.now) }
+{
+    let typed = match program_of(alloc, set, text) {
+        Ok(typed) => typed,
+        Err(fault) => return Err(fault),
+    };
     match expand(alloc, &typed.prog, &typed.bounds) {
         Ok(expanded) => Ok(Expansion {
             tree: typed.tree,
@@ -58,7 +81,7 @@ pub fn expansion_of(alloc: Global, set: &Set, text: &[u8]) -> Result<Expansion, 
     }
 }
 
-/// The same, with the work of its obligations within the limits.
+/// The same as `expansion_of`, with the work of the obligations within the limits.
 ///
 /// # Errors
 ///
@@ -69,10 +92,25 @@ pub fn sized_expansion_of(alloc: Global, set: &Set, text: &[u8]) -> Result<Expan
     requires set { IsInRanges set.now }
     ensures found { IfOk result (ExpandsWithin set.now text.now) }
     ensures fault { IfErr result (IsFaultOfSizes set.now text.now) }
+    ensures only { (told : SketchFault) → IsCause (IsFaultOfSizes set.now text.now) told → MatchResult result (λ _. ⊥) (IsToldAs told) }
+    ensures taken { (t : Tree) (b : Bounds) (p : Prog) (e : Expanded) → IsSizedTo set.now text.now t b p e → MatchResult result (IsExpansion t b p e) IsMemory }
 {
-    let expansion = expansion_of(alloc, set, text)?;
+    sized(alloc, set, text)
+}
+
+/// The same, with the causes of what is answered alone.
+fn sized(alloc: Global, set: &Set, text: &[u8]) -> Result<Expansion, SketchFault>
+    requires short { length text.now ≤ most_bytes }
+    requires set { IsInRanges set.now }
+    ensures found { IfOk result (ExpandsWithin set.now text.now) }
+    ensures fault { IfErr result (IsFaultOfSizes set.now text.now) }
+{
+    let expansion = match expansion_of(alloc, set, text) {
+        Ok(expansion) => expansion,
+        Err(fault) => return Err(fault),
+    };
     match sizes(alloc, &expansion.expanded, &expansion.bounds) {
-        Ok(_) => Ok(expansion),
+        Ok(_sizes) => Ok(expansion),
         Err(fault) => Err(too_large(fault)),
     }
 }

@@ -1,9 +1,13 @@
 //! The program that a text means.
 
-ghost use Rattle.std.specs.Prelude.{◌≤◌, length, IfOk, IfErr};
+ghost use Rattle.std.specs.Prelude.{◌≤◌, length, IfOk, IfErr, MatchResult};
+ghost use Rattle.sk_base.specs.declared.bounds.Bounds.{Bounds};
+ghost use Rattle.sk_tree.specs.declared.item.Tree.{Tree};
+ghost use Rattle.sk_prog.specs.declared.prog.Prog.{Prog};
 ghost use Rattle.sk_opts.specs.Ranges.{IsInRanges};
+ghost use Rattle.sk_front.specs.declared.fault.SketchFault.{SketchFault};
 ghost use Rattle.sk_front.specs.Texts.{most_bytes};
-ghost use Rattle.sk_front.specs.Front.{Means, IsFaultOfProgram};
+ghost use Rattle.sk_front.specs.Front.{IsTypedAs, IsTyped, Means, IsFaultOfProgram, IsCause, IsToldAs, IsMemory};
 
 use crate::fault::SketchFault;
 use crate::tree::tree_of;
@@ -35,8 +39,24 @@ pub fn program_of(alloc: Global, set: &Set, text: &[u8]) -> Result<Typed, Sketch
     requires set { IsInRanges set.now }
     ensures found { IfOk result (Means set.now text.now) }
     ensures fault { IfErr result (IsFaultOfProgram set.now text.now) }
+    // The other direction: a text with a cause is refused for it, and one that means a program is told as that.
+    ensures only { (told : SketchFault) → IsCause (IsFaultOfProgram set.now text.now) told → MatchResult result (λ _. ⊥) (IsToldAs told) }
+    ensures taken { (t : Tree) (b : Bounds) (p : Prog) → IsTypedAs set.now text.now t b p → MatchResult result (IsTyped t b p) IsMemory }
 {
-    let tree = tree_of(alloc, text)?;
+    meant(alloc, set, text)
+}
+
+/// The same, with the causes of what is answered alone.
+fn meant(alloc: Global, set: &Set, text: &[u8]) -> Result<Typed, SketchFault>
+    requires short { length text.now ≤ most_bytes }
+    requires set { IsInRanges set.now }
+    ensures found { IfOk result (Means set.now text.now) }
+    ensures fault { IfErr result (IsFaultOfProgram set.now text.now) }
+{
+    let tree = match tree_of(alloc, text) {
+        Ok(tree) => tree,
+        Err(fault) => return Err(fault),
+    };
     let bounds = bounds(set, &tree);
     match check(alloc, &tree, &bounds) {
         Ok(prog) => Ok(Typed { tree, bounds, prog }),

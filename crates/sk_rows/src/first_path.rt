@@ -1,8 +1,11 @@
 //! One harness of the early language, from bytes to bytes.
 use sk_app::{Ending, TextFault, message, run, status};
-use sk_base::{CalmSink, CalmSource, List, MemSink, MemSource};
+use sk_base::{CalmSink, CalmSource, List, MemSink, MemSource, Span};
+use sk_check::{Rule, TypeFault};
+use sk_direct::ExecFault;
 use sk_lexer::LexFault;
 use sk_parser::ParseFault;
+use sk_sizes::SizeFault;
 use std::alloc::Global;
 use std::process::Abort;
 use std::test::Fail;
@@ -85,19 +88,12 @@ fn wraps_at_sixteen_bits(rt: HostRuntime) -> Result<(), Fail> {
 
 #[test]
 fn refuses_what_is_not_taken(rt: HostRuntime) -> Result<(), Fail> {
-    let texts: [&[u8]; 15] = [
+    let texts: [&[u8]; 8] = [
         b"",
         b"void f() { }",
         b"harness int f() { }",
         b"harness void f(bit x) { }",
-        b"harness void f(int x) { assert y == x; }",
-        b"harness void f(int x) { int x = 1; }",
-        b"harness void f(int x, int x) { }",
-        b"harness void f(int x) { assert x; }",
         b"harness void f(int x) { x = x + x + x; }",
-        b"harness void f(int x) { int y = y; }",
-        b"harness void f(int x) { x = 32768; }",
-        b"harness void f(int a, int b) { a = ??; b = ??; }",
         b"harness void f(int x) { x = {| x | ?? + x |}; }",
         b"int N = 2; harness void f(int x) { x = N; }",
         b"harness void f(int x) { } harness void g(int x) { }",
@@ -105,7 +101,14 @@ fn refuses_what_is_not_taken(rt: HostRuntime) -> Result<(), Fail> {
     for text in texts {
         expect_synth(&rt, rt.alloc(), text, Ending::NotBuilt, b"")?;
     }
-    Ok(())
+    // Two holes and two inputs, of 20 bits in all.
+    expect_synth(
+        &rt,
+        rt.alloc(),
+        b"harness void f(int a, int b) { a = ??; b = ??; }",
+        Ending::NotBuilt,
+        b"",
+    )
 }
 
 /// The words of a line.
@@ -115,6 +118,51 @@ fn words_of(alloc: Global, line: &[&str]) -> Result<Vec<String>, Fail> {
         words.push(String::from_str(alloc, word)?)?;
     }
     Ok(words)
+}
+
+/// Runs a line on a text, and looks at its status and at the begin of its message; nothing is written.
+fn expect_refusal(
+    rt: &(impl Abort + Clone),
+    alloc: Global,
+    line: &[&str],
+    text: &[u8],
+    number: u8,
+    begin: &[u8],
+) -> Result<(), Fail> {
+    let words = words_of(alloc, line)?;
+    let mut source = CalmSource::new(List::from_slice(alloc, text)?);
+    let mut sink = CalmSink::new(alloc);
+    let ends = run(alloc, words.as_slice(), &mut source, &mut sink);
+    assert_eq!(rt; status(&ends), number);
+    assert!(rt; message(alloc, &ends)?.as_bytes().starts_with(begin));
+    assert_eq!(rt; sink.bytes().len(), 0);
+    Ok(())
+}
+
+#[test]
+fn tells_which_rule_is_broken(rt: HostRuntime) -> Result<(), Fail> {
+    let rows: [(&[u8], &[u8]); 7] = [
+        (b"harness void f(int x) { x = y; }", b"type 1 28 29"),
+        (b"harness void f(int x) { int y = y; }", b"type 1 32 33"),
+        (b"harness void f(int x) { int x = 1; }", b"type 2 "),
+        (b"harness void f(int x, int x) { }", b"type 2 "),
+        (b"harness void f(int x) { assert x; }", b"type 3 31 32"),
+        (b"harness void f(ref int x) { }", b"type 5 "),
+        (b"harness void f(int x) { x = 32768; }", b"type 7 28 33"),
+    ];
+    for (text, begin) in rows {
+        expect_refusal(&rt, rt.alloc(), &["synth"], text, 12, begin)?;
+    }
+    Ok(())
+}
+
+#[test]
+fn tells_which_size_is_passed(rt: HostRuntime) -> Result<(), Fail> {
+    let loops: &[u8] = b"harness void main() { while (0) while (0) while (0) assert 1; }";
+    let turns: &[&str] = &["synth", "--bnd-unroll-amnt", "64"];
+    expect_refusal(&rt, rt.alloc(), turns, loops, 13, b"size Steps 262144")?;
+    // Within the sizes at eight turns, and not taken so far.
+    expect_refusal(&rt, rt.alloc(), &["synth"], loops, 20, b"not built")
 }
 
 #[test]
@@ -280,14 +328,41 @@ fn reads_and_writes_in_steps(rt: HostRuntime) -> Result<(), Fail> {
 fn names_each_ending(rt: HostRuntime) -> Result<(), Fail> {
     let lexed = Ending::NotText(TextFault::Lex(LexFault::OpenString { at: 15 }));
     let parsed = Ending::NotText(TextFault::Parse(ParseFault::NoReading { at: 1_048_576 }));
-    let rows: [(Ending, u8, &[u8]); 12] = [
+    let broken = Ending::NotTyped(TypeFault {
+        rule: Rule::HoleWidth,
+        span: Span { from: 7, to: 1024 },
+    });
+    let span = Span { from: 3, to: 9 };
+    let rows: [(Ending, u8, &[u8]); 22] = [
         (Ending::Completed, 0, b""),
         (Ending::NoCompletion, 1, b""),
         (Ending::HelpShown, 0, b""),
         (Ending::VersionShown, 0, b""),
+        (Ending::ExecDone, 0, b""),
+        (Ending::ExecFailed { span }, 4, b""),
+        (Ending::ExecSkipped { span }, 5, b""),
         (Ending::NotALine, 10, b"usage"),
         (lexed, 11, b"text OpenString 15"),
         (parsed, 11, b"text NoReading 1048576"),
+        (broken, 12, b"type 12 7 1024"),
+        (
+            Ending::TooLarge(SizeFault::Copies),
+            13,
+            b"size Copies 262144",
+        ),
+        (Ending::TooLarge(SizeFault::Sites), 13, b"size Sites 4096"),
+        (Ending::TooLarge(SizeFault::Steps), 13, b"size Steps 262144"),
+        (Ending::TooLarge(SizeFault::News), 13, b"size News 256"),
+        (
+            Ending::NotRun(ExecFault::NoFunction),
+            18,
+            b"exec NoFunction",
+        ),
+        (
+            Ending::NotRun(ExecFault::Value { index: 2 }),
+            18,
+            b"exec Value",
+        ),
         (Ending::ReadFault, 14, b"read fault"),
         (Ending::WriteFault, 15, b"write fault"),
         (Ending::TooLong, 16, b"too long"),

@@ -19,6 +19,12 @@ returns-clause-version g c = laws.version c.answer-ending.ensures
 pub returns-clause-not_text : goal.returns-clause-not_text
 returns-clause-not_text g c = laws.not_text c.answer-ending.ensures
 
+pub returns-clause-not_typed : goal.returns-clause-not_typed
+returns-clause-not_typed g c = laws.not_typed c.answer-ending.ensures
+
+pub returns-clause-too_large : goal.returns-clause-too_large
+returns-clause-too_large g c = laws.too_large c.answer-ending.ensures
+
 pub returns-clause-not_built : goal.returns-clause-not_built
 returns-clause-not_built g c = laws.not_built c.answer-ending.ensures
 
@@ -66,6 +72,12 @@ returns-clause-ends_built g c = laws.ends_built c.answer-ending.ensures
 
 pub returns-clause-ends_faulty : goal.returns-clause-ends_faulty
 returns-clause-ends_faulty g c = laws.ends_faulty c.answer-ending.ensures
+
+pub returns-clause-ends_untyped : goal.returns-clause-ends_untyped
+returns-clause-ends_untyped g c = laws.ends_untyped c.answer-ending.ensures
+
+pub returns-clause-ends_large : goal.returns-clause-ends_large
+returns-clause-ends_large g c = laws.ends_large c.answer-ending.ensures
 
 pub returns-clause-ends_unbuilt : goal.returns-clause-ends_unbuilt
 returns-clause-ends_unbuilt g c = laws.ends_unbuilt c.answer-ending.ensures

@@ -12,16 +12,10 @@ returns-in-Synth-default-default-false g c =
       ends = s.ends;
       completed = s.completed;
       none = s.none;
-      not_text = s.not_text;
-      not_built = s.not_built;
-      too_long = s.too_long;
+      told = s.told;
       read_fault = s.read_fault;
       write_fault = s.write_fault;
       prefix = s.prefix;
       kept = s.kept;
       few = s.few;
-      ends_built = s.ends_built;
-      ends_faulty = s.ends_faulty;
-      ends_unbuilt = s.ends_unbuilt;
-      ends_long = s.ends_long;
     })
