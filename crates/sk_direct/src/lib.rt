@@ -3,6 +3,7 @@
 
 mod executing;
 mod fault;
+pub mod laws;
 
 pub use executing::{Executed, execute};
 pub use fault::ExecFault;
