@@ -4,6 +4,8 @@
 mod executing;
 mod fault;
 pub mod laws;
+#[cfg(test)]
+mod tests;
 
 pub use executing::{Executed, execute};
 pub use fault::ExecFault;
