@@ -132,3 +132,15 @@ IsCalled bounds e f fun words (executed.Run outcome out) = IsRunOf bounds e f fu
 abbrev pub IsAnswer : Bounds → Prog → Expanded → List ℕ → List (List ℕ) → Executed → Type 0
 IsAnswer bounds prog e name words (executed.NotRun reason) = IsExecFault reason bounds prog e name words
 IsAnswer bounds prog e name words (executed.Run outcome out) = IsNamedRun bounds prog e name words outcome out.items
+
+-- Answers by their causes
+
+-- no function is run, for this reason
+abbrev pub IsRefusedAs : ExecFault → Executed → Type 0
+IsRefusedAs reason (executed.NotRun told) = told ≡ reason
+IsRefusedAs reason (executed.Run outcome out) = ⊥
+
+-- a function is run, with this end and this text
+abbrev pub IsRunAs : Outcome → List ℕ → Executed → Type 0
+IsRunAs outcome out (executed.NotRun told) = ⊥
+IsRunAs outcome out (executed.Run ended written) = (ended ≡ outcome) × (written.items ≡ out)

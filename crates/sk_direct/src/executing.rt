@@ -1,13 +1,16 @@
 //! What a line `exec` does for a text.
 
-ghost use Rattle.std.specs.Prelude.{◌≡◌, ◌+◌, ◌≤◌, length, not, IfOk, IfErr, IsTrue, ◌↔◌};
+ghost use Rattle.std.specs.Prelude.{ℕ, ◌≡◌, ◌+◌, ◌≤◌, List, length, not, IfOk, IfErr, MatchResult, IsTrue, ◌↔◌};
 ghost use Rattle.std.specs.Str.{bytes_eq};
+ghost use Rattle.sk_model.specs.declared.outcome.Outcome.{Outcome};
 ghost use Rattle.sk_model.specs.Parts.{one_if};
 ghost use Rattle.sk_model.specs.Expand.{is_generator};
 ghost use Rattle.sk_opts.specs.Ranges.{IsInRanges, AreInRanges};
 ghost use Rattle.sk_front.specs.Texts.{most_bytes};
-ghost use Rattle.sk_front.specs.Front.{IsFaultOfExpansion};
-ghost use Rattle.sk_direct.specs.Direct.{IsFilled, IsCalled, IsAnswer, IsExecuted};
+ghost use Rattle.sk_front.specs.declared.fault.SketchFault.{SketchFault};
+ghost use Rattle.sk_front.specs.Front.{IsFaultOfExpansion, IsCause, IsToldAs, IsMemory};
+ghost use Rattle.sk_direct.specs.declared.fault.ExecFault.{ExecFault};
+ghost use Rattle.sk_direct.specs.Direct.{IsFilled, IsCalled, IsAnswer, IsNotRun, IsRunText, IsExecuted, IsRefusedAs, IsRunAs};
 
 use crate::fault::ExecFault;
 use sk_base::{Bounds, Name};
@@ -132,8 +135,16 @@ pub fn execute(
     requires set { IsInRanges set.now }
     ensures found { IfOk result (IsExecuted set.now name.now words.now text.now) }
     ensures fault { IfErr result (IsFaultOfExpansion set.now text.now) }
+    ensures only { (told : SketchFault) → IsCause (IsFaultOfExpansion set.now text.now) told → MatchResult result (λ _. ⊥) (IsToldAs told) }
+    ensures not_run { (reason : ExecFault) → IsNotRun set.now name.now words.now text.now reason → MatchResult result (IsRefusedAs reason) IsMemory }
+    ensures run { (outcome : Outcome) (out : List ℕ) → IsRunText set.now name.now words.now text.now outcome out → MatchResult result (IsRunAs outcome out) IsMemory }
 {
-    let it = expansion_of(alloc, set, text)?;
-    let executed = answer(alloc, &it.bounds, &it.prog, &it.expanded, name, words)?;
-    Ok(executed)
+    let it = match expansion_of(alloc, set, text) {
+        Ok(it) => it,
+        Err(fault) => return Err(fault),
+    };
+    match answer(alloc, &it.bounds, &it.prog, &it.expanded, name, words) {
+        Ok(executed) => Ok(executed),
+        Err(_) => Err(SketchFault::Memory),
+    }
 }
