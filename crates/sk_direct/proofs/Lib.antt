@@ -1,3 +1,3 @@
 pub mod Ranks
 pub mod Ends
-pub mod Told
+pub mod TextLaws
