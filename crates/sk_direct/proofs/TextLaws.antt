@@ -8,11 +8,13 @@ use Rattle.sk_model.specs.declared.expanded.Expanded.{Expanded}
 use Rattle.sk_model.specs.declared.outcome.Outcome.{Outcome}
 use Rattle.sk_model.specs.Expand.{expand}
 use Rattle.sk_opts.specs.declared.line.Set.{Set}
-use Rattle.sk_front.specs.declared.fault.SketchFault.{SketchFault}
-use Rattle.sk_front.specs.Front.{IsTypedAs, IsExpandedTo, IsFaultOfExpansion, IsCause}
+use Rattle.sk_front.specs.declared.expansion.Expansion.{Expansion}
+use Rattle.sk_front.specs.Front.{IsExpandedTo, Expands}
 use Rattle.sk_front.proofs.FrontLaws.{one_program, one_expansion, expansion_or_cause}
 use Rattle.sk_direct.specs.declared.fault.ExecFault.{ExecFault}
-use Rattle.sk_direct.specs.Direct.{IsExecFault, IsNamedRun, IsNotRun, IsRunText}
+use Rattle.sk_direct.specs.declared.executing.Executed.{Executed}
+use Rattle.sk_direct.specs.declared.executing.Executed.TheVariants as executed
+use Rattle.sk_direct.specs.Direct.{IsExecFault, IsNamedRun, IsNotRun, IsRunText, IsExecuted, IsAnswer, IsRefusedAs, IsRunAs}
 use Rattle.sk_direct.specs.Laws.{OneFaultOfText, NoFaultOfTextRun, OneTextRun, NoCauseOfRun, NoCauseOfFault}
 use Rattle.sk_direct.proofs.Ends.{one_fault, no_fault_of_run, one_run}
 
@@ -44,3 +46,24 @@ no_cause_of_run set name words text outcome out told x y = expansion_or_cause se
 
 pub no_cause_of_fault : NoCauseOfFault
 no_cause_of_fault set name words text a told x y = expansion_or_cause set text x.tree x.bounds x.prog x.e told x.expanded y
+
+-- Answers
+
+module _ (set : Set) (name : List ℕ) (words : List (List ℕ)) (text : List ℕ) where
+  executed_of : (it : Expansion) (x : Executed) → Expands set text it → IsAnswer it.bounds it.prog it.expanded name words x → IsExecuted set name words text x
+  executed_of it (executed.NotRun reason) m is = record { tree = it.tree; bounds = it.bounds; prog = it.prog; e = it.expanded; expanded = m.expanded_to; cause = is }
+  executed_of it (executed.Run outcome out) m is = record { tree = it.tree; bounds = it.bounds; prog = it.prog; e = it.expanded; expanded = m.expanded_to; named_run = is }
+
+  refused_as : (x : Executed) → IsExecuted set name words text x → (reason : ExecFault) → IsNotRun set name words text reason → IsRefusedAs reason x
+  refused_as (executed.NotRun told) is reason w = one_fault_of_text set name words text told reason is w
+  refused_as (executed.Run outcome out) is reason w = no_fault_of_text_run set name words text reason outcome out.items w is
+
+  run_as : (x : Executed) → IsExecuted set name words text x → (outcome : Outcome) (out : List ℕ) → IsRunText set name words text outcome out → IsRunAs outcome out x
+  run_as (executed.NotRun told) is outcome out w = no_fault_of_text_run set name words text told outcome out is w
+  run_as (executed.Run ended written) is outcome out w = one_text_run set name words text ended outcome written.items out is w
+
+  pub refused_answer : (it : Expansion) (x : Executed) → Expands set text it → IsAnswer it.bounds it.prog it.expanded name words x → (reason : ExecFault) → IsNotRun set name words text reason → IsRefusedAs reason x
+  refused_answer it x m is = refused_as x (executed_of it x m is)
+
+  pub run_answer : (it : Expansion) (x : Executed) → Expands set text it → IsAnswer it.bounds it.prog it.expanded name words x → (outcome : Outcome) (out : List ℕ) → IsRunText set name words text outcome out → IsRunAs outcome out x
+  run_answer it x m is = run_as x (executed_of it x m is)

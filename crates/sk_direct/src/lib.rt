@@ -5,6 +5,8 @@ mod executing;
 mod fault;
 pub mod laws;
 #[cfg(test)]
+mod programs;
+#[cfg(test)]
 mod tests;
 
 pub use executing::{Executed, execute};

@@ -207,7 +207,7 @@ fn shown_of(alloc: Global, executed: &Executed) -> Result<Vec<u8>, AllocError> {
 }
 
 /// Whether a text comes to this with a line `exec`.
-fn comes_to(alloc: Global, line: &str, text: &[u8], want: &[u8]) -> Result<bool, AllocError> {
+pub fn comes_to(alloc: Global, line: &str, text: &[u8], want: &[u8]) -> Result<bool, AllocError> {
     let words = words_of(alloc, line)?;
     if text.len() > 1_048_576 {
         return Ok(false);
@@ -241,5 +241,40 @@ fn refuses(rt: HostRuntime) -> Result<(), Fail> {
         let as_wanted = comes_to(rt.alloc(), line, text.as_bytes(), want.as_bytes())?;
         assert!(rt; as_wanted, "{line}: {text}");
     }
+    Ok(())
+}
+
+/// Functions of which each calls the next in so many parentheses, and so many of them.
+fn nested(alloc: Global, count: u64, depth: usize) -> Result<Vec<u8>, AllocError> {
+    let mut text = Vec::new(alloc);
+    for i in 0..count {
+        text.extend_from_slice(b"int f")?;
+        push_number(&mut text, i)?;
+        text.extend_from_slice(b"(int x) { return ")?;
+        for _ in 0..depth {
+            text.push(b'(')?;
+        }
+        text.extend_from_slice(b"f")?;
+        push_number(&mut text, i + 1)?;
+        text.extend_from_slice(b"(x)")?;
+        for _ in 0..depth {
+            text.push(b')')?;
+        }
+        text.extend_from_slice(b"; }\n")?;
+    }
+    text.extend_from_slice(b"int f")?;
+    push_number(&mut text, count)?;
+    text.extend_from_slice(b"(int x) { return x; }\n")?;
+    Ok(text)
+}
+
+// As many calls as may be active at once.
+#[test]
+fn calls_nest(rt: HostRuntime) -> Result<(), Fail> {
+    let alloc = rt.alloc();
+    let text = nested(alloc, 127, 8)?;
+    assert!(rt; comes_to(alloc, "exec f0 7", text.as_slice(), b"result 7\ncost 0\n")?);
+    let text = nested(alloc, 2, 240)?;
+    assert!(rt; comes_to(alloc, "exec f0 7", text.as_slice(), b"result 7\ncost 0\n")?);
     Ok(())
 }
