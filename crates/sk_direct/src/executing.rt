@@ -1,17 +1,26 @@
 //! What a line `exec` does for a text.
 
-ghost use Rattle.std.specs.Prelude.{◌≤◌, length, IfOk, IfErr};
-ghost use Rattle.sk_opts.specs.Ranges.{IsInRanges};
+ghost use Rattle.std.specs.Prelude.{ℕ, ◌≡◌, ◌+◌, ◌≤◌, List, length, not, IfOk, IfErr, MatchResult, IsTrue, ◌↔◌};
+ghost use Rattle.std.specs.Str.{bytes_eq};
+ghost use Rattle.sk_model.specs.declared.outcome.Outcome.{Outcome};
+ghost use Rattle.sk_model.specs.Parts.{one_if};
+ghost use Rattle.sk_model.specs.Expand.{is_generator};
+ghost use Rattle.sk_opts.specs.Ranges.{IsInRanges, AreInRanges};
 ghost use Rattle.sk_front.specs.Texts.{most_bytes};
-ghost use Rattle.sk_front.specs.Front.{IsFaultOfExpansion};
-ghost use Rattle.sk_direct.specs.Direct.{IsExecuted};
+ghost use Rattle.sk_front.specs.declared.fault.SketchFault.{SketchFault};
+ghost use Rattle.sk_front.specs.Front.{IsFaultOfExpansion, IsCause, IsToldAs, IsMemory};
+ghost use Rattle.sk_direct.specs.declared.fault.ExecFault.{ExecFault};
+ghost use Rattle.sk_direct.specs.Direct.{IsFilled, IsCalled, IsAnswer, IsNotRun, IsRunText, IsExecuted, IsRefusedAs, IsRunAs};
 
 use crate::fault::ExecFault;
-use sk_base::Name;
+use sk_base::{Bounds, Name};
 use sk_front::{SketchFault, expansion_of};
-use sk_model::Outcome;
+use sk_interp::exec;
+use sk_model::{Expanded, Outcome};
 use sk_opts::Set;
-use std::alloc::Global;
+use sk_prog::{Fun, FunId, FunKind, Prog};
+use sk_values::{ArgumentFault, read_arguments, run_text};
+use std::alloc::{AllocError, Global};
 
 /// What a text comes to with a line `exec`.
 #[derive(Drop)]
@@ -20,6 +29,94 @@ pub enum Executed {
     NotRun(ExecFault),
     /// How the run ends, and what is written of it.
     Run { outcome: Outcome, out: Vec<u8> },
+}
+
+fn is_named(fun: &Fun, name: &Name) -> bool
+    ensures { result ≡ bytes_eq fun.now.name name.now }
+{
+    fun.name.as_bytes() == name.as_bytes()
+}
+
+fn is_ordinary(fun: &Fun) -> bool
+    ensures { result ≡ not (is_generator fun.now.kind) }
+{
+    match fun.kind {
+        FunKind::Plain => true,
+        FunKind::Harness => true,
+        FunKind::Generator => false,
+    }
+}
+
+/// Whether a function can be run: nothing of the expansion is open, and it is no generator.
+fn is_filled(expanded: &Expanded, fun: &Fun) -> bool
+    ensures { IsTrue result ↔ IsFilled expanded.now fun.now }
+{
+    expanded.sites.is_empty() && is_ordinary(fun)
+}
+
+/// The number behind that of a function, which is counted where it is ordinary. No memory holds so many functions that
+/// they cannot be numbered.
+fn after(number: u32, fun: &Fun) -> Result<u32, AllocError>
+    ensures { IfOk result (λ next. next ≡ number + one_if (not (is_generator fun.now.kind))) }
+{
+    if !is_ordinary(fun) {
+        return Ok(number);
+    }
+    match number.checked_add(1) {
+        Some(next) => Ok(next),
+        None => Err(AllocError),
+    }
+}
+
+/// Runs a function, which has this number in the expansion, on the arguments that words spell.
+fn called(
+    alloc: Global,
+    bounds: &Bounds,
+    expanded: &Expanded,
+    f: FunId,
+    fun: &Fun,
+    words: &[Name],
+) -> Result<Executed, AllocError>
+    requires { AreInRanges bounds.now }
+    ensures { IfOk result (IsCalled bounds.now expanded.now f fun.now words.now) }
+{
+    if !is_filled(expanded, fun) {
+        return Ok(Executed::NotRun(ExecFault::Unfilled));
+    }
+    match read_arguments(alloc, bounds, fun, words) {
+        Ok(args) => {
+            let outcome = exec(alloc, &expanded.prog, f, args.as_slice(), bounds)?;
+            let out = run_text(alloc, fun, &outcome)?;
+            Ok(Executed::Run { outcome, out })
+        }
+        Err(ArgumentFault::References) => Ok(Executed::NotRun(ExecFault::References)),
+        Err(ArgumentFault::Count) => Ok(Executed::NotRun(ExecFault::Count)),
+        Err(ArgumentFault::Value { index }) => Ok(Executed::NotRun(ExecFault::Value { index })),
+        Err(ArgumentFault::Memory) => Err(AllocError),
+    }
+}
+
+/// Runs the function of this name of a program with its expansion, or says why none is run.
+fn answer(
+    alloc: Global,
+    bounds: &Bounds,
+    prog: &Prog,
+    expanded: &Expanded,
+    name: &Name,
+    words: &[Name],
+) -> Result<Executed, AllocError>
+    requires { AreInRanges bounds.now }
+    ensures { IfOk result (IsAnswer bounds.now prog.now expanded.now name.now words.now) }
+{
+    let mut index = 0u32;
+    for fun in prog.funs.as_slice() {
+        if is_named(fun, name) {
+            let executed = called(alloc, bounds, expanded, FunId { index }, fun, words)?;
+            return Ok(executed);
+        }
+        index = after(index, fun)?;
+    }
+    Ok(Executed::NotRun(ExecFault::NoFunction))
 }
 
 /// Runs the function of this name of a text on the values that the words spell, with the options of a line.
@@ -38,7 +135,16 @@ pub fn execute(
     requires set { IsInRanges set.now }
     ensures found { IfOk result (IsExecuted set.now name.now words.now text.now) }
     ensures fault { IfErr result (IsFaultOfExpansion set.now text.now) }
+    ensures only { (told : SketchFault) → IsCause (IsFaultOfExpansion set.now text.now) told → MatchResult result (λ _. ⊥) (IsToldAs told) }
+    ensures not_run { (reason : ExecFault) → IsNotRun set.now name.now words.now text.now reason → MatchResult result (IsRefusedAs reason) IsMemory }
+    ensures run { (outcome : Outcome) (out : List ℕ) → IsRunText set.now name.now words.now text.now outcome out → MatchResult result (IsRunAs outcome out) IsMemory }
 {
-    let expansion = expansion_of(alloc, set, text)?;
-    Ok(Executed::NotRun(ExecFault::NoFunction))
+    let it = match expansion_of(alloc, set, text) {
+        Ok(it) => it,
+        Err(fault) => return Err(fault),
+    };
+    match answer(alloc, &it.bounds, &it.prog, &it.expanded, name, words) {
+        Ok(executed) => Ok(executed),
+        Err(_) => Err(SketchFault::Memory),
+    }
 }
