@@ -1,5 +1,5 @@
 -- Whether an expression stands at a type, by what it becomes there, and the types of targets, form by form.
-use Rattle.std.proofs.Common.{◌≡◌, ◌≢◌, ℕ, ◌+◌, ◌<◌, List, [], ◌∷◌, ◌++◌, length, drop, get_or, true, false, Option, Some, None, refl, sym, ap, subst, ◌∙◌}
+use Rattle.std.proofs.Common.{◌≡◌, ◌≢◌, ℕ, ◌+◌, ◌<◌, List, [], ◌∷◌, ◌++◌, length, drop, get_or, true, false, Option, Some, None, refl, sym, ap, ◌∙◌}
 use Rattle.std.specs.Prelude.{if◌then◌else◌}
 use Rattle.std.specs.Option.{is_some}
 use Rattle.sk_tree.specs.declared.pattern.Pattern.{Pattern}
@@ -19,7 +19,6 @@ use Rattle.sk_types.specs.Scope.{Context}
 use Rattle.sk_types.specs.Sorts.{sort, reference_meant, member_of, is_some_type, eform_target, target_type, first_target, kept_targets}
 use Rattle.sk_check.specs.declared.fault.Typing.{Typing}
 use Rattle.sk_check.specs.declared.fault.Typing.TheVariants.{Fault, Memory}
-use Rattle.sk_check.specs.declared.fault.TypeFault.{TypeFault}
 use Rattle.sk_check.specs.Elaborate.{At, Setting, all_at}
 use Rattle.sk_check.specs.Parts.{Part, FormPart, eform_part, expr_part, set_part, form_part, part, ats}
 use Rattle.sk_check.specs.Making.{strings_in, pattern_target, form_target, target_in, target_at}
@@ -103,9 +102,10 @@ module _ (context : Context) (scope : List Variable) where
       ∙ ap (form_target context scope e.span) is
       ∙ ap (λ o. o >>= λ es. pattern_target context scope e.span es (first_target context scope es)) (strings_of g es)
 
-  pub no_pattern : (e : Expr) (why : Typing) (f : TypeFault) → ((g : Pattern) (es : List Expr) → e.form ≢ eform.Pattern g es) → target_type context scope e ≡ None → why ≡ Fault f → Fails why (target_at context scope e)
+  pub no_pattern : (e : Expr) (why : Typing) → ((g : Pattern) (es : List Expr) → e.form ≢ eform.Pattern g es) → target_type context scope e ≡ None → Fails why (target_at context scope e)
   unfolding target_at
-  no_pattern e why f other none is = subst (λ w. Fails w (target_in context scope e (target_type context scope e))) (sym is) (ap (target_in context scope e) none ∙ lost (strings_in e.form) refl)
+  no_pattern e Memory other none = tt
+  no_pattern e (Fault f) other none = ap (target_in context scope e) none ∙ lost (strings_in e.form) refl
     where
       lost : (o : Option (List Expr)) → strings_in e.form ≡ o → (o >>= λ es. pattern_target context scope e.span es (first_target context scope es)) ≡ None
       lost None h = refl

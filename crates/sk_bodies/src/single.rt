@@ -15,7 +15,7 @@ ghost use Rattle.sk_bodies.specs.Statements.{counted, assigned};
 use crate::target::{target_at, value_at};
 use sk_base::{List, Name, Span};
 use sk_check::{Called, Rule, Typing};
-use sk_elaborate::{at, called};
+use sk_elaborate::{at, called, constant_fault};
 use sk_prog::{Elem, PEForm, PExpr, PForm, PStmt, Ty};
 use sk_tree::{Base, Declared, EForm, Expr, TyTree};
 use sk_types::{Variable, is_taken};
@@ -194,16 +194,17 @@ pub fn call_of(env: &Env, scope: &Scope, e: &Expr) -> Result<PExpr, Typing>
     }
 }
 
-fn constant_count(span: Span, count: Option<u32>) -> Result<PExpr, Typing>
-    ensures { Gives result (counted span count) }
+fn constant_count(env: &Env, scope: &Scope, e: &Expr) -> Result<PExpr, Typing>
+    requires { IsEnv env.now }
+    ensures { Gives result (counted e.now.span (constant_number (context_of env.now) scope.now e.now)) }
 {
-    match count {
-        None => Err(fault(Rule::NotConstant, span)),
+    match env.constant_number(scope, e) {
+        None => Err(constant_fault(env, scope, e)),
         Some(n) => {
             if n <= 64 {
-                Ok(typed(span, INT, PEForm::Number(n)))
+                Ok(typed(e.span, INT, PEForm::Number(n)))
             } else {
-                Err(fault(Rule::LengthRange, span))
+                Err(fault(Rule::LengthRange, e.span))
             }
         }
     }
@@ -217,7 +218,7 @@ pub fn count_at(env: &Env, scope: &Scope, e: &Expr) -> Result<PExpr, Typing>
 {
     match &e.form {
         EForm::Hole(_) => at(env, scope, INT, e),
-        _ => constant_count(e.span, env.constant_number(scope, e)),
+        _ => constant_count(env, scope, e),
     }
 }
 
@@ -233,7 +234,37 @@ fn lengths(env: &Env, scope: &Scope, lengths: &[Expr]) -> Result<List<Option<u32
     Ok(numbers)
 }
 
-/// The type that is written. A fault has the span that is given.
+/// Why a length is none, where it is none: it is no constant, or out of range.
+fn length_fault(env: &Env, scope: &Scope, length: &Expr) -> Option<Typing>
+    requires { IsEnv env.now }
+{
+    match env.constant_number(scope, length) {
+        None => Some(constant_fault(env, scope, length)),
+        Some(n) => {
+            if is_length(n) {
+                None
+            } else {
+                Some(fault(Rule::LengthRange, length.span))
+            }
+        }
+    }
+}
+
+/// Why no type has these lengths: the first that is none, or else that they are too much together.
+fn lengths_fault(env: &Env, scope: &Scope, span: Span, lengths: &[Expr]) -> Typing
+    requires { IsEnv env.now }
+{
+    let mut place = span;
+    for length in lengths {
+        if let Some(why) = length_fault(env, scope, length) {
+            return why;
+        }
+        place = length.span;
+    }
+    fault(Rule::LengthRange, place)
+}
+
+/// The type that is written. A name that means no struct has the span that is given.
 pub fn written(env: &Env, scope: &Scope, span: Span, ty: &TyTree) -> Result<Ty, Typing>
     requires { IsEnv env.now }
     ensures { Gives result (written_type (context_of env.now) scope.now ty.now) }
@@ -243,7 +274,7 @@ pub fn written(env: &Env, scope: &Scope, span: Span, ty: &TyTree) -> Result<Ty, 
     };
     let lengths = lengths(env, scope, ty.lengths.as_slice())?;
     match with_lengths(env, scope, elem, lengths.as_slice()) {
-        None => Err(fault(Rule::LengthRange, span)),
+        None => Err(lengths_fault(env, scope, span, ty.lengths.as_slice())),
         Some(ty) => Ok(ty),
     }
 }

@@ -10,7 +10,7 @@ ghost use Rattle.sk_bodies.specs.Targets.{form_target_type, element_target};
 
 use sk_base::{List, Span};
 use sk_check::{Rule, Typing};
-use sk_elaborate::{at, variable};
+use sk_elaborate::{at, own_fault, variable};
 use sk_prog::{PEForm, PExpr, Ty};
 use sk_tree::{EForm, Expr};
 use sk_types::{Own, element_of};
@@ -131,7 +131,7 @@ fn pattern_target(env: &Env, scope: &Scope, span: Span, es: &[Expr]) -> Result<P
     ensures { Gives result (pattern_target (context_of env.now) scope.now span es.now (first_target (context_of env.now) scope.now es.now)) }
 {
     let Some(ty) = first_target(env, scope, es)? else {
-        return Err(fault(Rule::NotTarget, span));
+        return Err(fault(Rule::NoAlternative, span));
     };
     let targets = targets(env, scope, ty, es)?;
     Ok(typed(span, ty, PEForm::Pattern(targets)))
@@ -153,7 +153,10 @@ pub fn target_at(env: &Env, scope: &Scope, e: &Expr) -> Result<PExpr, Typing>
                 pattern: _,
                 strings,
             } => pattern_target(env, scope, e.span, strings.as_slice()),
-            _ => Err(fault(Rule::NotTarget, e.span)),
+            _ => {
+                let why = fault(Rule::NotTarget, e.span);
+                Err(own_fault(env, scope, e).unwrap_or(why))
+            }
         },
     }
 }

@@ -10,12 +10,13 @@ ghost use Rattle.sk_typing.specs.Envs.{top_seen, context_of, IsEnv};
 ghost use Rattle.sk_check.specs.Elaborate.{string_at, strings_at, argument_at, arguments_at, settings_at, callee_meant, called, all_at};
 ghost use Rattle.sk_check.specs.Parts.{item_part, argument_part, form_part, part, ats, items, arguments, settings};
 
-use crate::parts::{all_distinct, firm_any, member_found, variable};
+use crate::constant::constant_fault;
+use crate::parts::{all_distinct, firm_any, member_found, unfit, unindexed, unjoined, variable};
 use sk_base::{Boxed, List, Name, Span, at as item_at};
 use sk_check::{Called, Meant, Rule, Typing};
 use sk_prog::{PEForm, PExpr, PField, ParamDef, StructDef, Ty};
-use sk_tree::{EForm, Expr, NewField};
-use sk_types::{operator_of, unary_of};
+use sk_tree::{EForm, Expr, Mark, NewField};
+use sk_types::{Own, operator_of, unary_of};
 use sk_typing::{
     BIT, Env, INT, Scope, binary_wants, boxed, cut, element_wanted, fault, field_found, firm,
     hole_at, indexed, is_harness, may_keep, may_pass, named_at, null_at, number_at, pattern_at,
@@ -94,8 +95,10 @@ fn argument(env: &Env, scope: &Scope, param: &ParamDef, e: &Expr) -> Result<PExp
     requires { IsEnv env.now }
     ensures { Gives result (argument_at param.now (argument_part (part (context_of env.now) scope.now e.now))) }
 {
-    if !may_pass(param, variable(env, scope, &e.form)) {
-        return Err(fault(Rule::NotTarget, e.span));
+    let named = variable(env, scope, &e.form);
+    if !may_pass(param, named) {
+        let why = unfit(named, e.span);
+        return Err(own_fault(env, scope, e).unwrap_or(why));
     }
     let p = at(env, scope, param.ty, e)?;
     Ok(p)
@@ -220,7 +223,8 @@ fn member(
     ensures { Gives result ((form_part (context_of env.now) scope.now (eform.Member base.now name.now)).at span ty) }
 {
     let Some(s) = reference_meant(env.own(scope, base)) else {
-        return Err(fault(Rule::Mismatch, span));
+        let why = fault(Rule::Mismatch, span);
+        return Err(own_fault(env, scope, base).unwrap_or(why));
     };
     let found = member_found(env, s, name, span)?;
     let field = found.field;
@@ -241,6 +245,64 @@ fn braces(env: &Env, scope: &Scope, span: Span, es: &[Expr], ty: Ty) -> Result<P
     };
     let es = all(env, scope, element, es)?;
     Ok(typed(span, ty, PEForm::Braces(es)))
+}
+
+/// The first fault of an expression of which no type is wanted, if it has one there.
+#[cycle(typing)]
+pub fn own_fault(env: &Env, scope: &Scope, e: &Expr) -> Option<Typing>
+    requires { IsEnv env.now }
+{
+    match (env.own(scope, e), &e.form) {
+        (Own::Firm(ty), _) => at(env, scope, ty, e).err(),
+        (_, EForm::Paren(of)) => own_fault(env, scope, of.get()),
+        (own, EForm::Cond { cond, then, other }) => {
+            let cond = at(env, scope, BIT, cond.get()).err();
+            let then = own_fault(env, scope, then.get());
+            let other = own_fault(env, scope, other.get());
+            cond.or(then).or(other).or(unjoined(own, e.span))
+        }
+        (Own::Loose, EForm::Hole(_)) | (Own::Wrong, _) => at(env, scope, INT, e).err(),
+        (Own::Loose, _) => None,
+    }
+}
+
+/// What is wrong with a slice: what is found in its base, else in what it begins at, else `why`.
+#[cycle(typing)]
+fn slice_fault(
+    env: &Env,
+    scope: &Scope,
+    in_base: Option<Typing>,
+    from: &Expr,
+    why: Typing,
+) -> Typing
+    requires { IsEnv env.now }
+{
+    let in_from = at(env, scope, INT, from).err();
+    in_base.or(in_from).unwrap_or(why)
+}
+
+#[cycle(typing)]
+fn prefixed(
+    env: &Env,
+    scope: &Scope,
+    span: Span,
+    op: Mark,
+    of: &Expr,
+    ty: Ty,
+) -> Result<PExpr, Typing>
+    requires { IsEnv env.now }
+    ensures { Gives result ((form_part (context_of env.now) scope.now (eform.Unary op of.now)).at span ty) }
+{
+    let why = fault(Rule::Mismatch, span);
+    let Some(op) = unary_of(op) else {
+        return Err(why);
+    };
+    let Some(wanted) = unary_wants(op, env.own(scope, of), ty) else {
+        return Err(own_fault(env, scope, of).unwrap_or(why));
+    };
+    let of = part(env, scope, wanted, of)?;
+    let e = firm(env.alloc, wanted, PEForm::Unary { op, of }, span, ty)?;
+    Ok(e)
 }
 
 /// A form at a type that its place wants.
@@ -276,7 +338,8 @@ fn form_at(env: &Env, scope: &Scope, span: Span, ty: Ty, form: &EForm) -> Result
         EForm::Member { base, name } => member(env, scope, span, base.get(), name, ty),
         EForm::Index { base, index } => {
             let Some(view) = indexed(env.own(scope, base.get())) else {
-                return Err(fault(Rule::Mismatch, span));
+                let why = fault(Rule::Mismatch, span);
+                return Err(own_fault(env, scope, base.get()).unwrap_or(why));
             };
             let base = part(env, scope, view.whole, base.get())?;
             let index = part(env, scope, INT, index.get())?;
@@ -284,35 +347,38 @@ fn form_at(env: &Env, scope: &Scope, span: Span, ty: Ty, form: &EForm) -> Result
             firm(env.alloc, view.part, form, span, ty)
         }
         EForm::Slice { base, from, length } => {
-            let Some(length) = env.constant_number(scope, length.get()) else {
-                return Err(fault(Rule::NotConstant, span));
+            let own = env.own(scope, base.get());
+            let Some(count) = env.constant_number(scope, length.get()) else {
+                let in_base = own_fault(env, scope, base.get()).or(unindexed(own, span));
+                let why = constant_fault(env, scope, length.get());
+                return Err(slice_fault(env, scope, in_base, from.get(), why));
             };
-            let Some(view) = cut(env.own(scope, base.get()), length) else {
-                return Err(fault(Rule::LengthRange, span));
+            let Some(view) = cut(own, count) else {
+                let in_base = own_fault(env, scope, base.get()).or(unindexed(own, span));
+                let why = fault(Rule::LengthRange, length.get().span);
+                return Err(slice_fault(env, scope, in_base, from.get(), why));
             };
             let base = part(env, scope, view.whole, base.get())?;
             let from = part(env, scope, INT, from.get())?;
-            let form = PEForm::Slice { base, from, length };
+            let form = PEForm::Slice {
+                base,
+                from,
+                length: count,
+            };
             firm(env.alloc, view.part, form, span, ty)
         }
-        EForm::Unary { op, of } => {
-            let Some(op) = unary_of(*op) else {
-                return Err(fault(Rule::Mismatch, span));
-            };
-            let Some(wanted) = unary_wants(op, env.own(scope, of.get()), ty) else {
-                return Err(fault(Rule::Mismatch, span));
-            };
-            let of = part(env, scope, wanted, of.get())?;
-            firm(env.alloc, wanted, PEForm::Unary { op, of }, span, ty)
-        }
+        EForm::Unary { op, of } => prefixed(env, scope, span, *op, of.get(), ty),
         EForm::Binary { op, left, right } => {
+            let why = fault(Rule::Mismatch, span);
             let Some(op) = operator_of(*op) else {
-                return Err(fault(Rule::Mismatch, span));
+                return Err(why);
             };
             let left_own = env.own(scope, left.get());
             let right_own = env.own(scope, right.get());
             let Some(wants) = binary_wants(op, left_own, right_own, ty) else {
-                return Err(fault(Rule::Mismatch, span));
+                let in_left = own_fault(env, scope, left.get());
+                let in_right = own_fault(env, scope, right.get());
+                return Err(in_left.or(in_right).unwrap_or(why));
             };
             let left = part(env, scope, wants.left, left.get())?;
             let right = part(env, scope, wants.right, right.get())?;

@@ -12,7 +12,8 @@ use sk_base::{Name, Span, at as item_at};
 use sk_check::{Found, Rule, Typing};
 use sk_prog::{PEForm, PExpr, StructId, Ty};
 use sk_tree::{EForm, NewField};
-use sk_typing::{Env, Scope, fault, field_found, firm, is_same};
+use sk_types::Own;
+use sk_typing::{Env, Scope, fault, field_found, firm, indexed, is_same};
 use std::alloc::Global;
 
 #[tactic(auto, using(sk_typing::proofs::Places::split_at))]
@@ -81,4 +82,28 @@ pub fn member_found(env: &Env, s: StructId, name: &Name, span: Span) -> Result<F
     };
     let found = field_found(def, name, span)?;
     Ok(found)
+}
+
+/// Why what this names, if anything, cannot be handed to `ref`: a variable is of another type, and all else is none.
+pub fn unfit(named: Option<Ty>, span: Span) -> Typing {
+    match named {
+        Some(_) => fault(Rule::Mismatch, span),
+        None => fault(Rule::NotTarget, span),
+    }
+}
+
+/// That what is looked into is no array, where it is none.
+pub fn unindexed(own: Own, span: Span) -> Option<Typing> {
+    match indexed(own) {
+        Some(_) => None,
+        None => Some(fault(Rule::Mismatch, span)),
+    }
+}
+
+/// That the parts of a choice have no type in common, where they have none.
+pub fn unjoined(own: Own, span: Span) -> Option<Typing> {
+    match own {
+        Own::Wrong => Some(fault(Rule::Mismatch, span)),
+        _ => None,
+    }
 }

@@ -10,4 +10,4 @@ returns-in-Pattern c =
     subst (λ o. Gives c.pattern_target.result o) (sym (pattern_is (context_of c.args.env.now) c.args.scope.now c.args.e.now _ _ c.in-Pattern.is (c.in_ok-ty.ensures ∙ c.in-None.is))) made
 
 pub returns-in_default : goal.returns-in_default
-returns-in_default c = no_pattern (context_of c.args.env.now) c.args.scope.now c.args.e.now _ _ c.in_default.not-Pattern (c.in_ok-ty.ensures ∙ c.in-None.is) c.fault.ensures
+returns-in_default c = no_pattern (context_of c.args.env.now) c.args.scope.now c.args.e.now _ c.in_default.not-Pattern (c.in_ok-ty.ensures ∙ c.in-None.is)
