@@ -19,3 +19,10 @@ mod Inverted
 mod NamesBack
 mod MeansAgain
 mod PlacedAgain
+mod HeldPlain
+mod StmtsPlaced
+mod TreePlaced
+mod Small
+mod Bald
+mod ExprsReadable
+mod StmtsReadable

@@ -121,7 +121,7 @@ as_many (p ∷ ps) [] h = cc
 as_many [] (q ∷ qs) h = cc
 as_many (p ∷ ps) (q ∷ qs) h = let e : map W.spanless_expr ps ≡ map W.spanless_expr qs = cc in ap suc (as_many ps qs e)
 
-natural_range : (bounds : Bounds) (o : Option ℤ) (m : ℕ) → (o >>= natural bounds) ≡ Some m → in_range bounds m ≡ true
+pub natural_range : (bounds : Bounds) (o : Option ℤ) (m : ℕ) → (o >>= natural bounds) ≡ Some m → in_range bounds m ≡ true
 natural_range bounds None m h = cc
 natural_range bounds (Some (ℤ.pos n)) m h = go (in_range bounds n) refl h
   where
@@ -333,7 +333,7 @@ module _ (prog : Prog) (bounds : Bounds) (known again : List Known) (scope : Lis
       ∙ sym (unary_own_is o (sort first scope x))
       ∙ ap (λ z. (any_unary z (sort first scope x)).own) (sym is)
 
-  number_again : (z d : Expr) (m : ℕ) → constant_number first scope z ≡ Some m → Alike (at (eform.Number m) nowhere) d → constant_number second scope d ≡ Some m
+  pub number_again : (z d : Expr) (m : ℕ) → constant_number first scope z ≡ Some m → Alike (at (eform.Number m) nowhere) d → constant_number second scope d ≡ Some m
   number_again z d m h a =
       let range = natural_range bounds (whole_number first scope z) m h in
       let f = number_back nowhere d m a in

@@ -37,28 +37,28 @@ use Rattle.sk_types.proofs.Layers.{FormMeans, FieldMeans, rule, form_means_are, 
 use Rattle.sk_shown.specs.Printed.{choice_of, eform_printed, printed_expr}
 use Rattle.sk_shown.specs.PlacedAgain.{ExpressionsPlaced}
 
-abbrev Layer : Type 0
+abbrev pub Layer : Type 0
 Layer = E.EForm-F EForm Expr NewField
 
-abbrev form_place : EForm → Place
+abbrev pub form_place : EForm → Place
 form_place = fold-EForm Place Place Bool eform_place expr_place field_placed
 
-abbrev set_placed : NewField → Bool
+abbrev pub set_placed : NewField → Bool
 set_placed = fold-NewField Place Place Bool eform_place expr_place field_placed
 
-abbrev places : Layer → E.EForm-F Place Place Bool
+abbrev pub places : Layer → E.EForm-F Place Place Bool
 places l = map-EForm EForm Expr NewField Place Place Bool form_place place_of set_placed l
 
-place_at : (e : Expr) (l : Layer) → e.form ≡ roll-EForm l → place_of e ≡ eform_place (places l)
+pub place_at : (e : Expr) (l : Layer) → e.form ≡ roll-EForm l → place_of e ≡ eform_place (places l)
 place_at e l is =
     fold-roll-Expr Place Place Bool eform_place expr_place field_placed (record { span = e.span; form = e.form })
     ∙ ap form_place is
     ∙ fold-roll-EForm Place Place Bool eform_place expr_place field_placed l
 
-set_at : (n : NewField) → set_placed n ≡ expr_placed n.value
+pub set_at : (n : NewField) → set_placed n ≡ expr_placed n.value
 set_at n = fold-roll-NewField Place Place Bool eform_place expr_place field_placed (record { name = n.name; value = n.value })
 
-mark_back : (m : Mark) (o : BinOp) → operator_of m ≡ Some o → mark_of o ≡ m
+pub mark_back : (m : Mark) (o : BinOp) → operator_of m ≡ Some o → mark_of o ≡ m
 mark_back mark.Star o h = let e : op.Mul ≡ o = cc in ap mark_of (sym e)
 mark_back mark.Slash o h = let e : op.Div ≡ o = cc in ap mark_of (sym e)
 mark_back mark.Percent o h = let e : op.Rem ≡ o = cc in ap mark_of (sym e)

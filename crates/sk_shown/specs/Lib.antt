@@ -7,3 +7,5 @@ pub mod Respans
 pub mod ReadsAs
 pub mod MeansAgain
 pub mod PlacedAgain
+pub mod NumbersSmall
+pub mod ReadableAgain

@@ -1,6 +1,8 @@
 //! Laws of what a layout shows, with nothing to run.
 ghost use Rattle.sk_shown.specs.MeansAgain.{ExpressionsMean};
-ghost use Rattle.sk_shown.specs.PlacedAgain.{ExpressionsPlaced};
+ghost use Rattle.sk_shown.specs.NumbersSmall.{NumbersAreSmall};
+ghost use Rattle.sk_shown.specs.PlacedAgain.{ExpressionsPlaced, TreesPlaced};
+ghost use Rattle.sk_shown.specs.ReadableAgain.{ProgramsReadable};
 ghost use Rattle.sk_shown.specs.ReadsAs.{TextReads};
 ghost use Rattle.sk_shown.specs.Respans.{Respans};
 ghost use Rattle.sk_shown.specs.Tells.{Tells};
@@ -33,4 +35,19 @@ pub fn expressions_mean_again()
 /// What means an expression whose operands stand where they may is printed so, and with the level of that expression.
 pub fn expressions_are_placed()
     ensures { ExpressionsPlaced }
+{}
+
+/// What a placed tree means is printed as a tree whose operands, and each `else`, stand where they may.
+pub fn trees_are_placed()
+    ensures { TreesPlaced }
+{}
+
+/// A program that a tree means has numbers that a text can spell, where an integer has at most 32 bits.
+pub fn numbers_are_small()
+    ensures { NumbersAreSmall }
+{}
+
+/// A program that keeps the rules is printed so that it is spelt as a tree may be.
+pub fn programs_are_readable()
+    ensures { ProgramsReadable }
 {}
