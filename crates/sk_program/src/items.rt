@@ -12,6 +12,7 @@ ghost use Rattle.sk_program.specs.Tops.{typed_after, Steps, Knows, GivesTop};
 use crate::signature::{NOWHERE, heading_of, struct_of};
 use sk_base::{Bounds, List, Name};
 use sk_check::{Constant, Heading, Rule, Typing};
+use sk_elaborate::constant_fault;
 use sk_prog::StructDef;
 use sk_tree::{Expr, Field, FunItem, Item};
 use sk_typing::{Env, Names, Scope, copied, fault};
@@ -65,7 +66,7 @@ pub fn number_in(
     };
     let scope = Scope::new(alloc);
     match env.constant_number(&scope, value) {
-        None => Err(fault(Rule::NotConstant, value.span)),
+        None => Err(constant_fault(&env, &scope, value)),
         Some(number) => Ok(number),
     }
 }

@@ -2,6 +2,10 @@
 #![tactic(auto)]
 
 #[cfg(test)]
+mod examples;
+#[cfg(test)]
+mod inside;
+#[cfg(test)]
 mod names;
 #[cfg(test)]
 mod operators;

@@ -186,31 +186,6 @@ const COPIES: [(&[u8], bool); 16] = [
     ),
 ];
 
-const LENGTHS_AND_TARGETS: [(&[u8], bool); 22] = [
-    (b"void f() { y = 1; }", false),
-    (b"void f() { int y; y = 1; }", true),
-    (b"void g(ref int[2] x) {} void f(int[1] a) { g(a); }", false),
-    (b"void g(ref int[2] x) {} void f(int[2] a) { g(a); }", true),
-    (b"void f(int[2] a, bit[1] i) { a[i] = 1; }", false),
-    (b"void f(int[2] a, bit i) { a[i] = 1; }", true),
-    (b"void f(int n) { int[n] a; }", false),
-    (b"int N = 4; void f() { int[N] a; }", true),
-    (b"void f() { int[N] a; } int N = 4;", false),
-    (b"int f() { return N; } int N = 4;", true),
-    (b"int N = 2; void f() { bit N; int[N] a; }", false),
-    (b"int N = 2; void f() { int[N] a; bit N; }", true),
-    (b"int N = 32768 - 32768;", false),
-    (b"int N = 32767 - 32767;", true),
-    (b"void f() { int[32768 - 32767] a; }", false),
-    (b"void f() { int[32767 - 32766] a; }", true),
-    (b"int[1] f(int[2] a) { return a[0::32768 - 32767]; }", false),
-    (b"int[1] f(int[2] a) { return a[0::32767 - 32766]; }", true),
-    (b"void f() { repeat (32768 - 32767) ; }", false),
-    (b"void f() { repeat (32767 - 32766) ; }", true),
-    (b"int N = 1; void f(int x) { {| N | x + x |} = 1; }", false),
-    (b"int N = 1; void f(int x) { {| N | x |} = 1; }", true),
-];
-
 // The rows whose text is accepted and should not be, or is refused and should not be.
 fn wrong(alloc: Global, rows: &[(&[u8], bool)]) -> Result<Vec<usize>, AllocError> {
     let mut found = Vec::new(alloc);
@@ -225,7 +200,7 @@ fn wrong(alloc: Global, rows: &[(&[u8], bool)]) -> Result<Vec<usize>, AllocError
 
 #[test]
 fn texts_keep_the_rules_of_names(rt: HostRuntime) -> Result<(), AllocError> {
-    let tables: [&[(&[u8], bool)]; 4] = [&NAMES, &CALLS, &COPIES, &LENGTHS_AND_TARGETS];
+    let tables: [&[(&[u8], bool)]; 3] = [&NAMES, &CALLS, &COPIES];
     for rows in tables {
         let found = wrong(rt.alloc(), rows)?;
         assert_eq!(rt; found.as_slice(), [].as_slice());

@@ -379,37 +379,8 @@ const GRIDS: [(&[u8], bool); 19] = [
     (b"g[x][w] = 1;", false),
 ];
 
-// What is not there, inside of what else would keep the rules.
-const INSIDE: [(&[u8], bool); 25] = [
-    (b"int z = y + 1;", false),
-    (b"int z = x + 1;", true),
-    (b"int z = y[0];", false),
-    (b"int z = y.u;", false),
-    (b"bit z = x == y;", false),
-    (b"bit z = x == x;", true),
-    (b"int z = p.z + 1;", false),
-    (b"int z = p.u + 1;", true),
-    (b"int z = p.z.u;", false),
-    (b"int z = a[0::x][0];", false),
-    (b"int z = a[0::0][0];", false),
-    (b"int z = a[0::4][0];", false),
-    (b"int z = a[0::3][0];", true),
-    (b"int z = -(y + 1);", false),
-    (b"int z = (b ? y : x) + 1;", false),
-    (b"S z = new T().n;", false),
-    (b"S z = new S().n;", true),
-    (b"int z = h(1) + 1;", false),
-    (b"while (y > 1) ;", false),
-    (b"x += y;", false),
-    (b"y++;", false),
-    (b"p.z = 1;", false),
-    (b"for (y = 1; b; x++) ;", false),
-    (b"for (x = 1; b; x++) ;", true),
-    (b"for (int y = 1; b; y++) x += y;", true),
-];
-
-// The statement in its function.
-fn function(alloc: Global, statement: &[u8]) -> Result<Vec<u8>, AllocError> {
+/// The statement in its function.
+pub fn function(alloc: Global, statement: &[u8]) -> Result<Vec<u8>, AllocError> {
     let mut text = Vec::new(alloc);
     text.extend_from_slice(BEFORE)?;
     text.extend_from_slice(statement)?;
@@ -432,7 +403,7 @@ fn wrong(alloc: Global, rows: &[(&[u8], bool)]) -> Result<Vec<usize>, AllocError
 
 #[test]
 fn statements_keep_the_rules_of_types(rt: HostRuntime) -> Result<(), AllocError> {
-    let tables: [&[(&[u8], bool)]; 14] = [
+    let tables: [&[(&[u8], bool)]; 13] = [
         &ADDITION,
         &ARITHMETIC,
         &ORDER,
@@ -446,7 +417,6 @@ fn statements_keep_the_rules_of_types(rt: HostRuntime) -> Result<(), AllocError>
         &PATTERNS,
         &JOINS,
         &GRIDS,
-        &INSIDE,
     ];
     for rows in tables {
         let found = wrong(rt.alloc(), rows)?;

@@ -1,9 +1,27 @@
 //! Texts that break one rule, each beside a text that keeps all of them.
-use crate::text::{Outcome, typed};
+use crate::text::{Outcome, is_breach, typed};
 use sk_check::Rule;
 use std::alloc::{AllocError, Global};
 
-const UNKNOWN_NAME: [(&[u8], &[u8]); 12] = [
+const UNKNOWN_NAME: [(&[u8], &[u8]); 18] = [
+    (b"void f() { y = 1; }", b"void f() { int y; y = 1; }"),
+    (
+        b"void g(ref int i) {} void f() { g(y); }",
+        b"void g(ref int i) {} void f(int y) { g(y); }",
+    ),
+    (
+        b"void g(ref int i) {} void f() { g(y + 1); }",
+        b"void g(int i) {} void f(int y) { g(y + 1); }",
+    ),
+    (
+        b"struct T { int u; } void f(T p) { p.v = 1; }",
+        b"struct T { int u; } void f(T p) { p.u = 1; }",
+    ),
+    (b"int N = M + 1;", b"int M = 1; int N = M + 1;"),
+    (
+        b"void f() { int[n] a; }",
+        b"int n = 1; void f() { int[n] a; }",
+    ),
     (b"int f(int x) { return y; }", b"int f(int y) { return y; }"),
     (b"void f() { g(); }", b"void f() { g(); } void g() {}"),
     (b"void f(T p) {}", b"struct T {} void f(T p) {}"),
@@ -69,7 +87,31 @@ const TWICE: [(&[u8], &[u8]); 12] = [
     (b"struct N {} void N() {}", b"struct N {} void M(int N) {}"),
 ];
 
-const MISMATCH: [(&[u8], &[u8]); 16] = [
+const MISMATCH: [(&[u8], &[u8]); 22] = [
+    (
+        b"void g(ref int[2] x) {} void f(int[1] a) { g(a); }",
+        b"void g(ref int[2] x) {} void f(int[2] a) { g(a); }",
+    ),
+    (
+        b"void g(ref bit i) {} void f(int x) { g(x); }",
+        b"void g(ref bit i) {} void f(bit x) { g(x); }",
+    ),
+    (
+        b"void f(int[2] a, bit[1] i) { a[i] = 1; }",
+        b"void f(int[2] a, bit i) { a[i] = 1; }",
+    ),
+    (
+        b"void f(int a) { a[0] = 1; }",
+        b"void f(int[1] a) { a[0] = 1; }",
+    ),
+    (
+        b"void f(int p) { p.u = 1; }",
+        b"struct T { int u; } void f(T p) { p.u = 1; }",
+    ),
+    (
+        b"int[1] f(int a) { return a[0::1]; }",
+        b"int[1] f(int[1] a) { return a[0::1]; }",
+    ),
     (
         b"harness void main(int x) { int[3] a = {1, 2}; int y = a; }",
         b"harness void main(int x) { int[3] a = {1, 2}; int y = a[2]; }",
@@ -124,7 +166,15 @@ const MISMATCH: [(&[u8], &[u8]); 16] = [
     ),
 ];
 
-const NOT_TARGET: [(&[u8], &[u8]); 11] = [
+const NOT_TARGET: [(&[u8], &[u8]); 13] = [
+    (
+        b"void g(ref int i) {} void f(int x) { g({| x |}); }",
+        b"void g(int i) {} void f(int x) { g({| x |}); }",
+    ),
+    (
+        b"void g(ref int i) {} void f() { g(??); }",
+        b"void g(int i) {} void f() { g(??); }",
+    ),
     (
         b"int N = 3; void f() { N = 4; }",
         b"int N = 3; void f() { int n = N; n = 4; }",
@@ -219,7 +269,24 @@ const BAD_SIGNATURE: [(&[u8], &[u8]); 12] = [
     ),
 ];
 
-const NOT_CONSTANT: [(&[u8], &[u8]); 12] = [
+const NOT_CONSTANT: [(&[u8], &[u8]); 17] = [
+    (
+        b"void f(int n) { int[n] a; }",
+        b"int N = 4; void f() { int[N] a; }",
+    ),
+    (
+        b"void f() { int[N] a; } int N = 4;",
+        b"int f() { return N; } int N = 4;",
+    ),
+    (
+        b"int N = 2; void f() { bit N; int[N] a; }",
+        b"int N = 2; void f() { int[N] a; bit N; }",
+    ),
+    (b"void f(int[2][??] a) {}", b"void f(int[2][2] a) {}"),
+    (
+        b"struct T { int[1 - 2] u; }",
+        b"struct T { int[1 - 2 + 2] u; }",
+    ),
     (b"int N = g(); int g() {}", b"int N = 1 + 1; int g() {}"),
     (b"int N = 6 / 2;", b"int N = (6 - 3) * 2;"),
     (b"int N = M; int M = 1;", b"int M = 1; int N = M;"),
@@ -249,7 +316,21 @@ const NOT_CONSTANT: [(&[u8], &[u8]); 12] = [
     ),
 ];
 
-const LITERAL_RANGE: [(&[u8], &[u8]); 8] = [
+const LITERAL_RANGE: [(&[u8], &[u8]); 13] = [
+    (b"int N = 32768 - 32768;", b"int N = 32767 - 32767;"),
+    (
+        b"void f() { int[32768 - 32767] a; }",
+        b"void f() { int[32767 - 32766] a; }",
+    ),
+    (
+        b"int[1] f(int[2] a) { return a[0::32768 - 32767]; }",
+        b"int[1] f(int[2] a) { return a[0::32767 - 32766]; }",
+    ),
+    (
+        b"void f() { repeat (32768 - 32767) ; }",
+        b"void f() { repeat (32767 - 32766) ; }",
+    ),
+    (b"bit[(40000)] f() {}", b"bit[(40)] f() {}"),
     (b"int f() { return 32768; }", b"int f() { return 32767; }"),
     (
         b"int f(int x) { return x + 2147483647 * 0; }",
@@ -301,7 +382,15 @@ const LENGTH_RANGE: [(&[u8], &[u8]); 11] = [
     ),
 ];
 
-const NO_ALTERNATIVE: [(&[u8], &[u8]); 7] = [
+const NO_ALTERNATIVE: [(&[u8], &[u8]); 9] = [
+    (
+        b"int N = 1; void f(int x) { {| N | x + x |} = 1; }",
+        b"int N = 1; void f(int x) { {| N | x |} = 1; }",
+    ),
+    (
+        b"struct T { int u; } void f(T p) { {| q.u | p.v |} = 1; }",
+        b"struct T { int u; } void f(T p) { {| q.u | p.u |} = 1; }",
+    ),
     (
         b"void f(bit[4] b, int x) { int y = {| b |}; }",
         b"void f(bit[4] b, int x) { int y = {| b | x |}; }",
@@ -416,7 +505,7 @@ fn wrong(alloc: Global, rule: Rule, rows: &[(&[u8], &[u8])]) -> Result<Vec<usize
         let (breaks, keeps) = rows[row];
         let broken = typed(alloc, breaks)?;
         let kept = typed(alloc, keeps)?;
-        if broken != Outcome::Breaks(rule) || kept != Outcome::Accepted {
+        if !is_breach(broken, rule) || kept != Outcome::Accepted {
             found.push(row)?;
         }
     }

@@ -20,8 +20,8 @@ const BOUNDS: Bounds = Bounds {
 pub enum Outcome {
     /// It reads, and keeps the rules of types.
     Accepted,
-    /// It reads, and breaks this rule at a place in the text.
-    Breaks(Rule),
+    /// It reads, and breaks this rule at this place in the text.
+    Breaks(Rule, Span),
     /// It reads, and breaks a rule at a place that is none in the text.
     Astray,
     /// It does not read.
@@ -44,7 +44,7 @@ fn divided(alloc: Global, text: &[u8]) -> Result<Option<List<Token>>, AllocError
 fn refused(fault: TypeFault, length: usize) -> Outcome {
     let Span { from, to } = fault.span;
     if from <= to && to as usize <= length {
-        Outcome::Breaks(fault.rule)
+        Outcome::Breaks(fault.rule, fault.span)
     } else {
         Outcome::Astray
     }
@@ -80,7 +80,25 @@ pub fn typed(alloc: Global, text: &[u8]) -> Result<Outcome, AllocError> {
 pub fn is_as_wanted(found: Outcome, accepted: bool) -> bool {
     match found {
         Outcome::Accepted => accepted,
-        Outcome::Breaks(_) => !accepted,
+        Outcome::Breaks(_, _) => !accepted,
+        _ => false,
+    }
+}
+
+/// Whether a text is refused as it breaks this rule.
+pub fn is_breach(found: Outcome, rule: Rule) -> bool {
+    match found {
+        Outcome::Breaks(broken, _) => broken == rule,
+        _ => false,
+    }
+}
+
+/// Whether a text is refused as it breaks this rule at this part of it.
+pub fn is_breach_at(found: Outcome, rule: Rule, text: &[u8], part: &[u8]) -> bool {
+    match found {
+        Outcome::Breaks(broken, Span { from, to }) => {
+            broken == rule && text.get(from as usize..to as usize) == Some(part)
+        }
         _ => false,
     }
 }
