@@ -20,7 +20,7 @@ use Rattle.sk_app.specs.Built.{IsSmall, IsBuilt, IsTaken, IsNotBuilt}
 use Rattle.sk_app.specs.Ends.{IsToldOf, EndsBuilt, EndsFaulty, EndsUntyped, EndsLarge, EndsUnbuilt, EndsLong}
 
 -- a fault of types: of a text that has one, no definition says which is told
-some_fault : TypeFault
+pub some_fault : TypeFault
 some_fault = record { rule = rule.Mismatch; span = record { from = 0; to = 0 } }
 
 module _ (set : Set) (text : List ℕ) where
@@ -64,6 +64,10 @@ module _ (set : Set) (text : List ℕ) where
     ends_built ending.NotALine h bounds e is = absurd h
     ends_built ending.HelpShown h bounds e is = absurd h
     ends_built ending.VersionShown h bounds e is = absurd h
+    ends_built ending.ExecDone h bounds e is = absurd h
+    ends_built (ending.ExecFailed span) h bounds e is = absurd h
+    ends_built (ending.ExecSkipped span) h bounds e is = absurd h
+    ends_built (ending.NotRun reason) h bounds e is = absurd h
 
     pub ends_faulty : (r : Ending) → IsToldOf set text r a b c d → length text ≤ most_bytes → (f : TextFault) → IsTextFault f text → EndsFaulty f r a b
     ends_faulty ending.Completed h short f is = taken_or_cause (fault.NotText f) h is
@@ -79,6 +83,10 @@ module _ (set : Set) (text : List ℕ) where
     ends_faulty ending.NotALine h short f is = absurd h
     ends_faulty ending.HelpShown h short f is = absurd h
     ends_faulty ending.VersionShown h short f is = absurd h
+    ends_faulty ending.ExecDone h short f is = absurd h
+    ends_faulty (ending.ExecFailed span) h short f is = absurd h
+    ends_faulty (ending.ExecSkipped span) h short f is = absurd h
+    ends_faulty (ending.NotRun reason) h short f is = absurd h
 
     pub ends_untyped : (r : Ending) → IsToldOf set text r a b c d → length text ≤ most_bytes → IsUntyped set text → EndsUntyped r a b
     ends_untyped ending.Completed h short n = taken_or_cause (fault.NotTyped some_fault) h n
@@ -94,6 +102,10 @@ module _ (set : Set) (text : List ℕ) where
     ends_untyped ending.NotALine h short n = absurd h
     ends_untyped ending.HelpShown h short n = absurd h
     ends_untyped ending.VersionShown h short n = absurd h
+    ends_untyped ending.ExecDone h short n = absurd h
+    ends_untyped (ending.ExecFailed span) h short n = absurd h
+    ends_untyped (ending.ExecSkipped span) h short n = absurd h
+    ends_untyped (ending.NotRun reason) h short n = absurd h
 
     pub ends_large : (r : Ending) → IsToldOf set text r a b c d → (s : SizeFault) → IsTooLarge set text s → EndsLarge s r a b
     ends_large ending.Completed h s is = taken_or_cause (fault.TooLarge s) h is
@@ -109,6 +121,10 @@ module _ (set : Set) (text : List ℕ) where
     ends_large ending.NotALine h s is = absurd h
     ends_large ending.HelpShown h s is = absurd h
     ends_large ending.VersionShown h s is = absurd h
+    ends_large ending.ExecDone h s is = absurd h
+    ends_large (ending.ExecFailed span) h s is = absurd h
+    ends_large (ending.ExecSkipped span) h s is = absurd h
+    ends_large (ending.NotRun reason) h s is = absurd h
 
     pub ends_unbuilt : (r : Ending) → IsToldOf set text r a b c d → IsNotBuilt set text → EndsUnbuilt r a b
     ends_unbuilt ending.Completed h n = taken_or_unbuilt h n
@@ -124,6 +140,10 @@ module _ (set : Set) (text : List ℕ) where
     ends_unbuilt ending.NotALine h n = absurd h
     ends_unbuilt ending.HelpShown h n = absurd h
     ends_unbuilt ending.VersionShown h n = absurd h
+    ends_unbuilt ending.ExecDone h n = absurd h
+    ends_unbuilt (ending.ExecFailed span) h n = absurd h
+    ends_unbuilt (ending.ExecSkipped span) h n = absurd h
+    ends_unbuilt (ending.NotRun reason) h n = absurd h
 
     pub ends_long : (r : Ending) → IsToldOf set text r a b c d → most_bytes < length text → EndsLong r a b
     ends_long ending.Completed h long = too_long (short_of h) long
@@ -139,3 +159,7 @@ module _ (set : Set) (text : List ℕ) where
     ends_long ending.NotALine h long = absurd h
     ends_long ending.HelpShown h long = absurd h
     ends_long ending.VersionShown h long = absurd h
+    ends_long ending.ExecDone h long = absurd h
+    ends_long (ending.ExecFailed span) h long = absurd h
+    ends_long (ending.ExecSkipped span) h long = absurd h
+    ends_long (ending.NotRun reason) h long = absurd h

@@ -11,8 +11,10 @@ use Rattle.sk_texts.specs.Messages.{Refusal, refusal_status, refusal_message}
 use Rattle.sk_texts.specs.Messages as said
 use Rattle.sk_front.specs.declared.fault.TextFault.{TextFault}
 use Rattle.sk_front.specs.declared.fault.TextFault.TheVariants.{Lex, Parse}
+use Rattle.sk_direct.specs.declared.fault.ExecFault.{ExecFault}
+use Rattle.sk_direct.specs.declared.fault.ExecFault.TheVariants as exec
 use Rattle.sk_app.specs.declared.ending.Ending.{Ending}
-use Rattle.sk_app.specs.declared.ending.Ending.TheVariants.{Completed, NoCompletion, HelpShown, VersionShown, NotALine, NotText, NotTyped, TooLarge, ReadFault, WriteFault, TooLong, Memory, NotBuilt}
+use Rattle.sk_app.specs.declared.ending.Ending.TheVariants.{Completed, NoCompletion, HelpShown, VersionShown, ExecDone, ExecFailed, ExecSkipped, NotALine, NotText, NotTyped, TooLarge, NotRun, ReadFault, WriteFault, TooLong, Memory, NotBuilt}
 
 -- The refusal for a fault of a text. Want of memory, which `run` answers as `Memory`, is no fault of it.
 abbrev pub text_refusal : TextFault → Refusal
@@ -52,15 +54,27 @@ size_refusal size.Steps = said.TooLarge said.Steps
 size_refusal size.News = said.TooLarge said.News
 size_refusal size.Memory = said.Memory
 
+-- the refusal of a line `exec` that runs no function
+abbrev pub exec_refusal : ExecFault → Refusal
+exec_refusal exec.NoFunction = said.NotRun said.NoFunction
+exec_refusal exec.Unfilled = said.NotRun said.Unfilled
+exec_refusal exec.References = said.NotRun said.References
+exec_refusal exec.Count = said.NotRun said.Count
+exec_refusal (exec.Value index) = said.NotRun said.Value
+
 abbrev pub status_of : Ending → ℕ
 status_of Completed = 0
 status_of NoCompletion = 1
 status_of HelpShown = 0
 status_of VersionShown = 0
+status_of ExecDone = 0
+status_of (ExecFailed span) = 4
+status_of (ExecSkipped span) = 5
 status_of NotALine = 10
 status_of (NotText fault) = refusal_status (text_refusal fault)
 status_of (NotTyped fault) = refusal_status (type_refusal fault)
 status_of (TooLarge reason) = refusal_status (size_refusal reason)
+status_of (NotRun reason) = refusal_status (exec_refusal reason)
 status_of ReadFault = 14
 status_of WriteFault = 15
 status_of TooLong = 16
@@ -72,10 +86,14 @@ message_of Completed = []
 message_of NoCompletion = []
 message_of HelpShown = []
 message_of VersionShown = []
+message_of ExecDone = []
+message_of (ExecFailed span) = []
+message_of (ExecSkipped span) = []
 message_of NotALine = codes "usage"
 message_of (NotText fault) = refusal_message (text_refusal fault)
 message_of (NotTyped fault) = refusal_message (type_refusal fault)
 message_of (TooLarge reason) = refusal_message (size_refusal reason)
+message_of (NotRun reason) = refusal_message (exec_refusal reason)
 message_of ReadFault = codes "read fault"
 message_of WriteFault = codes "write fault"
 message_of TooLong = codes "too long"

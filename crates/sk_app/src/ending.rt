@@ -4,10 +4,11 @@ ghost use Rattle.std.specs.Prelude.{◌≡◌, ◌++◌, codes, IfOk, OnOk};
 ghost use Rattle.std.specs.Fmt.{decimal};
 ghost use Rattle.sk_texts.specs.Messages.{rule_number, refusal_status, refusal_message};
 ghost use Rattle.sk_front.specs.declared.fault.TextFault.TheVariants.{Lex, Parse};
-ghost use Rattle.sk_app.specs.Ending.{text_refusal, rule_of, type_refusal, size_refusal, status_of, message_of};
+ghost use Rattle.sk_app.specs.Ending.{text_refusal, rule_of, type_refusal, size_refusal, exec_refusal, status_of, message_of};
 
-use sk_base::{Name, push_number};
+use sk_base::{Name, Span, push_number};
 use sk_check::{Rule, TypeFault};
+use sk_direct::ExecFault;
 use sk_front::TextFault;
 use sk_lexer::LexFault;
 use sk_parser::ParseFault;
@@ -25,6 +26,12 @@ pub enum Ending {
     HelpShown,
     /// The sink got the version.
     VersionShown,
+    /// The run of a function is done. The sink got its text, as it did of the next two.
+    ExecDone,
+    /// The run failed at the statement with this span.
+    ExecFailed { span: Span },
+    /// The run was skipped at the statement with this span.
+    ExecSkipped { span: Span },
     /// The words are no command line.
     NotALine,
     /// The text has no tokens, or these read as no tree.
@@ -33,6 +40,8 @@ pub enum Ending {
     NotTyped(TypeFault),
     /// The expansion of its program is too large.
     TooLarge(SizeFault),
+    /// No function of the text is run, for this reason.
+    NotRun(ExecFault),
     /// The source failed.
     ReadFault,
     /// The sink failed. It may hold a prefix of the result text.
@@ -51,7 +60,9 @@ pub fn status(ending: &Ending) -> u8
     ensures { result ≡ status_of ending.now }
 {
     match ending {
-        Ending::Completed | Ending::HelpShown | Ending::VersionShown => 0,
+        Ending::Completed | Ending::HelpShown | Ending::VersionShown | Ending::ExecDone => 0,
+        Ending::ExecFailed { span: _ } => 4,
+        Ending::ExecSkipped { span: _ } => 5,
         Ending::NoCompletion => 1,
         Ending::NotALine => 10,
         Ending::NotText(fault) => text_status(fault),
@@ -61,6 +72,7 @@ pub fn status(ending: &Ending) -> u8
         Ending::WriteFault => 15,
         Ending::TooLong => 16,
         Ending::Memory => 17,
+        Ending::NotRun(_) => 18,
         Ending::NotBuilt => 20,
     }
 }
@@ -73,15 +85,31 @@ pub fn message(alloc: Global, ending: &Ending) -> Result<Name, AllocError>
         Ending::Completed | Ending::NoCompletion | Ending::HelpShown | Ending::VersionShown => {
             said(alloc, b"")
         }
+        Ending::ExecDone | Ending::ExecFailed { span: _ } | Ending::ExecSkipped { span: _ } => {
+            said(alloc, b"")
+        }
         Ending::NotALine => said(alloc, b"usage"),
         Ending::NotText(fault) => text_message(alloc, fault),
         Ending::NotTyped(fault) => type_message(alloc, fault),
         Ending::TooLarge(reason) => size_message(alloc, *reason),
+        Ending::NotRun(reason) => exec_message(alloc, *reason),
         Ending::ReadFault => said(alloc, b"read fault"),
         Ending::WriteFault => said(alloc, b"write fault"),
         Ending::TooLong => said(alloc, b"too long"),
         Ending::Memory => said(alloc, b"no memory"),
         Ending::NotBuilt => said(alloc, b"not built"),
+    }
+}
+
+fn exec_message(alloc: Global, reason: ExecFault) -> Result<Name, AllocError>
+    ensures { IfOk result (λ name. name ≡ refusal_message (exec_refusal reason)) }
+{
+    match reason {
+        ExecFault::NoFunction => said(alloc, b"exec NoFunction"),
+        ExecFault::Unfilled => said(alloc, b"exec Unfilled"),
+        ExecFault::References => said(alloc, b"exec References"),
+        ExecFault::Count => said(alloc, b"exec Count"),
+        ExecFault::Value { index: _ } => said(alloc, b"exec Value"),
     }
 }
 
