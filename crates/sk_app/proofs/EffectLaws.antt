@@ -132,7 +132,7 @@ module _ (words : List (List ℕ)) (r : Ending) (f : Effect) where
   synth_of x a (of_none n s) e = absurd (alone_not ending.NotALine x a refl (sym s.is ∙ e))
   synth_of x a (of_unbuilt u s) e = absurd (alone_not ending.NotBuilt x a refl (sym s.is ∙ e))
   synth_of x a (of_synth set h s) e = record { set = set; is = h; holds = s }
-  synth_of x a (of_exec set name values h s) e = by_exec.exec_not x (synth_alone_not_exec x a) s.runs e
+  synth_of x a (of_exec set name values h s) e = by_exec.exec_not set name values r f x (synth_alone_not_exec x a) s.runs e
   synth_of x a (of_help h s) e = absurd (shown_not help_text ending.HelpShown s x (alone_not ending.HelpShown x a refl) (alone_not ending.WriteFault x a refl) (alone_not ending.Memory x a refl) e)
   synth_of x a (of_version h s) e = absurd (shown_not version_text ending.VersionShown s x (alone_not ending.VersionShown x a refl) (alone_not ending.WriteFault x a refl) (alone_not ending.Memory x a refl) e)
   synth_of x a (of_memory s) e = absurd (alone_not ending.Memory x a refl (sym s.is ∙ e))
@@ -171,7 +171,7 @@ module _ (words : List (List ℕ)) (r : Ending) (f : Effect) where
   not_a_line_of (of_none n s) e = n
   not_a_line_of (of_unbuilt u s) e = let q = sym s.is ∙ e in cc
   not_a_line_of (of_synth set h s) e = absurd (synth_not set ending.NotALine s refl e)
-  not_a_line_of (of_exec set name values h s) e = by_exec.exec_not ending.NotALine refl s.runs e
+  not_a_line_of (of_exec set name values h s) e = by_exec.exec_not set name values r f ending.NotALine refl s.runs e
   not_a_line_of (of_help h s) e = absurd (shown_not help_text ending.HelpShown s ending.NotALine (λ q. cc) (λ q. cc) (λ q. cc) e)
   not_a_line_of (of_version h s) e = absurd (shown_not version_text ending.VersionShown s ending.NotALine (λ q. cc) (λ q. cc) (λ q. cc) e)
   not_a_line_of (of_memory s) e = let q = sym s.is ∙ e in cc
@@ -198,7 +198,7 @@ module _ (words : List (List ℕ)) (r : Ending) (f : Effect) where
   help_of (of_none n s) e = let q = sym s.is ∙ e in cc
   help_of (of_unbuilt u s) e = let q = sym s.is ∙ e in cc
   help_of (of_synth set h s) e = absurd (synth_not set ending.HelpShown s refl e)
-  help_of (of_exec set name values h s) e = by_exec.exec_not ending.HelpShown refl s.runs e
+  help_of (of_exec set name values h s) e = by_exec.exec_not set name values r f ending.HelpShown refl s.runs e
   help_of (of_help h s) e = (h, shown_whole help_text ending.HelpShown s (λ q. cc) (λ q. cc) e)
   help_of (of_version h s) e = absurd (shown_not version_text ending.VersionShown s ending.HelpShown (λ q. cc) (λ q. cc) (λ q. cc) e)
   help_of (of_memory s) e = let q = sym s.is ∙ e in cc
@@ -207,7 +207,7 @@ module _ (words : List (List ℕ)) (r : Ending) (f : Effect) where
   version_of (of_none n s) e = let q = sym s.is ∙ e in cc
   version_of (of_unbuilt u s) e = let q = sym s.is ∙ e in cc
   version_of (of_synth set h s) e = absurd (synth_not set ending.VersionShown s refl e)
-  version_of (of_exec set name values h s) e = by_exec.exec_not ending.VersionShown refl s.runs e
+  version_of (of_exec set name values h s) e = by_exec.exec_not set name values r f ending.VersionShown refl s.runs e
   version_of (of_help h s) e = absurd (shown_not help_text ending.HelpShown s ending.VersionShown (λ q. cc) (λ q. cc) (λ q. cc) e)
   version_of (of_version h s) e = (h, shown_whole version_text ending.VersionShown s (λ q. cc) (λ q. cc) e)
   version_of (of_memory s) e = let q = sym s.is ∙ e in cc
@@ -216,7 +216,7 @@ module _ (words : List (List ℕ)) (r : Ending) (f : Effect) where
   not_built_of (of_none n s) e = let q = sym s.is ∙ e in cc
   not_built_of (of_unbuilt u s) e = inl u
   not_built_of (of_synth set h s) e = inr (record { set = set; is = h; holds = told_as set s ending.NotBuilt (IsNotBuilt set) (λ text h. h) e })
-  not_built_of (of_exec set name values h s) e = by_exec.exec_not ending.NotBuilt refl s.runs e
+  not_built_of (of_exec set name values h s) e = by_exec.exec_not set name values r f ending.NotBuilt refl s.runs e
   not_built_of (of_help h s) e = absurd (shown_not help_text ending.HelpShown s ending.NotBuilt (λ q. cc) (λ q. cc) (λ q. cc) e)
   not_built_of (of_version h s) e = absurd (shown_not version_text ending.VersionShown s ending.NotBuilt (λ q. cc) (λ q. cc) (λ q. cc) e)
   not_built_of (of_memory s) e = let q = sym s.is ∙ e in cc
@@ -225,7 +225,7 @@ module _ (words : List (List ℕ)) (r : Ending) (f : Effect) where
   write_fault_of (of_none n s) e = let q = sym s.is ∙ e in cc
   write_fault_of (of_unbuilt u s) e = let q = sym s.is ∙ e in cc
   write_fault_of (of_synth set h s) e = s.write_fault e
-  write_fault_of (of_exec set name values h s) e = by_exec.write_fault_by s.runs e
+  write_fault_of (of_exec set name values h s) e = by_exec.write_fault_by set name values r f s.runs e
   write_fault_of (of_help h s) e = shown_rose help_text ending.HelpShown s (λ q. cc) (λ q. cc) e
   write_fault_of (of_version h s) e = shown_rose version_text ending.VersionShown s (λ q. cc) (λ q. cc) e
   write_fault_of (of_memory s) e = let q = sym s.is ∙ e in cc
@@ -237,7 +237,7 @@ module _ (words : List (List ℕ)) (r : Ending) (f : Effect) where
   prefix_of (of_none n s) e = let q = sym s.is ∙ e in cc
   prefix_of (of_unbuilt u s) e = let q = sym s.is ∙ e in cc
   prefix_of (of_synth set h s) e = mapped f.left_old (λ text. WritesPart (IsResult set text) f.held_old f.held_new) Cut (λ text w. record { out = w.out; is = output.result (record { set = set; is = h; holds = w.is }); appends = w.appends }) (s.prefix e)
-  prefix_of (of_exec set name values h s) e = mapped f.left_old (λ text. WritesPart (IsRunOutput set name values text) f.held_old f.held_new) Cut (λ text w. record { out = w.out; is = output.run (record { set = set; name = name; values = values; is = h; holds = w.is }); appends = w.appends }) (by_exec.told_by (λ text. WritesPart (IsRunOutput set name values text) f.held_old f.held_new) (λ text w. by_exec.prefix_by e text w) s.runs)
+  prefix_of (of_exec set name values h s) e = mapped f.left_old (λ text. WritesPart (IsRunOutput set name values text) f.held_old f.held_new) Cut (λ text w. record { out = w.out; is = output.run (record { set = set; name = name; values = values; is = h; holds = w.is }); appends = w.appends }) (by_exec.told_by set name values r f (λ text. WritesPart (IsRunOutput set name values text) f.held_old f.held_new) (λ text w. by_exec.prefix_by set name values r f e text w) s.runs)
   prefix_of (of_help h s) e = every f.left_old Cut (λ text. record { out = help_text; is = output.help h refl; appends = shown_cut help_text ending.HelpShown s (λ q. cc) (λ q. cc) e })
   prefix_of (of_version h s) e = every f.left_old Cut (λ text. record { out = version_text; is = output.version h refl; appends = shown_cut version_text ending.VersionShown s (λ q. cc) (λ q. cc) e })
   prefix_of (of_memory s) e = let q = sym s.is ∙ e in cc
@@ -246,7 +246,7 @@ module _ (words : List (List ℕ)) (r : Ending) (f : Effect) where
   kept_of (of_none n s) k = s.nothing.unwritten
   kept_of (of_unbuilt u s) k = s.nothing.unwritten
   kept_of (of_synth set h s) k = s.kept k
-  kept_of (of_exec set name values h s) k = by_exec.kept_by s.runs k
+  kept_of (of_exec set name values h s) k = by_exec.kept_by set name values r f s.runs k
   kept_of (of_help h s) k = shown_kept help_text ending.HelpShown s refl k
   kept_of (of_version h s) k = shown_kept version_text ending.VersionShown s refl k
   kept_of (of_memory s) k = s.nothing.unwritten
@@ -391,7 +391,7 @@ module _ {words : List (List ℕ)} {r : Ending} {f : Effect} (a : Answers words 
   run_written : (x : Ending) → is_exec_alone x ≡ true → is_of_synth x ≡ false → by_exec.is_run x ≡ true → r ≡ x → ForExec words (λ set name values. IfSome f.left_old (λ text. Writes (IsRunResult set name values x text) f.held_old f.held_new))
   run_written x a b run e =
       let s = exec_of words r f x a b the e in
-      record { set = s.set; name = s.name; values = s.values; is = s.is; holds = by_exec.told_by (λ text. Writes (IsRunResult s.set s.name s.values x text) f.held_old f.held_new) (λ text w. by_exec.run_by x run e text w) (s.holds).runs }
+      record { set = s.set; name = s.name; values = s.values; is = s.is; holds = by_exec.told_by s.set s.name s.values r f (λ text. Writes (IsRunResult s.set s.name s.values x text) f.held_old f.held_new) (λ text w. by_exec.run_by s.set s.name s.values r f x run e text w) (s.holds).runs }
 
   pub exec_done : r ≡ ending.ExecDone → ForExec words (λ set name values. IfSome f.left_old (λ text. Writes (IsRunResult set name values ending.ExecDone text) f.held_old f.held_new))
   exec_done = run_written ending.ExecDone refl refl refl
@@ -405,7 +405,7 @@ module _ {words : List (List ℕ)} {r : Ending} {f : Effect} (a : Answers words 
   pub not_run : (reason : ExecFault) → r ≡ ending.NotRun reason → ForExec words (λ set name values. IfSome f.left_old (λ text. IsNotRun set name values text reason))
   not_run reason e =
       let s = exec_of words r f (ending.NotRun reason) refl refl the e in
-      record { set = s.set; name = s.name; values = s.values; is = s.is; holds = by_exec.told_by (λ text. IsNotRun s.set s.name s.values text reason) (λ text w. by_exec.not_run_by reason e text w) (s.holds).runs }
+      record { set = s.set; name = s.name; values = s.values; is = s.is; holds = by_exec.told_by s.set s.name s.values r f (λ text. IsNotRun s.set s.name s.values text reason) (λ text w. by_exec.not_run_by s.set s.name s.values r f reason e text w) (s.holds).runs }
 
   -- what is told of the text by an ending of lines that take one
   told_of : (x : Ending) → is_of_text x ≡ true → (P : Set → List ℕ → Type 0) → ((set : Set) → Synthesises set r f → IfSome f.left_old (P set)) → ((set : Set) (name : List ℕ) (values : List (List ℕ)) → Executes set name values r f → IfSome f.left_old (P set)) → r ≡ x → ForText words (λ set. IfSome f.left_old (P set))
@@ -415,19 +415,19 @@ module _ {words : List (List ℕ)} {r : Ending} {f : Effect} (a : Answers words 
   not_text fault e =
       (told_of (ending.NotText fault) refl (λ set text. IsTextFault fault text)
       (λ set s. told_as words r f set s (ending.NotText fault) (IsTextFault fault) (λ text h. h.1) e)
-      (λ set name values s. by_exec.told_by (IsTextFault fault) (λ text w. by_exec.not_text_by fault e text w) s.runs) e).holds
+      (λ set name values s. by_exec.told_by set name values r f (IsTextFault fault) (λ text w. by_exec.not_text_by set name values r f fault e text w) s.runs) e).holds
 
   pub not_typed : (fault : TypeFault) → r ≡ ending.NotTyped fault → ForText words (λ set. IfSome f.left_old (IsUntyped set))
   not_typed fault e =
       told_of (ending.NotTyped fault) refl IsUntyped
       (λ set s. told_as words r f set s (ending.NotTyped fault) (IsUntyped set) (λ text h. h.1) e)
-      (λ set name values s. by_exec.told_by (IsUntyped set) (λ text w. by_exec.not_typed_by fault e text w) s.runs) e
+      (λ set name values s. by_exec.told_by set name values r f (IsUntyped set) (λ text w. by_exec.not_typed_by set name values r f fault e text w) s.runs) e
 
   pub too_large : (reason : SizeFault) → r ≡ ending.TooLarge reason → ForText words (λ set. IfSome f.left_old (λ text. IsTooLarge set text reason))
   too_large reason e =
       told_of (ending.TooLarge reason) refl (λ set text. IsTooLarge set text reason)
       (λ set s. told_as words r f set s (ending.TooLarge reason) (λ text. IsTooLarge set text reason) (λ text h. h) e)
-      (λ set name values s. by_exec.told_by (λ text. IsTooLarge set text reason) (λ text w. by_exec.too_large_by reason e text w) s.runs) e
+      (λ set name values s. by_exec.told_by set name values r f (λ text. IsTooLarge set text reason) (λ text w. by_exec.too_large_by set name values r f reason e text w) s.runs) e
 
   pub not_built : r ≡ ending.NotBuilt → IsUnbuiltLine words ⊎ ForSynth words (λ set. IfSome f.left_old (IsNotBuilt set))
   not_built = not_built_of words r f the
@@ -436,10 +436,10 @@ module _ {words : List (List ℕ)} {r : Ending} {f : Effect} (a : Answers words 
   too_long e =
       (told_of ending.TooLong refl (λ set text. most_bytes < length text)
       (λ set s. told_as words r f set s ending.TooLong (λ text. most_bytes < length text) (λ text h. h) e)
-      (λ set name values s. by_exec.told_by (λ text. most_bytes < length text) (λ text w. by_exec.too_long_by e text w) s.runs) e).holds
+      (λ set name values s. by_exec.told_by set name values r f (λ text. most_bytes < length text) (λ text w. by_exec.too_long_by set name values r f e text w) s.runs) e).holds
 
   pub read_fault : r ≡ ending.ReadFault → Rose f.read_faults_old f.read_faults_new
-  read_fault e = (text_of words r f ending.ReadFault refl (λ set. Rose f.read_faults_old f.read_faults_new) (λ set s. s.read_fault e) (λ set name values s. by_exec.read_fault_by s.runs e) the e).holds
+  read_fault e = (text_of words r f ending.ReadFault refl (λ set. Rose f.read_faults_old f.read_faults_new) (λ set s. s.read_fault e) (λ set name values s. by_exec.read_fault_by set name values r f s.runs e) the e).holds
 
   pub write_fault : r ≡ ending.WriteFault → Rose f.write_faults_old f.write_faults_new
   write_fault = write_fault_of words r f the
@@ -479,8 +479,8 @@ module _ {words : List (List ℕ)} {r : Ending} {f : Effect} (a : Answers words 
   for_text P k = for_synth words r f (λ set. IfSome f.left_old (P set)) (λ set s. mapped f.left_old (λ text. IsToldOf set text r f.read_faults_old f.read_faults_new f.write_faults_old f.write_faults_new) (P set) (k set) s.told) (λ set m. every f.left_old (P set) (λ text. k set text (subst (λ x. IsToldOf set text x f.read_faults_old f.read_faults_new f.write_faults_old f.write_faults_new) (sym m) tt))) the
 
   -- the same for a line `exec`
-  for_exec_text : (P : Set → List ℕ → List (List ℕ) → List ℕ → Type 0) → ((set : Set) (name : List ℕ) (values : List (List ℕ)) (text : List ℕ) → by_exec.Came {set} {name} {values} {r} {f} text → P set name values text) → (set : Set) (name : List ℕ) (values : List (List ℕ)) → IsExec words set name values → IfSome f.left_old (P set name values)
-  for_exec_text P k = for_exec words r f (λ set name values. IfSome f.left_old (P set name values)) (λ set name values s. by_exec.told_by (P set name values) (k set name values) s.runs) (λ set name values m. every f.left_old (P set name values) (λ text. k set name values text (by_exec.came_wanting m))) the
+  for_exec_text : (P : Set → List ℕ → List (List ℕ) → List ℕ → Type 0) → ((set : Set) (name : List ℕ) (values : List (List ℕ)) (text : List ℕ) → by_exec.Came set name values r f text → P set name values text) → (set : Set) (name : List ℕ) (values : List (List ℕ)) → IsExec words set name values → IfSome f.left_old (P set name values)
+  for_exec_text P k = for_exec words r f (λ set name values. IfSome f.left_old (P set name values)) (λ set name values s. by_exec.told_by set name values r f (P set name values) (k set name values) s.runs) (λ set name values m. every f.left_old (P set name values) (λ text. k set name values text (by_exec.came_wanting m))) the
 
   -- and for either
   for_either : (P : Set → List ℕ → Type 0) → ((set : Set) → IsSynth words set → IfSome f.left_old (P set)) → ((set : Set) (name : List ℕ) (values : List (List ℕ)) → IsExec words set name values → IfSome f.left_old (P set)) → (set : Set) → TakesText words set → IfSome f.left_old (P set)
@@ -494,13 +494,13 @@ module _ {words : List (List ℕ)} {r : Ending} {f : Effect} (a : Answers words 
   ends_faulty =
       for_either (λ set text. length text ≤ most_bytes → (fault : TextFault) → IsTextFault fault text → EndsFaulty fault r f.read_faults_old f.read_faults_new)
       (for_text (λ set text. length text ≤ most_bytes → (fault : TextFault) → IsTextFault fault text → EndsFaulty fault r f.read_faults_old f.read_faults_new) (λ set text. by.ends_faulty set text f.read_faults_old f.read_faults_new f.write_faults_old f.write_faults_new r))
-      (for_exec_text (λ set name values text. length text ≤ most_bytes → (fault : TextFault) → IsTextFault fault text → EndsFaulty fault r f.read_faults_old f.read_faults_new) (λ set name values text w. by_exec.ends_faulty_by text w))
+      (for_exec_text (λ set name values text. length text ≤ most_bytes → (fault : TextFault) → IsTextFault fault text → EndsFaulty fault r f.read_faults_old f.read_faults_new) (λ set name values text w. by_exec.ends_faulty_by set name values r f text w))
 
   pub ends_untyped : (set : Set) → TakesText words set → IfSome f.left_old (λ text. length text ≤ most_bytes → IsUntyped set text → EndsUntyped r f.read_faults_old f.read_faults_new)
   ends_untyped =
       for_either (λ set text. length text ≤ most_bytes → IsUntyped set text → EndsUntyped r f.read_faults_old f.read_faults_new)
       (for_text (λ set text. length text ≤ most_bytes → IsUntyped set text → EndsUntyped r f.read_faults_old f.read_faults_new) (λ set text. by.ends_untyped set text f.read_faults_old f.read_faults_new f.write_faults_old f.write_faults_new r))
-      (for_exec_text (λ set name values text. length text ≤ most_bytes → IsUntyped set text → EndsUntyped r f.read_faults_old f.read_faults_new) (λ set name values text w. by_exec.ends_untyped_by by.some_fault text w))
+      (for_exec_text (λ set name values text. length text ≤ most_bytes → IsUntyped set text → EndsUntyped r f.read_faults_old f.read_faults_new) (λ set name values text w. by_exec.ends_untyped_by set name values r f by.some_fault text w))
 
   pub ends_large : (set : Set) → IsSynth words set → IfSome f.left_old (λ text. (reason : SizeFault) → IsTooLarge set text reason → EndsLarge reason r f.read_faults_old f.read_faults_new)
   ends_large = for_text (λ set text. (reason : SizeFault) → IsTooLarge set text reason → EndsLarge reason r f.read_faults_old f.read_faults_new) (λ set text. by.ends_large set text f.read_faults_old f.read_faults_new f.write_faults_old f.write_faults_new r)
@@ -509,13 +509,13 @@ module _ {words : List (List ℕ)} {r : Ending} {f : Effect} (a : Answers words 
   ends_copies =
       for_either (λ set text. (reason : SizeFault) → IsTrue (is_of_expansion reason) → IsTooLarge set text reason → EndsLarge reason r f.read_faults_old f.read_faults_new)
       (for_text (λ set text. (reason : SizeFault) → IsTrue (is_of_expansion reason) → IsTooLarge set text reason → EndsLarge reason r f.read_faults_old f.read_faults_new) (λ set text told reason b is. by.ends_large set text f.read_faults_old f.read_faults_new f.write_faults_old f.write_faults_new r told reason is))
-      (for_exec_text (λ set name values text. (reason : SizeFault) → IsTrue (is_of_expansion reason) → IsTooLarge set text reason → EndsLarge reason r f.read_faults_old f.read_faults_new) (λ set name values text w. by_exec.ends_copies_by text w))
+      (for_exec_text (λ set name values text. (reason : SizeFault) → IsTrue (is_of_expansion reason) → IsTooLarge set text reason → EndsLarge reason r f.read_faults_old f.read_faults_new) (λ set name values text w. by_exec.ends_copies_by set name values r f text w))
 
   pub ends_run : (set : Set) (name : List ℕ) (values : List (List ℕ)) → IsExec words set name values → IfSome f.left_old (λ text. (outcome : Outcome) (out : List ℕ) → IsRunText set name values text outcome out → EndsRun outcome r f.read_faults_old f.read_faults_new f.write_faults_old f.write_faults_new)
-  ends_run = for_exec_text (λ set name values text. (outcome : Outcome) (out : List ℕ) → IsRunText set name values text outcome out → EndsRun outcome r f.read_faults_old f.read_faults_new f.write_faults_old f.write_faults_new) (λ set name values text w. by_exec.ends_run_by text w)
+  ends_run = for_exec_text (λ set name values text. (outcome : Outcome) (out : List ℕ) → IsRunText set name values text outcome out → EndsRun outcome r f.read_faults_old f.read_faults_new f.write_faults_old f.write_faults_new) (λ set name values text w. by_exec.ends_run_by set name values r f text w)
 
   pub ends_not_run : (set : Set) (name : List ℕ) (values : List (List ℕ)) → IsExec words set name values → IfSome f.left_old (λ text. (reason : ExecFault) → IsNotRun set name values text reason → EndsNotRun reason r f.read_faults_old f.read_faults_new)
-  ends_not_run = for_exec_text (λ set name values text. (reason : ExecFault) → IsNotRun set name values text reason → EndsNotRun reason r f.read_faults_old f.read_faults_new) (λ set name values text w. by_exec.ends_not_run_by text w)
+  ends_not_run = for_exec_text (λ set name values text. (reason : ExecFault) → IsNotRun set name values text reason → EndsNotRun reason r f.read_faults_old f.read_faults_new) (λ set name values text w. by_exec.ends_not_run_by set name values r f text w)
 
   pub ends_unbuilt : (set : Set) → IsSynth words set → IfSome f.left_old (λ text. IsNotBuilt set text → EndsUnbuilt r f.read_faults_old f.read_faults_new)
   ends_unbuilt = for_text (λ set text. IsNotBuilt set text → EndsUnbuilt r f.read_faults_old f.read_faults_new) (λ set text. by.ends_unbuilt set text f.read_faults_old f.read_faults_new f.write_faults_old f.write_faults_new r)
@@ -524,7 +524,7 @@ module _ {words : List (List ℕ)} {r : Ending} {f : Effect} (a : Answers words 
   ends_long =
       for_either (λ set text. most_bytes < length text → EndsLong r f.read_faults_old f.read_faults_new)
       (for_text (λ set text. most_bytes < length text → EndsLong r f.read_faults_old f.read_faults_new) (λ set text. by.ends_long set text f.read_faults_old f.read_faults_new f.write_faults_old f.write_faults_new r))
-      (for_exec_text (λ set name values text. most_bytes < length text → EndsLong r f.read_faults_old f.read_faults_new) (λ set name values text w. by_exec.ends_long_by text w))
+      (for_exec_text (λ set name values text. most_bytes < length text → EndsLong r f.read_faults_old f.read_faults_new) (λ set name values text w. by_exec.ends_long_by set name values r f text w))
 
 -- a call for a line `synth` without a certificate
 pub serves_synth : (l : Line) (set : Set) (budget : Budget) (r : Ending) (f : Effect) → l ≡ line.Synth set budget false → Synthesises set r f → Serves l r f

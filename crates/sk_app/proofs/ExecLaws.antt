@@ -97,8 +97,8 @@ mapped (Some text) P Q h k = h text k
 too_long : {A : Type 0} (text : List ℕ) → length text ≤ most_bytes → most_bytes < length text → A
 too_long text short over = absurd (omega (arith, short, over))
 
-module _ {set : Set} {name : List ℕ} {values : List (List ℕ)} {r : Ending} {f : Effect} where
-  abbrev Runs : List ℕ → Type 0
+module _ (set : Set) (name : List ℕ) (values : List (List ℕ)) (r : Ending) (f : Effect) where
+  abbrev pub Runs : List ℕ → Type 0
   Runs text = RunsText set name values text r f.write_faults_old f.write_faults_new f.held_old f.held_new
 
   -- Whatever the text is
@@ -185,7 +185,7 @@ module _ {set : Set} {name : List ℕ} {values : List (List ℕ)} {r : Ending} {
 
   -- Of the text that the source had left
 
-  data Came (text : List ℕ) : Type 0 where
+  pub data Came (text : List ℕ) : Type 0 where
     came_failed : r ≡ ending.ReadFault → Rose f.read_faults_old f.read_faults_new → Came text
     came_long : r ≡ ending.TooLong → most_bytes < length text → Came text
     came_wanting : r ≡ ending.Memory → Came text
@@ -263,7 +263,7 @@ module _ {set : Set} {name : List ℕ} {values : List (List ℕ)} {r : Ending} {
   too_long_by q text (came_wanting e) = let z = sym e ∙ q in cc
   too_long_by q text (came_whole short w) = too_long_text text w q
 
-  abbrev Written : Ending → List ℕ → Type 0
+  abbrev pub Written : Ending → List ℕ → Type 0
   Written x text = Writes (IsRunResult set name values x text) f.held_old f.held_new
 
   run_of_text : (text : List ℕ) (x : Ending) → is_run x ≡ true → Runs text → r ≡ x → Written x text
@@ -302,7 +302,7 @@ module _ {set : Set} {name : List ℕ} {values : List (List ℕ)} {r : Ending} {
   not_run_by reason q text (came_wanting e) = let z = sym e ∙ q in cc
   not_run_by reason q text (came_whole short w) = not_run_text reason text w q
 
-  abbrev Part : List ℕ → Type 0
+  abbrev pub Part : List ℕ → Type 0
   Part text = WritesPart (IsRunOutput set name values text) f.held_old f.held_new
 
   prefix_text : (text : List ℕ) → Runs text → r ≡ ending.WriteFault → Part text
