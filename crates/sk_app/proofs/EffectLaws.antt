@@ -529,3 +529,7 @@ module _ {words : List (List ℕ)} {r : Ending} {f : Effect} (a : Answers words 
 -- a call for a line `synth` without a certificate
 pub serves_synth : (l : Line) (set : Set) (budget : Budget) (r : Ending) (f : Effect) → l ≡ line.Synth set budget false → Synthesises set r f → Serves l r f
 serves_synth l set budget r f is s = subst (λ x. Serves x r f) (sym is) s
+
+-- a call for a line `exec`
+pub serves_exec : (l : Line) (set : Set) (name : List ℕ) (values words : List (List ℕ)) (r : Ending) (f : Effect) → l ≡ line.Exec set name values → words ≡ values → Executes set name words r f → Serves l r f
+serves_exec l set name values words r f is same s = subst (λ x. Serves x r f) (sym is) (subst (λ x. Executes set name x r f) same s)
