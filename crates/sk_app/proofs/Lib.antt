@@ -1,6 +1,7 @@
 mod StreamLemmas
 mod EndingLemmas
 mod ToldLaws
+mod ExecLaws
 mod EffectLaws
 pub mod FillingEarly
 pub mod FillingLaws

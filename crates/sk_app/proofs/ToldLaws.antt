@@ -20,7 +20,7 @@ use Rattle.sk_app.specs.Built.{IsSmall, IsBuilt, IsTaken, IsNotBuilt}
 use Rattle.sk_app.specs.Ends.{IsToldOf, EndsBuilt, EndsFaulty, EndsUntyped, EndsLarge, EndsUnbuilt, EndsLong}
 
 -- a fault of types: of a text that has one, no definition says which is told
-some_fault : TypeFault
+pub some_fault : TypeFault
 some_fault = record { rule = rule.Mismatch; span = record { from = 0; to = 0 } }
 
 module _ (set : Set) (text : List ℕ) where

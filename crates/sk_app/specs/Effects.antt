@@ -5,13 +5,21 @@ use Rattle.sk_opts.specs.declared.line.Set.{Set}
 use Rattle.sk_opts.specs.declared.line.Line.{Line}
 use Rattle.sk_opts.specs.declared.line.Line.TheVariants as line
 use Rattle.sk_opts.specs.CommandLine.{IsLine}
+use Rattle.sk_model.specs.declared.outcome.Outcome.{Outcome}
+use Rattle.sk_front.specs.declared.fault.SketchFault.{SketchFault}
+use Rattle.sk_front.specs.declared.fault.SketchFault.TheVariants as fault
+use Rattle.sk_front.specs.Front.{IsFaultOfExpansion}
+use Rattle.sk_sizes.specs.declared.fault.SizeFault.{SizeFault}
+use Rattle.sk_sizes.specs.declared.fault.SizeFault.TheVariants as size
+use Rattle.sk_direct.specs.declared.fault.ExecFault.{ExecFault}
+use Rattle.sk_direct.specs.Direct.{IsNotRun, IsRunText}
 use Rattle.sk_app.specs.declared.ending.Ending.{Ending}
-use Rattle.sk_app.specs.declared.ending.Ending.TheVariants.{Completed, NoCompletion, HelpShown, VersionShown, ExecDone, ExecFailed, ExecSkipped, NotALine, NotRun, ReadFault, WriteFault, Memory, NotBuilt}
-use Rattle.sk_app.specs.Streams.{TakesFew}
+use Rattle.sk_app.specs.declared.ending.Ending.TheVariants.{Completed, NoCompletion, HelpShown, VersionShown, NotALine, NotText, NotTyped, TooLarge, NotRun, ReadFault, WriteFault, TooLong, Memory, NotBuilt, ExecDone, ExecFailed, ExecSkipped}
+use Rattle.sk_app.specs.Streams.{IsWhole, IsLong, TakesFew}
 use Rattle.sk_app.specs.ResultText.{IsCompletion, IsNone}
 use Rattle.sk_app.specs.Help.{help_text, version_text}
-use Rattle.sk_app.specs.Lines.{IsNoLine, ForSynth}
-use Rattle.sk_app.specs.Ends.{IsDelivered, Writes, WritesPart, writes_nothing, IsToldOf}
+use Rattle.sk_app.specs.Lines.{IsNoLine, ForSynth, ForExec}
+use Rattle.sk_app.specs.Ends.{IsDelivered, Writes, WritesPart, writes_nothing, IsToldOf, ending_of}
 
 -- what is left of the source before and after a call, what the sink holds, where they tell it, and the counts of
 -- their faults
@@ -53,7 +61,7 @@ is_of_synth VersionShown = false
 is_of_synth ExecDone = false
 is_of_synth (ExecFailed span) = false
 is_of_synth (ExecSkipped span) = false
-is_of_synth (NotRun fault) = false
+is_of_synth (NotRun reason) = false
 is_of_synth _ = true
 
 -- a text that a line `synth` writes
@@ -72,11 +80,53 @@ pub record Synthesises (set : Set) (result : Ending) (f : Effect) : Type 0 where
   pub kept : IsTrue (writes_nothing result) → f.held_new ≡ f.held_old
   pub few : TakesFew f.left_old f.left_new
 
+-- what is written of a run of this text that ends so
+pub record IsRunResult (set : Set) (name : List ℕ) (values : List (List ℕ)) (result : Ending) (text out : List ℕ) : Type 0 where
+  pub outcome : Outcome
+  pub run : IsRunText set name values text outcome out
+  pub ends : result ≡ ending_of outcome
+
+-- a text that a line `exec` writes
+pub record IsRunOutput (set : Set) (name : List ℕ) (values : List (List ℕ)) (text out : List ℕ) : Type 0 where
+  pub outcome : Outcome
+  pub run : IsRunText set name values text outcome out
+
+-- the ending of a text that has no expansion within the limits
+abbrev pub refusal : SketchFault → Ending
+refusal (fault.NotText told) = NotText told
+refusal (fault.NotTyped told) = NotTyped told
+refusal (fault.TooLarge reason) = TooLarge reason
+refusal fault.Memory = Memory
+
+-- whether this is a size of the expansion, and not of its runs
+abbrev pub is_of_expansion : SizeFault → Bool
+is_of_expansion size.Copies = true
+is_of_expansion size.Sites = true
+is_of_expansion _ = false
+
+-- what a line `exec` does for a text that is not too long
+pub data RunsText (set : Set) (name : List ℕ) (values : List (List ℕ)) (text : List ℕ) (result : Ending) (faults_old faults_new : ℕ) (old new : Option (List ℕ)) : Type 0 where
+  refused : (told : SketchFault) → IsFaultOfExpansion set text told → result ≡ refusal told → new ≡ old → RunsText set name values text result faults_old faults_new old new
+  not_run : (reason : ExecFault) → IsNotRun set name values text reason → result ≡ NotRun reason → new ≡ old → RunsText set name values text result faults_old faults_new old new
+  ran : (outcome : Outcome) (out : List ℕ) → IsRunText set name values text outcome out → IsDelivered result (ending_of outcome) out faults_old faults_new old new → RunsText set name values text result faults_old faults_new old new
+
+-- the source failed, or gives too many bytes, or memory was wanting, and nothing was written; or its text was taken
+pub data RunsSource (set : Set) (name : List ℕ) (values : List (List ℕ)) (result : Ending) (f : Effect) : Type 0 where
+  failed : result ≡ ReadFault → Rose f.read_faults_old f.read_faults_new → f.held_new ≡ f.held_old → RunsSource set name values result f
+  long : result ≡ TooLong → IsLong f.left_old → f.held_new ≡ f.held_old → RunsSource set name values result f
+  wanting : result ≡ Memory → f.held_new ≡ f.held_old → RunsSource set name values result f
+  whole : (text : List ℕ) → IsWhole text f.left_old → RunsText set name values text result f.write_faults_old f.write_faults_new f.held_old f.held_new → RunsSource set name values result f
+
+-- a call for a line `exec` with these options, this name and these values
+pub record Executes (set : Set) (name : List ℕ) (values : List (List ℕ)) (result : Ending) (f : Effect) : Type 0 where
+  pub runs : RunsSource set name values result f
+  pub few : TakesFew f.left_old f.left_new
+
 -- what a call does for a line
 abbrev pub Serves : Line → Ending → Effect → Type 0
 Serves (line.Synth set budget true) result f = IsRefused NotBuilt result f
 Serves (line.Synth set budget false) result f = Synthesises set result f
-Serves (line.Exec set name values) result f = IsRefused NotBuilt result f
+Serves (line.Exec set name values) result f = Executes set name values result f
 Serves (line.Check set) result f = IsRefused NotBuilt result f
 Serves (line.Itself n) result f = IsRefused NotBuilt result f
 Serves line.Help result f = IsShown help_text HelpShown result f
@@ -91,5 +141,6 @@ pub data Answers (words : List (List ℕ)) (result : Ending) (f : Effect) : Type
 -- a text that a line writes for this text of its source
 pub data IsOutput (words : List (List ℕ)) (text out : List ℕ) : Type 0 where
   result : ForSynth words (λ set. IsResult set text out) → IsOutput words text out
+  run : ForExec words (λ set name values. IsRunOutput set name values text out) → IsOutput words text out
   help : IsLine words line.Help → out ≡ help_text → IsOutput words text out
   version : IsLine words line.Version → out ≡ version_text → IsOutput words text out

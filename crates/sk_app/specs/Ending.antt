@@ -7,12 +7,12 @@ use Rattle.sk_check.specs.declared.fault.Rule.TheVariants as rule
 use Rattle.sk_check.specs.declared.fault.TypeFault.{TypeFault}
 use Rattle.sk_sizes.specs.declared.fault.SizeFault.{SizeFault}
 use Rattle.sk_sizes.specs.declared.fault.SizeFault.TheVariants as size
-use Rattle.sk_direct.specs.declared.fault.ExecFault.{ExecFault}
-use Rattle.sk_direct.specs.declared.fault.ExecFault.TheVariants as exec
 use Rattle.sk_texts.specs.Messages.{Refusal, refusal_status, refusal_message}
 use Rattle.sk_texts.specs.Messages as said
 use Rattle.sk_front.specs.declared.fault.TextFault.{TextFault}
 use Rattle.sk_front.specs.declared.fault.TextFault.TheVariants.{Lex, Parse}
+use Rattle.sk_direct.specs.declared.fault.ExecFault.{ExecFault}
+use Rattle.sk_direct.specs.declared.fault.ExecFault.TheVariants as exec
 use Rattle.sk_app.specs.declared.ending.Ending.{Ending}
 use Rattle.sk_app.specs.declared.ending.Ending.TheVariants.{Completed, NoCompletion, HelpShown, VersionShown, ExecDone, ExecFailed, ExecSkipped, NotALine, NotText, NotTyped, TooLarge, NotRun, ReadFault, WriteFault, TooLong, Memory, NotBuilt}
 
@@ -54,7 +54,7 @@ size_refusal size.Steps = said.TooLarge said.Steps
 size_refusal size.News = said.TooLarge said.News
 size_refusal size.Memory = said.Memory
 
--- the refusal for a reason for which no function is run
+-- the refusal of a line `exec` that runs no function
 abbrev pub exec_refusal : ExecFault → Refusal
 exec_refusal exec.NoFunction = said.NotRun said.NoFunction
 exec_refusal exec.Unfilled = said.NotRun said.Unfilled
@@ -74,7 +74,7 @@ status_of NotALine = 10
 status_of (NotText fault) = refusal_status (text_refusal fault)
 status_of (NotTyped fault) = refusal_status (type_refusal fault)
 status_of (TooLarge reason) = refusal_status (size_refusal reason)
-status_of (NotRun fault) = refusal_status (exec_refusal fault)
+status_of (NotRun reason) = refusal_status (exec_refusal reason)
 status_of ReadFault = 14
 status_of WriteFault = 15
 status_of TooLong = 16
@@ -93,7 +93,7 @@ message_of NotALine = codes "usage"
 message_of (NotText fault) = refusal_message (text_refusal fault)
 message_of (NotTyped fault) = refusal_message (type_refusal fault)
 message_of (TooLarge reason) = refusal_message (size_refusal reason)
-message_of (NotRun fault) = refusal_message (exec_refusal fault)
+message_of (NotRun reason) = refusal_message (exec_refusal reason)
 message_of ReadFault = codes "read fault"
 message_of WriteFault = codes "write fault"
 message_of TooLong = codes "too long"

@@ -1,12 +1,15 @@
 -- What the sink holds after an ending, and which endings there are for a text.
 use Rattle.std.specs.Prelude.{ℕ, ◌≡◌, ◌<◌, ◌≤◌, length, Bool, true, false, List, Option}
 use Rattle.sk_base.specs.Stream.{Rose}
+use Rattle.sk_model.specs.declared.outcome.Outcome.{Outcome}
+use Rattle.sk_model.specs.declared.outcome.Outcome.TheVariants as outcome
 use Rattle.sk_app.specs.declared.ending.Ending.{Ending}
-use Rattle.sk_app.specs.declared.ending.Ending.TheVariants.{Completed, NoCompletion, HelpShown, VersionShown, ExecDone, ExecFailed, ExecSkipped, NotALine, NotText, NotTyped, TooLarge, ReadFault, WriteFault, TooLong, Memory, NotBuilt}
+use Rattle.sk_app.specs.declared.ending.Ending.TheVariants.{Completed, NoCompletion, HelpShown, VersionShown, ExecDone, ExecFailed, ExecSkipped, NotALine, NotText, NotTyped, TooLarge, NotRun, ReadFault, WriteFault, TooLong, Memory, NotBuilt}
 use Rattle.sk_front.specs.declared.fault.TextFault.{TextFault}
 use Rattle.sk_front.specs.Texts.{most_bytes, IsTextFault, IsSameFault}
 use Rattle.sk_front.specs.Front.{IsUntyped, IsTooLarge}
 use Rattle.sk_opts.specs.declared.line.Set.{Set}
+use Rattle.sk_direct.specs.declared.fault.ExecFault.{ExecFault}
 use Rattle.sk_app.specs.Built.{IsTaken, IsNotBuilt}
 use Rattle.sk_sizes.specs.declared.fault.SizeFault.{SizeFault}
 use Rattle.sk_app.specs.Streams.{Appends, AppendsPrefix}
@@ -135,3 +138,23 @@ EndsVersion VersionShown sink_old sink_new = Unit {0}
 EndsVersion Memory sink_old sink_new = Unit {0}
 EndsVersion WriteFault sink_old sink_new = Rose sink_old sink_new
 EndsVersion _ sink_old sink_new = ⊥
+
+-- the ending of a line `exec` whose run ends so
+abbrev pub ending_of : Outcome → Ending
+ending_of (outcome.Done result refs cost) = ExecDone
+ending_of (outcome.Failed span) = ExecFailed span
+ending_of (outcome.Skipped span) = ExecSkipped span
+
+-- A run ends as its outcome says, unless the source or the sink failed or memory was wanting.
+abbrev pub EndsRun : Outcome → Ending → ℕ → ℕ → ℕ → ℕ → Type 0
+EndsRun outcome Memory source_old source_new sink_old sink_new = Unit {0}
+EndsRun outcome ReadFault source_old source_new sink_old sink_new = Rose source_old source_new
+EndsRun outcome WriteFault source_old source_new sink_old sink_new = Rose sink_old sink_new
+EndsRun outcome result source_old source_new sink_old sink_new = result ≡ ending_of outcome
+
+-- Where no function is run for this reason, it is told, unless the source failed or memory was wanting.
+abbrev pub EndsNotRun : ExecFault → Ending → ℕ → ℕ → Type 0
+EndsNotRun reason (NotRun told) source_old source_new = told ≡ reason
+EndsNotRun reason Memory source_old source_new = Unit {0}
+EndsNotRun reason ReadFault source_old source_new = Rose source_old source_new
+EndsNotRun reason _ source_old source_new = ⊥

@@ -1,5 +1,5 @@
 -- What the program does so far with the line that words spell.
-use Rattle.std.specs.Prelude.{ℕ, Bool, true, false, IsTrue, List}
+use Rattle.std.specs.Prelude.{ℕ, ◌⊎◌, Bool, true, false, IsTrue, List}
 use Rattle.sk_base.specs.declared.bounds.Budget.{Budget}
 use Rattle.sk_opts.specs.declared.line.Set.{Set}
 use Rattle.sk_opts.specs.declared.line.Line.{Line}
@@ -22,10 +22,32 @@ pub record ForSynth (words : List (List ℕ)) (Holds : Set → Type 0) : Type 0 
   pub is : IsSynth words set
   pub holds : Holds set
 
+-- The words are a line `exec` with these options, this name and these values.
+abbrev pub IsExec : List (List ℕ) → Set → List ℕ → List (List ℕ) → Type 0
+IsExec words set name values = IsLine words (line.Exec set name values)
+
+-- they are such a line, and this holds of it
+pub record ForExec (words : List (List ℕ)) (Holds : Set → List ℕ → List (List ℕ) → Type 0) : Type 0 where
+  pub set : Set
+  pub name : List ℕ
+  pub values : List (List ℕ)
+  pub is : IsExec words set name values
+  pub holds : Holds set name values
+
+-- The words are a line that takes a text, with these options: `synth` without a certificate, or `exec`.
+abbrev pub TakesText : List (List ℕ) → Set → Type 0
+TakesText words set = IsSynth words set ⊎ ((name : List ℕ) × (values : List (List ℕ)) × IsExec words set name values)
+
+-- they are such a line, and this holds of its options
+pub record ForText (words : List (List ℕ)) (Holds : Set → Type 0) : Type 0 where
+  pub set : Set
+  pub takes : TakesText words set
+  pub holds : Holds set
+
 -- whether the program does nothing for a line so far: its command is not there yet, or it asks for a certificate
 abbrev pub is_unbuilt : Line → Bool
 is_unbuilt (line.Synth set budget cert) = cert
-is_unbuilt (line.Exec set name values) = true
+is_unbuilt (line.Exec set name values) = false
 is_unbuilt (line.Check set) = true
 is_unbuilt (line.Itself n) = true
 is_unbuilt line.Help = false

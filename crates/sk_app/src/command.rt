@@ -16,33 +16,23 @@ ghost use Rattle.sk_front.specs.Front.{IsUntyped, IsTooLarge};
 ghost use Rattle.sk_front.specs.declared.fault.TextFault.{TextFault};
 ghost use Rattle.sk_check.specs.declared.fault.TypeFault.{TypeFault};
 ghost use Rattle.sk_sizes.specs.declared.fault.SizeFault.{SizeFault};
+ghost use Rattle.sk_base.specs.declared.span.Span.{Span};
+ghost use Rattle.sk_model.specs.declared.outcome.Outcome.{Outcome};
+ghost use Rattle.sk_direct.specs.declared.fault.ExecFault.{ExecFault};
+ghost use Rattle.sk_direct.specs.Direct.{IsNotRun, IsRunText};
 ghost use Rattle.sk_app.specs.Help.{help_text, version_text};
-ghost use Rattle.sk_app.specs.Lines.{IsNoLine, IsSynth, ForSynth, IsUnbuiltLine};
-ghost use Rattle.sk_app.specs.Ends.{IsDelivered, Writes, WritesPart, writes_nothing, IsToldOf, EndsBuilt, EndsFaulty, EndsUntyped, EndsLarge, EndsLong, EndsUnbuilt, EndsNoLine, EndsUnbuiltLine, EndsHelp, EndsVersion};
-ghost use Rattle.sk_app.specs.Effects.{is_of_synth, IsResult, IsShown, IsOutput, Serves, Answers};
+ghost use Rattle.sk_app.specs.Lines.{IsNoLine, IsSynth, ForSynth, IsExec, ForExec, TakesText, ForText, IsUnbuiltLine};
+ghost use Rattle.sk_app.specs.Ends.{IsDelivered, Writes, WritesPart, writes_nothing, IsToldOf, EndsBuilt, EndsFaulty, EndsUntyped, EndsLarge, EndsLong, EndsUnbuilt, EndsRun, EndsNotRun, EndsNoLine, EndsUnbuiltLine, EndsHelp, EndsVersion};
+ghost use Rattle.sk_app.specs.Effects.{is_of_synth, is_of_expansion, IsResult, IsRunResult, IsShown, IsOutput, Serves, Answers};
 
+use crate::direct::run_source;
 use crate::ending::Ending;
 use crate::help::{help, version};
-use crate::output::write_all;
+use crate::output::deliver;
 use crate::prepare::{Found, Prepared, prepare};
 use sk_base::{Sink, Source};
 use sk_opts::{Line, Set, Usage, options};
 use std::alloc::Global;
-
-/// Writes a result text, made whole before. It answers `done` where it was written, and takes no memory
-/// after the sink has made room for it.
-fn deliver<K: Sink>(sink: &mut K, out: &[u8], done: Ending) -> Ending
-    ensures { IsDelivered result done out.now (K.faults sink.old) (K.faults sink.new) (K.held sink.old) (K.held sink.new) }
-{
-    if sink.reserve(out.len()).is_err() {
-        return Ending::Memory;
-    }
-    if write_all(sink, out) {
-        done
-    } else {
-        Ending::WriteFault
-    }
-}
 
 /// Writes the help.
 fn show_help<K: Sink>(alloc: Global, sink: &mut K) -> Ending
@@ -109,7 +99,10 @@ fn serve<S: Source, K: Sink>(alloc: Global, line: &Line, source: &mut S, sink: &
             budget: _,
             cert: false,
         } => synth(alloc, set, source, sink),
-        Line::Exec { .. } | Line::Check { .. } | Line::Itself { .. } => Ending::NotBuilt,
+        Line::Exec { set, name, values } => {
+            run_source(alloc, set, name, values.as_slice(), source, sink)
+        }
+        Line::Check { .. } | Line::Itself { .. } => Ending::NotBuilt,
         Line::Help => show_help(alloc, sink),
         Line::Version => deliver(sink, version(), Ending::VersionShown),
     }
@@ -141,7 +134,8 @@ fn answer<S: Source, K: Sink>(
 }
 
 /// Runs a command: the words are those behind the program's own name. So far a line `synth` reads a sketch from the
-/// source, completes it, and writes the result to the sink; `--help` and `--version` write their texts; any other line
+/// source, completes it, and writes the result to the sink; a line `exec` runs a function of it, and writes what comes of
+/// that; `--help` and `--version` write their texts; any other line
 /// ends with `NotBuilt`.
 ///
 /// What is said of the text holds where the source tells what is left, and what is said of what the sink
@@ -163,12 +157,19 @@ pub fn run<S: Source, K: Sink>(
     ensures help { result ≡ Ending.HelpShown → IsLine (map string_bytes words.now) line.Help × Appends help_text (K.held sink.old) (K.held sink.new) }
     ensures version { result ≡ Ending.VersionShown → IsLine (map string_bytes words.now) line.Version × Appends version_text (K.held sink.old) (K.held sink.new) }
 
+    // The run of the function of the line ended so; what the sink got is the text of that.
+    ensures exec_done { result ≡ Ending.ExecDone → ForExec (map string_bytes words.now) (λ set name values. IfSome (S.left source.old) (λ text. Writes (IsRunResult set name values Ending.ExecDone text) (K.held sink.old) (K.held sink.new))) }
+    ensures exec_failed { (span : Span) → result ≡ Ending.ExecFailed span → ForExec (map string_bytes words.now) (λ set name values. IfSome (S.left source.old) (λ text. Writes (IsRunResult set name values (Ending.ExecFailed span) text) (K.held sink.old) (K.held sink.new))) }
+    ensures exec_skipped { (span : Span) → result ≡ Ending.ExecSkipped span → ForExec (map string_bytes words.now) (λ set name values. IfSome (S.left source.old) (λ text. Writes (IsRunResult set name values (Ending.ExecSkipped span) text) (K.held sink.old) (K.held sink.new))) }
+    // No function is run, for this reason.
+    ensures not_run { (reason : ExecFault) → result ≡ Ending.NotRun reason → ForExec (map string_bytes words.now) (λ set name values. IfSome (S.left source.old) (λ text. IsNotRun set name values text reason)) }
+
     // The text has this fault: its first as bytes, or what its tokens read as.
     ensures not_text { (fault : TextFault) → result ≡ Ending.NotText fault → IfSome (S.left source.old) (IsTextFault fault) }
     // The tree of the text means no program with the options of the line.
-    ensures not_typed { (fault : TypeFault) → result ≡ Ending.NotTyped fault → ForSynth (map string_bytes words.now) (λ set. IfSome (S.left source.old) (IsUntyped set)) }
+    ensures not_typed { (fault : TypeFault) → result ≡ Ending.NotTyped fault → ForText (map string_bytes words.now) (λ set. IfSome (S.left source.old) (IsUntyped set)) }
     // The expansion of its program passes this limit, and none before it.
-    ensures too_large { (reason : SizeFault) → result ≡ Ending.TooLarge reason → ForSynth (map string_bytes words.now) (λ set. IfSome (S.left source.old) (λ text. IsTooLarge set text reason)) }
+    ensures too_large { (reason : SizeFault) → result ≡ Ending.TooLarge reason → ForText (map string_bytes words.now) (λ set. IfSome (S.left source.old) (λ text. IsTooLarge set text reason)) }
     // The program does nothing for the line so far; or the text means a program within the limits, and is not taken.
     ensures not_built { result ≡ Ending.NotBuilt → IsUnbuiltLine (map string_bytes words.now) ⊎ ForSynth (map string_bytes words.now) (λ set. IfSome (S.left source.old) (IsNotBuilt set)) }
     ensures too_long { result ≡ Ending.TooLong → IfSome (S.left source.old) (λ text. most_bytes < length text) }
@@ -181,9 +182,9 @@ pub fn run<S: Source, K: Sink>(
     ensures prefix_version { IsLine (map string_bytes words.now) line.Version → result ≡ Ending.WriteFault → AppendsPrefix version_text (K.held sink.old) (K.held sink.new) }
     // After any other status from 10 on it holds what it held.
     ensures kept { IsTrue (writes_nothing result) → K.held sink.new ≡ K.held sink.old }
-    // At most one byte past the limit is read, and none but for a line `synth`.
+    // At most one byte past the limit is read, and none but for a line that takes a text.
     ensures few { TakesFew (S.left source.old) (S.left source.new) }
-    ensures unread { ((set : Set) → IsSynth (map string_bytes words.now) set → ⊥) → S.left source.new ≡ S.left source.old }
+    ensures unread { ((set : Set) → TakesText (map string_bytes words.now) set → ⊥) → S.left source.new ≡ S.left source.old }
 
     // The other direction of the causes: which endings there are for words, and for a text.
     ensures ends_no_line { IsNoLine (map string_bytes words.now) → EndsNoLine result }
@@ -191,11 +192,14 @@ pub fn run<S: Source, K: Sink>(
     ensures ends_help { IsLine (map string_bytes words.now) line.Help → EndsHelp result (K.faults sink.old) (K.faults sink.new) }
     ensures ends_version { IsLine (map string_bytes words.now) line.Version → EndsVersion result (K.faults sink.old) (K.faults sink.new) }
     ensures ends_built { (set : Set) → IsSynth (map string_bytes words.now) set → IfSome (S.left source.old) (λ text. (bounds : Bounds) (e : Expanded) → IsBuilt set text bounds e → EndsBuilt result (S.faults source.old) (S.faults source.new) (K.faults sink.old) (K.faults sink.new)) }
-    ensures ends_faulty { (set : Set) → IsSynth (map string_bytes words.now) set → IfSome (S.left source.old) (λ text. length text ≤ most_bytes → (fault : TextFault) → IsTextFault fault text → EndsFaulty fault result (S.faults source.old) (S.faults source.new)) }
-    ensures ends_untyped { (set : Set) → IsSynth (map string_bytes words.now) set → IfSome (S.left source.old) (λ text. length text ≤ most_bytes → IsUntyped set text → EndsUntyped result (S.faults source.old) (S.faults source.new)) }
+    ensures ends_faulty { (set : Set) → TakesText (map string_bytes words.now) set → IfSome (S.left source.old) (λ text. length text ≤ most_bytes → (fault : TextFault) → IsTextFault fault text → EndsFaulty fault result (S.faults source.old) (S.faults source.new)) }
+    ensures ends_untyped { (set : Set) → TakesText (map string_bytes words.now) set → IfSome (S.left source.old) (λ text. length text ≤ most_bytes → IsUntyped set text → EndsUntyped result (S.faults source.old) (S.faults source.new)) }
     ensures ends_large { (set : Set) → IsSynth (map string_bytes words.now) set → IfSome (S.left source.old) (λ text. (reason : SizeFault) → IsTooLarge set text reason → EndsLarge reason result (S.faults source.old) (S.faults source.new)) }
+    ensures ends_copies { (set : Set) → TakesText (map string_bytes words.now) set → IfSome (S.left source.old) (λ text. (reason : SizeFault) → IsTrue (is_of_expansion reason) → IsTooLarge set text reason → EndsLarge reason result (S.faults source.old) (S.faults source.new)) }
+    ensures ends_run { (set : Set) (name : List ℕ) (values : List (List ℕ)) → IsExec (map string_bytes words.now) set name values → IfSome (S.left source.old) (λ text. (outcome : Outcome) (out : List ℕ) → IsRunText set name values text outcome out → EndsRun outcome result (S.faults source.old) (S.faults source.new) (K.faults sink.old) (K.faults sink.new)) }
+    ensures ends_not_run { (set : Set) (name : List ℕ) (values : List (List ℕ)) → IsExec (map string_bytes words.now) set name values → IfSome (S.left source.old) (λ text. (reason : ExecFault) → IsNotRun set name values text reason → EndsNotRun reason result (S.faults source.old) (S.faults source.new)) }
     ensures ends_unbuilt { (set : Set) → IsSynth (map string_bytes words.now) set → IfSome (S.left source.old) (λ text. IsNotBuilt set text → EndsUnbuilt result (S.faults source.old) (S.faults source.new)) }
-    ensures ends_long { (set : Set) → IsSynth (map string_bytes words.now) set → IfSome (S.left source.old) (λ text. most_bytes < length text → EndsLong result (S.faults source.old) (S.faults source.new)) }
+    ensures ends_long { (set : Set) → TakesText (map string_bytes words.now) set → IfSome (S.left source.old) (λ text. most_bytes < length text → EndsLong result (S.faults source.old) (S.faults source.new)) }
 {
     let ending = answer(alloc, words, source, sink);
     ending

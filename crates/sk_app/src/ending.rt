@@ -26,11 +26,11 @@ pub enum Ending {
     HelpShown,
     /// The sink got the version.
     VersionShown,
-    /// The function was run to its end. The sink got what it gives.
+    /// The run of a function is done. The sink got its text, as it did of the next two.
     ExecDone,
-    /// The run of the function failed at these bytes. The sink got a line that says so.
+    /// The run failed at the statement with this span.
     ExecFailed { span: Span },
-    /// The run was skipped there. The sink got a line that says so.
+    /// The run was skipped at the statement with this span.
     ExecSkipped { span: Span },
     /// The words are no command line.
     NotALine,
@@ -61,18 +61,18 @@ pub fn status(ending: &Ending) -> u8
 {
     match ending {
         Ending::Completed | Ending::HelpShown | Ending::VersionShown | Ending::ExecDone => 0,
-        Ending::NoCompletion => 1,
         Ending::ExecFailed { span: _ } => 4,
         Ending::ExecSkipped { span: _ } => 5,
+        Ending::NoCompletion => 1,
         Ending::NotALine => 10,
         Ending::NotText(fault) => text_status(fault),
         Ending::NotTyped(_) => 12,
         Ending::TooLarge(reason) => size_status(*reason),
-        Ending::NotRun(_) => 18,
         Ending::ReadFault => 14,
         Ending::WriteFault => 15,
         Ending::TooLong => 16,
         Ending::Memory => 17,
+        Ending::NotRun(_) => 18,
         Ending::NotBuilt => 20,
     }
 }
@@ -92,12 +92,24 @@ pub fn message(alloc: Global, ending: &Ending) -> Result<Name, AllocError>
         Ending::NotText(fault) => text_message(alloc, fault),
         Ending::NotTyped(fault) => type_message(alloc, fault),
         Ending::TooLarge(reason) => size_message(alloc, *reason),
-        Ending::NotRun(fault) => exec_message(alloc, fault),
+        Ending::NotRun(reason) => exec_message(alloc, *reason),
         Ending::ReadFault => said(alloc, b"read fault"),
         Ending::WriteFault => said(alloc, b"write fault"),
         Ending::TooLong => said(alloc, b"too long"),
         Ending::Memory => said(alloc, b"no memory"),
         Ending::NotBuilt => said(alloc, b"not built"),
+    }
+}
+
+fn exec_message(alloc: Global, reason: ExecFault) -> Result<Name, AllocError>
+    ensures { IfOk result (λ name. name ≡ refusal_message (exec_refusal reason)) }
+{
+    match reason {
+        ExecFault::NoFunction => said(alloc, b"exec NoFunction"),
+        ExecFault::Unfilled => said(alloc, b"exec Unfilled"),
+        ExecFault::References => said(alloc, b"exec References"),
+        ExecFault::Count => said(alloc, b"exec Count"),
+        ExecFault::Value { index: _ } => said(alloc, b"exec Value"),
     }
 }
 
@@ -210,27 +222,6 @@ fn said(alloc: Global, words: &[u8]) -> Result<Name, AllocError>
 {
     let name = Name::from_slice(alloc, words)?;
     Ok(name)
-}
-
-fn exec_message(alloc: Global, fault: &ExecFault) -> Result<Name, AllocError>
-    ensures { IfOk result (λ name. name ≡ refusal_message (exec_refusal fault.now)) }
-{
-    match fault {
-        ExecFault::NoFunction => unrun(alloc, b"NoFunction"),
-        ExecFault::Unfilled => unrun(alloc, b"Unfilled"),
-        ExecFault::References => unrun(alloc, b"References"),
-        ExecFault::Count => unrun(alloc, b"Count"),
-        ExecFault::Value { index: _ } => unrun(alloc, b"Value"),
-    }
-}
-
-// The name of a reason for which no function is run.
-fn unrun(alloc: Global, name: &[u8]) -> Result<Name, AllocError>
-    ensures { IfOk result (λ text. text ≡ codes "exec " ++ name.now) }
-{
-    let mut out = Vec::from_slice(alloc, b"exec ")?;
-    out.extend_from_slice(name)?;
-    Ok(Name::from_vec(out))
 }
 
 // The name of a size that is passed, and its limit.

@@ -11,9 +11,10 @@ fn usage() -> &'static [u8]
 {
     b"Completes sketches: programs with open parts, and harnesses that say what must hold.
 
-sketch synth [OPTION].. < SKETCH    writes the sketch completed, or the line //@ none
-sketch --help                       writes this help
-sketch --version                    writes the version
+sketch synth [OPTION].. < SKETCH               writes the sketch completed, or the line //@ none
+sketch exec [OPTION].. NAME VALUE.. < PROGRAM  writes what the function NAME gives for the values
+sketch --help                                  writes this help
+sketch --version                               writes the version
 
 An option is --name N or --name=N, and stands once.
 
@@ -34,8 +35,10 @@ fn statuses() -> &'static [u8]
     b"
 It ends with one of these, and from 10 on says more on standard error.
 
-   0  completed
+   0  completed, or the run is done
    1  no completion meets the harness on every input
+   4  the run failed
+   5  the run was skipped
   10  the words are no command line
   11  the text has no tokens, or reads as no program
   12  the text breaks a rule of types
@@ -44,7 +47,8 @@ It ends with one of these, and from 10 on says more on standard error.
   15  standard output failed
   16  the text has more than 1048576 bytes
   17  memory was wanting
-  20  not there yet: exec, check, self, --cert, and programs beyond one harness
+  18  the function cannot be run
+  20  not there yet: check, self, --cert, and sketches beyond one harness
       of int parameters, declarations, assignments and equations
 "
 }

@@ -3,6 +3,7 @@
 
 mod command;
 mod complete;
+mod direct;
 mod early;
 mod ending;
 mod filling;
@@ -17,5 +18,6 @@ mod text;
 
 pub use command::run;
 pub use ending::{Ending, message, status};
+pub use sk_direct::ExecFault;
 pub use sk_front::TextFault;
 pub use std_streams::{StdSink, StdSource};

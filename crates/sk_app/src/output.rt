@@ -3,7 +3,9 @@
 ghost use Rattle.std.specs.Prelude.{◌≡◌, ◌≤◌, ◌+◌, ◌++◌, length, take, true, false};
 ghost use Rattle.sk_base.specs.Stream.{Rose};
 ghost use Rattle.sk_app.specs.Streams.{Appends, AppendsPrefix};
+ghost use Rattle.sk_app.specs.Ends.{IsDelivered};
 
+use crate::ending::Ending;
 use sk_base::{Put, Sink};
 
 /// The bytes after so many.
@@ -32,4 +34,19 @@ pub fn write_all<K: Sink>(sink: &mut K, bytes: &[u8]) -> bool
         }
     }
     true
+}
+
+/// Writes a result text, made whole before. It answers `done` where it was written, and takes no memory
+/// after the sink has made room for it.
+pub fn deliver<K: Sink>(sink: &mut K, out: &[u8], done: Ending) -> Ending
+    ensures { IsDelivered result done out.now (K.faults sink.old) (K.faults sink.new) (K.held sink.old) (K.held sink.new) }
+{
+    if sink.reserve(out.len()).is_err() {
+        return Ending::Memory;
+    }
+    if write_all(sink, out) {
+        done
+    } else {
+        Ending::WriteFault
+    }
 }

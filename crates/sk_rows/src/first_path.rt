@@ -168,7 +168,7 @@ fn tells_which_size_is_passed(rt: HostRuntime) -> Result<(), Fail> {
 #[test]
 fn refuses_other_lines(rt: HostRuntime) -> Result<(), Fail> {
     let alloc = rt.alloc();
-    let rows: [(&[&str], Ending); 12] = [
+    let rows: [(&[&str], Ending); 11] = [
         (&[], Ending::NotALine),
         (&["exec"], Ending::NotALine),
         (&["syn"], Ending::NotALine),
@@ -177,7 +177,6 @@ fn refuses_other_lines(rt: HostRuntime) -> Result<(), Fail> {
         (&["synth", "--rounds=1", "--rounds=1"], Ending::NotALine),
         (&["--help", "synth"], Ending::NotALine),
         (&["self", "61"], Ending::NotALine),
-        (&["exec", "f", "1"], Ending::NotBuilt),
         (&["synth", "--cert"], Ending::NotBuilt),
         (&["check"], Ending::NotBuilt),
         (&["self", "7"], Ending::NotBuilt),

@@ -2,6 +2,8 @@
 #![tactic(auto)]
 
 #[cfg(test)]
+mod direct_runs;
+#[cfg(test)]
 mod first_path;
 #[cfg(test)]
 mod text_faults;

@@ -84,3 +84,24 @@ returns-clause-ends_unbuilt g c = laws.ends_unbuilt c.answer-ending.ensures
 
 pub returns-clause-ends_long : goal.returns-clause-ends_long
 returns-clause-ends_long g c = laws.ends_long c.answer-ending.ensures
+
+pub returns-clause-exec_done : goal.returns-clause-exec_done
+returns-clause-exec_done g c = laws.exec_done c.answer-ending.ensures
+
+pub returns-clause-exec_failed : goal.returns-clause-exec_failed
+returns-clause-exec_failed g c = laws.exec_failed c.answer-ending.ensures
+
+pub returns-clause-exec_skipped : goal.returns-clause-exec_skipped
+returns-clause-exec_skipped g c = laws.exec_skipped c.answer-ending.ensures
+
+pub returns-clause-not_run : goal.returns-clause-not_run
+returns-clause-not_run g c = laws.not_run c.answer-ending.ensures
+
+pub returns-clause-ends_copies : goal.returns-clause-ends_copies
+returns-clause-ends_copies g c = laws.ends_copies c.answer-ending.ensures
+
+pub returns-clause-ends_run : goal.returns-clause-ends_run
+returns-clause-ends_run g c = laws.ends_run c.answer-ending.ensures
+
+pub returns-clause-ends_not_run : goal.returns-clause-ends_not_run
+returns-clause-ends_not_run g c = laws.ends_not_run c.answer-ending.ensures

@@ -1,0 +1,435 @@
+-- What follows for a line `exec` from what it does for its source.
+use Rattle.std.proofs.Common.{◌≡◌, ℕ, ◌≤◌, ◌<◌, ◌⊎◌, inl, inr, Bool, true, false, List, Option, Some, None, length, refl, sym, ap, subst, ◌∙◌, arith}
+use Rattle.std.specs.Prelude.{IsTrue, IfSome}
+use Rattle.std.proofs.lemmas.Bool.{false≢true}
+use Rattle.sk_base.specs.Stream.{Rose}
+use Rattle.sk_sizes.specs.declared.fault.SizeFault.{SizeFault}
+use Rattle.sk_sizes.specs.declared.fault.SizeFault.TheVariants as size
+use Rattle.sk_check.specs.declared.fault.TypeFault.{TypeFault}
+use Rattle.sk_model.specs.declared.outcome.Outcome.{Outcome}
+use Rattle.sk_model.specs.declared.outcome.Outcome.TheVariants as outcome
+use Rattle.sk_opts.specs.declared.line.Set.{Set}
+use Rattle.sk_front.specs.declared.fault.TextFault.{TextFault}
+use Rattle.sk_front.specs.declared.fault.SketchFault.{SketchFault}
+use Rattle.sk_front.specs.declared.fault.SketchFault.TheVariants as fault
+use Rattle.sk_front.specs.Texts.{most_bytes, IsTextFault}
+use Rattle.sk_front.specs.Front.{IsUntyped, IsTooLarge, IsFaultOfExpansion, IsFaultOfSizes, IsCause, IsSame}
+use Rattle.sk_front.proofs.FrontLaws.{one_cause}
+use Rattle.sk_direct.specs.declared.fault.ExecFault.{ExecFault}
+use Rattle.sk_direct.specs.Direct.{IsNotRun, IsRunText}
+use Rattle.sk_direct.proofs.TextLaws.{one_fault_of_text, no_fault_of_text_run, one_text_run, no_cause_of_run, no_cause_of_fault}
+use Rattle.sk_app.specs.declared.ending.Ending.{Ending}
+use Rattle.sk_app.specs.declared.ending.Ending.TheVariants as ending
+use Rattle.sk_app.specs.Streams.{IsWhole, IsLong}
+use Rattle.sk_app.specs.Ends.{delivered, cut, no_room, Writes, WritesPart, writes_nothing, ending_of, EndsRun, EndsNotRun, EndsFaulty, EndsUntyped, EndsLarge, EndsLong}
+use Rattle.sk_app.specs.Effects.{Effect, refusal, is_of_expansion, RunsText, refused, not_run, ran, RunsSource, failed, long, wanting, whole, IsRunResult, IsRunOutput}
+
+-- Kinds of endings
+
+-- a text that is refused ends so, or in want of memory
+abbrev pub is_fault : Ending → Bool
+is_fault (ending.NotText told) = true
+is_fault (ending.NotTyped told) = true
+is_fault (ending.TooLarge reason) = true
+is_fault _ = false
+
+-- a run that is written ends so
+abbrev pub is_run : Ending → Bool
+is_run ending.ExecDone = true
+is_run (ending.ExecFailed span) = true
+is_run (ending.ExecSkipped span) = true
+is_run _ = false
+
+-- the endings of a line `exec`
+abbrev pub is_of_exec : Ending → Bool
+is_of_exec ending.Completed = false
+is_of_exec ending.NoCompletion = false
+is_of_exec ending.NotALine = false
+is_of_exec ending.HelpShown = false
+is_of_exec ending.VersionShown = false
+is_of_exec ending.NotBuilt = false
+is_of_exec _ = true
+
+run_is : (o : Outcome) → is_run (ending_of o) ≡ true
+run_is (outcome.Done result refs cost) = refl
+run_is (outcome.Failed span) = refl
+run_is (outcome.Skipped span) = refl
+
+run_is_no_fault : (o : Outcome) → is_fault (ending_of o) ≡ false
+run_is_no_fault (outcome.Done result refs cost) = refl
+run_is_no_fault (outcome.Failed span) = refl
+run_is_no_fault (outcome.Skipped span) = refl
+
+run_is_of_exec : (o : Outcome) → is_of_exec (ending_of o) ≡ true
+run_is_of_exec (outcome.Done result refs cost) = refl
+run_is_of_exec (outcome.Failed span) = refl
+run_is_of_exec (outcome.Skipped span) = refl
+
+run_writes : (o : Outcome) → writes_nothing (ending_of o) ≡ false
+run_writes (outcome.Done result refs cost) = refl
+run_writes (outcome.Failed span) = refl
+run_writes (outcome.Skipped span) = refl
+
+refusal_is_of_exec : (t : SketchFault) → is_of_exec (refusal t) ≡ true
+refusal_is_of_exec (fault.NotText a) = refl
+refusal_is_of_exec (fault.NotTyped a) = refl
+refusal_is_of_exec (fault.TooLarge a) = refl
+refusal_is_of_exec fault.Memory = refl
+
+refusal_is_no_run : (t : SketchFault) → is_run (refusal t) ≡ false
+refusal_is_no_run (fault.NotText a) = refl
+refusal_is_no_run (fault.NotTyped a) = refl
+refusal_is_no_run (fault.TooLarge a) = refl
+refusal_is_no_run fault.Memory = refl
+
+-- two endings differ where a test does
+differ : {A : Type 0} (test : Ending → Bool) (x y : Ending) → test x ≡ false → test y ≡ true → x ≡ y → A
+differ test x y a b e = absurd (false≢true (sym a ∙ ap test e ∙ b))
+
+every : (left : Option (List ℕ)) (P : List ℕ → Type 0) → ((text : List ℕ) → P text) → IfSome left P
+every None P h = tt
+every (Some text) P h = h text
+
+mapped : (left : Option (List ℕ)) (P Q : List ℕ → Type 0) → ((text : List ℕ) → P text → Q text) → IfSome left P → IfSome left Q
+mapped None P Q h k = tt
+mapped (Some text) P Q h k = h text k
+
+too_long : {A : Type 0} (text : List ℕ) → length text ≤ most_bytes → most_bytes < length text → A
+too_long text short over = absurd (omega (arith, short, over))
+
+module _ (set : Set) (name : List ℕ) (values : List (List ℕ)) (r : Ending) (f : Effect) where
+  abbrev pub Runs : List ℕ → Type 0
+  Runs text = RunsText set name values text r f.write_faults_old f.write_faults_new f.held_old f.held_new
+
+  -- Whatever the text is
+
+  of_text : (text : List ℕ) → Runs text → is_of_exec r ≡ true
+  of_text text (refused t i e same) = ap is_of_exec e ∙ refusal_is_of_exec t
+  of_text text (not_run reason i e same) = ap is_of_exec e
+  of_text text (ran o out i w) = elim w [ delivered is y ↦ ap is_of_exec is ∙ run_is_of_exec o | cut is y ↦ ap is_of_exec is | no_room is same ↦ ap is_of_exec is ]
+
+  of_exec_line : RunsSource set name values r f → is_of_exec r ≡ true
+  of_exec_line (failed e rose same) = ap is_of_exec e
+  of_exec_line (long e l same) = ap is_of_exec e
+  of_exec_line (wanting e same) = ap is_of_exec e
+  of_exec_line (whole text w x) = of_text text x
+
+  pub exec_not : {A : Type 0} (x : Ending) → is_of_exec x ≡ false → RunsSource set name values r f → r ≡ x → A
+  exec_not x b s e = differ is_of_exec x r b (of_exec_line s) (sym e)
+
+  kept_text : (text : List ℕ) → Runs text → IsTrue (writes_nothing r) → f.held_new ≡ f.held_old
+  kept_text text (refused t i e same) k = same
+  kept_text text (not_run reason i e same) k = same
+  kept_text text (ran o out i w) k = elim w [
+    | delivered is y ↦ absurd (false≢true (sym (run_writes o) ∙ ap writes_nothing (sym is) ∙ k))
+    | cut is y ↦ absurd (false≢true (ap writes_nothing (sym is) ∙ k))
+    | no_room is same ↦ same
+  ]
+
+  pub kept_by : RunsSource set name values r f → IsTrue (writes_nothing r) → f.held_new ≡ f.held_old
+  kept_by (failed e rose same) k = same
+  kept_by (long e l same) k = same
+  kept_by (wanting e same) k = same
+  kept_by (whole text w x) k = kept_text text x k
+
+  refusal_no_read_fault : {A : Type 0} (t : SketchFault) → refusal t ≡ ending.ReadFault → A
+  refusal_no_read_fault (fault.NotText a) e = cc
+  refusal_no_read_fault (fault.NotTyped a) e = cc
+  refusal_no_read_fault (fault.TooLarge a) e = cc
+  refusal_no_read_fault fault.Memory e = cc
+
+  refusal_no_write_fault : {A : Type 0} (t : SketchFault) → refusal t ≡ ending.WriteFault → A
+  refusal_no_write_fault (fault.NotText a) e = cc
+  refusal_no_write_fault (fault.NotTyped a) e = cc
+  refusal_no_write_fault (fault.TooLarge a) e = cc
+  refusal_no_write_fault fault.Memory e = cc
+
+  refusal_not_too_long : {A : Type 0} (t : SketchFault) → refusal t ≡ ending.TooLong → A
+  refusal_not_too_long (fault.NotText a) e = cc
+  refusal_not_too_long (fault.NotTyped a) e = cc
+  refusal_not_too_long (fault.TooLarge a) e = cc
+  refusal_not_too_long fault.Memory e = cc
+
+  run_not : {A : Type 0} (o : Outcome) (x : Ending) → is_run x ≡ false → ending_of o ≡ x → A
+  run_not o x b e = differ is_run x (ending_of o) b (run_is o) (sym e)
+
+  read_fault_text : (text : List ℕ) → Runs text → r ≡ ending.ReadFault → Rose f.read_faults_old f.read_faults_new
+  read_fault_text text (refused t i e same) q = refusal_no_read_fault t (sym e ∙ q)
+  read_fault_text text (not_run reason i e same) q = let z = sym e ∙ q in cc
+  read_fault_text text (ran o out i w) q = elim w [
+    | delivered is y ↦ run_not o ending.ReadFault refl (sym is ∙ q)
+    | cut is y ↦ let z = sym is ∙ q in cc
+    | no_room is same ↦ let z = sym is ∙ q in cc
+  ]
+
+  pub read_fault_by : RunsSource set name values r f → r ≡ ending.ReadFault → Rose f.read_faults_old f.read_faults_new
+  read_fault_by (failed e rose same) q = rose
+  read_fault_by (long e l same) q = let z = sym e ∙ q in cc
+  read_fault_by (wanting e same) q = let z = sym e ∙ q in cc
+  read_fault_by (whole text w x) q = read_fault_text text x q
+
+  write_fault_text : (text : List ℕ) → Runs text → r ≡ ending.WriteFault → Rose f.write_faults_old f.write_faults_new
+  write_fault_text text (refused t i e same) q = refusal_no_write_fault t (sym e ∙ q)
+  write_fault_text text (not_run reason i e same) q = let z = sym e ∙ q in cc
+  write_fault_text text (ran o out i w) q = elim w [
+    | delivered is y ↦ run_not o ending.WriteFault refl (sym is ∙ q)
+    | cut is y ↦ y.rose
+    | no_room is same ↦ let z = sym is ∙ q in cc
+  ]
+
+  pub write_fault_by : RunsSource set name values r f → r ≡ ending.WriteFault → Rose f.write_faults_old f.write_faults_new
+  write_fault_by (failed e rose same) q = let z = sym e ∙ q in cc
+  write_fault_by (long e l same) q = let z = sym e ∙ q in cc
+  write_fault_by (wanting e same) q = let z = sym e ∙ q in cc
+  write_fault_by (whole text w x) q = write_fault_text text x q
+
+  -- Of the text that the source had left
+
+  pub data Came (text : List ℕ) : Type 0 where
+    came_failed : r ≡ ending.ReadFault → Rose f.read_faults_old f.read_faults_new → Came text
+    came_long : r ≡ ending.TooLong → most_bytes < length text → Came text
+    came_wanting : r ≡ ending.Memory → Came text
+    came_whole : length text ≤ most_bytes → Runs text → Came text
+
+  came : RunsSource set name values r f → IfSome f.left_old Came
+  came (failed e rose same) = every f.left_old Came (λ text. came_failed e rose)
+  came (long e l same) = mapped f.left_old (λ text. most_bytes < length text) Came (λ text h. came_long e h) l
+  came (wanting e same) = every f.left_old Came (λ text. came_wanting e)
+  came (whole text w x) = mapped f.left_old (λ left. left ≡ text) Came (λ left h. subst Came (sym h) (came_whole w.short x)) w.whole
+
+  pub told_by : (P : List ℕ → Type 0) → ((text : List ℕ) → Came text → P text) → RunsSource set name values r f → IfSome f.left_old P
+  told_by P k s = mapped f.left_old Came P k (came s)
+
+  -- Clauses that follow from the ending
+
+  fault_of : (text : List ℕ) (x : Ending) → is_fault x ≡ true → Runs text → r ≡ x → (t : SketchFault) × IsFaultOfExpansion set text t × (refusal t ≡ x)
+  fault_of text x b (refused t i e same) q = (t, i, sym e ∙ q)
+  fault_of text x b (not_run reason i e same) q = differ is_fault (ending.NotRun reason) x refl b (sym e ∙ q)
+  fault_of text x b (ran o out i w) q = elim w [
+    | delivered is y ↦ differ is_fault (ending_of o) x (run_is_no_fault o) b (sym is ∙ q)
+    | cut is y ↦ differ is_fault ending.WriteFault x refl b (sym is ∙ q)
+    | no_room is same ↦ differ is_fault ending.Memory x refl b (sym is ∙ q)
+  ]
+
+  fault_by : (text : List ℕ) (x : Ending) → is_fault x ≡ true → Came text → r ≡ x → (t : SketchFault) × IsFaultOfExpansion set text t × (refusal t ≡ x)
+  fault_by text x b (came_failed e rose) q = differ is_fault ending.ReadFault x refl b (sym e ∙ q)
+  fault_by text x b (came_long e l) q = differ is_fault ending.TooLong x refl b (sym e ∙ q)
+  fault_by text x b (came_wanting e) q = differ is_fault ending.Memory x refl b (sym e ∙ q)
+  fault_by text x b (came_whole short w) q = fault_of text x b w q
+
+  as_text : (text : List ℕ) (told : TextFault) (t : SketchFault) → IsFaultOfExpansion set text t → refusal t ≡ ending.NotText told → IsTextFault told text
+  as_text text told (fault.NotText a) i e = let same : a ≡ told = cc in subst (λ z. IsTextFault z text) same i
+  as_text text told (fault.NotTyped a) i e = cc
+  as_text text told (fault.TooLarge a) i e = cc
+  as_text text told fault.Memory i e = cc
+
+  as_typed : (text : List ℕ) (told : TypeFault) (t : SketchFault) → IsFaultOfExpansion set text t → refusal t ≡ ending.NotTyped told → IsUntyped set text
+  as_typed text told (fault.NotText a) i e = cc
+  as_typed text told (fault.NotTyped a) i e = i
+  as_typed text told (fault.TooLarge a) i e = cc
+  as_typed text told fault.Memory i e = cc
+
+  as_large : (text : List ℕ) (reason : SizeFault) (t : SketchFault) → IsFaultOfExpansion set text t → refusal t ≡ ending.TooLarge reason → IsTooLarge set text reason
+  as_large text reason (fault.NotText a) i e = cc
+  as_large text reason (fault.NotTyped a) i e = cc
+  as_large text reason (fault.TooLarge size.Copies) i e = let same : size.Copies ≡ reason = cc in subst (IsTooLarge set text) same i
+  as_large text reason (fault.TooLarge size.Sites) i e = let same : size.Sites ≡ reason = cc in subst (IsTooLarge set text) same i
+  as_large text reason (fault.TooLarge size.Steps) i e = absurd i
+  as_large text reason (fault.TooLarge size.News) i e = absurd i
+  as_large text reason (fault.TooLarge size.Memory) i e = absurd i
+  as_large text reason fault.Memory i e = cc
+
+  pub not_text_by : (told : TextFault) → r ≡ ending.NotText told → (text : List ℕ) → Came text → IsTextFault told text
+  not_text_by told q text w = let x = fault_by text (ending.NotText told) refl w q in as_text text told x.0 x.1 x.2
+
+  pub not_typed_by : (told : TypeFault) → r ≡ ending.NotTyped told → (text : List ℕ) → Came text → IsUntyped set text
+  not_typed_by told q text w = let x = fault_by text (ending.NotTyped told) refl w q in as_typed text told x.0 x.1 x.2
+
+  pub too_large_by : (reason : SizeFault) → r ≡ ending.TooLarge reason → (text : List ℕ) → Came text → IsTooLarge set text reason
+  too_large_by reason q text w = let x = fault_by text (ending.TooLarge reason) refl w q in as_large text reason x.0 x.1 x.2
+
+  too_long_text : {A : Type 0} (text : List ℕ) → Runs text → r ≡ ending.TooLong → A
+  too_long_text text (refused t i e same) q = refusal_not_too_long t (sym e ∙ q)
+  too_long_text text (not_run reason i e same) q = let z = sym e ∙ q in cc
+  too_long_text text (ran o out i w) q = elim w [
+    | delivered is y ↦ run_not o ending.TooLong refl (sym is ∙ q)
+    | cut is y ↦ let z = sym is ∙ q in cc
+    | no_room is same ↦ let z = sym is ∙ q in cc
+  ]
+
+  pub too_long_by : r ≡ ending.TooLong → (text : List ℕ) → Came text → most_bytes < length text
+  too_long_by q text (came_failed e rose) = let z = sym e ∙ q in cc
+  too_long_by q text (came_long e l) = l
+  too_long_by q text (came_wanting e) = let z = sym e ∙ q in cc
+  too_long_by q text (came_whole short w) = too_long_text text w q
+
+  abbrev pub Written : Ending → List ℕ → Type 0
+  Written x text = Writes (IsRunResult set name values x text) f.held_old f.held_new
+
+  run_of_text : (text : List ℕ) (x : Ending) → is_run x ≡ true → Runs text → r ≡ x → Written x text
+  run_of_text text x b (refused t i e same) q = differ is_run (refusal t) x (refusal_is_no_run t) b (sym e ∙ q)
+  run_of_text text x b (not_run reason i e same) q = differ is_run (ending.NotRun reason) x refl b (sym e ∙ q)
+  run_of_text text x b (ran o out i w) q = elim w [
+    | delivered is y ↦ record { out = out; is = record { outcome = o; run = i; ends = sym q ∙ is }; appends = y.appends }
+    | cut is y ↦ differ is_run ending.WriteFault x refl b (sym is ∙ q)
+    | no_room is same ↦ differ is_run ending.Memory x refl b (sym is ∙ q)
+  ]
+
+  pub run_by : (x : Ending) → is_run x ≡ true → r ≡ x → (text : List ℕ) → Came text → Written x text
+  run_by x b q text (came_failed e rose) = differ is_run ending.ReadFault x refl b (sym e ∙ q)
+  run_by x b q text (came_long e l) = differ is_run ending.TooLong x refl b (sym e ∙ q)
+  run_by x b q text (came_wanting e) = differ is_run ending.Memory x refl b (sym e ∙ q)
+  run_by x b q text (came_whole short w) = run_of_text text x b w q
+
+  refusal_not_run : {A : Type 0} (t : SketchFault) (reason : ExecFault) → refusal t ≡ ending.NotRun reason → A
+  refusal_not_run (fault.NotText a) reason e = cc
+  refusal_not_run (fault.NotTyped a) reason e = cc
+  refusal_not_run (fault.TooLarge a) reason e = cc
+  refusal_not_run fault.Memory reason e = cc
+
+  not_run_text : (reason : ExecFault) (text : List ℕ) → Runs text → r ≡ ending.NotRun reason → IsNotRun set name values text reason
+  not_run_text reason text (refused t i e same) q = refusal_not_run t reason (sym e ∙ q)
+  not_run_text reason text (not_run told i e same) q = let z = sym e ∙ q in let same : told ≡ reason = cc in subst (IsNotRun set name values text) same i
+  not_run_text reason text (ran o out i w) q = elim w [
+    | delivered is y ↦ run_not o (ending.NotRun reason) refl (sym is ∙ q)
+    | cut is y ↦ let z = sym is ∙ q in cc
+    | no_room is same ↦ let z = sym is ∙ q in cc
+  ]
+
+  pub not_run_by : (reason : ExecFault) → r ≡ ending.NotRun reason → (text : List ℕ) → Came text → IsNotRun set name values text reason
+  not_run_by reason q text (came_failed e rose) = let z = sym e ∙ q in cc
+  not_run_by reason q text (came_long e l) = let z = sym e ∙ q in cc
+  not_run_by reason q text (came_wanting e) = let z = sym e ∙ q in cc
+  not_run_by reason q text (came_whole short w) = not_run_text reason text w q
+
+  abbrev pub Part : List ℕ → Type 0
+  Part text = WritesPart (IsRunOutput set name values text) f.held_old f.held_new
+
+  prefix_text : (text : List ℕ) → Runs text → r ≡ ending.WriteFault → Part text
+  prefix_text text (refused t i e same) q = refusal_no_write_fault t (sym e ∙ q)
+  prefix_text text (not_run reason i e same) q = let z = sym e ∙ q in cc
+  prefix_text text (ran o out i w) q = elim w [
+    | delivered is y ↦ run_not o ending.WriteFault refl (sym is ∙ q)
+    | cut is y ↦ record { out = out; is = record { outcome = o; run = i }; appends = y.appends }
+    | no_room is same ↦ let z = sym is ∙ q in cc
+  ]
+
+  pub prefix_by : r ≡ ending.WriteFault → (text : List ℕ) → Came text → Part text
+  prefix_by q text (came_failed e rose) = let z = sym e ∙ q in cc
+  prefix_by q text (came_long e l) = let z = sym e ∙ q in cc
+  prefix_by q text (came_wanting e) = let z = sym e ∙ q in cc
+  prefix_by q text (came_whole short w) = prefix_text text w q
+
+  -- Clauses that follow from the text
+
+  of_sizes : (text : List ℕ) (t : SketchFault) → IsCause (IsFaultOfExpansion set text) t → IsCause (IsFaultOfSizes set text) t
+  of_sizes text (fault.NotText a) x = x
+  of_sizes text (fault.NotTyped a) x = x
+  of_sizes text (fault.TooLarge size.Copies) x = x
+  of_sizes text (fault.TooLarge size.Sites) x = x
+  of_sizes text (fault.TooLarge size.Steps) x = absurd x
+  of_sizes text (fault.TooLarge size.News) x = absurd x
+  of_sizes text (fault.TooLarge size.Memory) x = absurd x
+  of_sizes text fault.Memory x = absurd x
+
+  module _ (text : List ℕ) (P : Ending → Type 0) (memory : P ending.Memory) (read : Rose f.read_faults_old f.read_faults_new → P ending.ReadFault) where
+    ended : (x : Ending) → r ≡ x → P x → P r
+    ended x e h = subst P (sym e) h
+
+    -- a text with a cause
+    told_cause : (c : SketchFault) → IsCause (IsFaultOfExpansion set text) c → ((t : SketchFault) → IsSame c t → P (refusal t)) → (t : SketchFault) → IsFaultOfExpansion set text t → P (refusal t)
+    told_cause c cause k (fault.NotText a) i = k (fault.NotText a) (one_cause set text c (fault.NotText a) (of_sizes text c cause) (of_sizes text (fault.NotText a) i))
+    told_cause c cause k (fault.NotTyped a) i = k (fault.NotTyped a) (one_cause set text c (fault.NotTyped a) (of_sizes text c cause) (of_sizes text (fault.NotTyped a) i))
+    told_cause c cause k (fault.TooLarge a) i = k (fault.TooLarge a) (one_cause set text c (fault.TooLarge a) (of_sizes text c cause) (of_sizes text (fault.TooLarge a) i))
+    told_cause c cause k fault.Memory i = memory
+
+    pub ends_cause : (c : SketchFault) → IsCause (IsFaultOfExpansion set text) c → ((t : SketchFault) → IsSame c t → P (refusal t)) → length text ≤ most_bytes → Came text → P r
+    ends_cause c cause k fits (came_failed e rose) = ended ending.ReadFault e (read rose)
+    ends_cause c cause k fits (came_long e l) = too_long text fits l
+    ends_cause c cause k fits (came_wanting e) = ended ending.Memory e memory
+    ends_cause c cause k fits (came_whole short (refused t i e same)) = ended (refusal t) e (told_cause c cause k t i)
+    ends_cause c cause k fits (came_whole short (not_run reason i e same)) = absurd (no_cause_of_fault set name values text reason c i cause)
+    ends_cause c cause k fits (came_whole short (ran o out i w)) = absurd (no_cause_of_run set name values text o out c i cause)
+
+    -- a text that has an expansion within the limits
+    no_cause : ((c : SketchFault) → IsCause (IsFaultOfExpansion set text) c → ⊥) → (t : SketchFault) → IsFaultOfExpansion set text t → P (refusal t)
+    no_cause none (fault.NotText a) i = absurd (none (fault.NotText a) i)
+    no_cause none (fault.NotTyped a) i = absurd (none (fault.NotTyped a) i)
+    no_cause none (fault.TooLarge a) i = absurd (none (fault.TooLarge a) i)
+    no_cause none fault.Memory i = memory
+
+    pub ends_expanded : ((c : SketchFault) → IsCause (IsFaultOfExpansion set text) c → ⊥) → ((reason : ExecFault) → IsNotRun set name values text reason → P (ending.NotRun reason)) → ((o : Outcome) (out : List ℕ) → IsRunText set name values text o out → P (ending_of o)) → (((o : Outcome) → (out : List ℕ) → IsRunText set name values text o out → ⊥) ⊎ (Rose f.write_faults_old f.write_faults_new → P ending.WriteFault)) → length text ≤ most_bytes → Came text → P r
+    ends_expanded none by_fault by_run by_cut fits (came_failed e rose) = ended ending.ReadFault e (read rose)
+    ends_expanded none by_fault by_run by_cut fits (came_long e l) = too_long text fits l
+    ends_expanded none by_fault by_run by_cut fits (came_wanting e) = ended ending.Memory e memory
+    ends_expanded none by_fault by_run by_cut fits (came_whole short (refused t i e same)) = ended (refusal t) e (no_cause none t i)
+    ends_expanded none by_fault by_run by_cut fits (came_whole short (not_run reason i e same)) = ended (ending.NotRun reason) e (by_fault reason i)
+    ends_expanded none by_fault by_run (inl no_run) fits (came_whole short (ran o out i w)) = absurd (no_run o out i)
+    ends_expanded none by_fault by_run (inr by_cut) fits (came_whole short (ran o out i w)) = elim w [
+      | delivered is y ↦ ended (ending_of o) is (by_run o out i)
+      | cut is y ↦ ended ending.WriteFault is (by_cut y.rose)
+      | no_room is same ↦ ended ending.Memory is memory
+    ]
+
+  same_end : (o p : Outcome) → p ≡ o → (a b c d : ℕ) → EndsRun o (ending_of p) a b c d
+  same_end o (outcome.Done result refs cost) e a b c d = ap ending_of e
+  same_end o (outcome.Failed span) e a b c d = ap ending_of e
+  same_end o (outcome.Skipped span) e a b c d = ap ending_of e
+
+  pub ends_run_by : (text : List ℕ) → Came text → (o : Outcome) (out : List ℕ) → IsRunText set name values text o out → EndsRun o r f.read_faults_old f.read_faults_new f.write_faults_old f.write_faults_new
+  ends_run_by text came o out is =
+      ends_expanded text (λ x. EndsRun o x f.read_faults_old f.read_faults_new f.write_faults_old f.write_faults_new) tt (λ rose. rose)
+      (λ c cause. no_cause_of_run set name values text o out c is cause)
+      (λ reason i. absurd (no_fault_of_text_run set name values text reason o out i is))
+      (λ p other i. same_end o p ((one_text_run set name values text p o other out i is).0) f.read_faults_old f.read_faults_new f.write_faults_old f.write_faults_new)
+      (inr (λ rose. rose))
+      is.expanded.typed.short came
+
+  pub ends_not_run_by : (text : List ℕ) → Came text → (reason : ExecFault) → IsNotRun set name values text reason → EndsNotRun reason r f.read_faults_old f.read_faults_new
+  ends_not_run_by text came reason is =
+      ends_expanded text (λ x. EndsNotRun reason x f.read_faults_old f.read_faults_new) tt (λ rose. rose)
+      (λ c cause. no_cause_of_fault set name values text reason c is cause)
+      (λ told i. one_fault_of_text set name values text told reason i is)
+      (λ p other i. absurd (no_fault_of_text_run set name values text reason p other is i))
+      (inl (λ p other i. no_fault_of_text_run set name values text reason p other is i))
+      is.expanded.typed.short came
+
+  as_faulty : (told : TextFault) (t : SketchFault) → IsSame (fault.NotText told) t → EndsFaulty told (refusal t) f.read_faults_old f.read_faults_new
+  as_faulty told (fault.NotText a) h = h
+  as_faulty told (fault.NotTyped a) h = absurd h
+  as_faulty told (fault.TooLarge a) h = absurd h
+  as_faulty told fault.Memory h = tt
+
+  pub ends_faulty_by : (text : List ℕ) → Came text → length text ≤ most_bytes → (told : TextFault) → IsTextFault told text → EndsFaulty told r f.read_faults_old f.read_faults_new
+  ends_faulty_by text came fits told is = ends_cause text (λ x. EndsFaulty told x f.read_faults_old f.read_faults_new) tt (λ rose. rose) (fault.NotText told) is (as_faulty told) fits came
+
+  as_untyped : (told : TypeFault) (t : SketchFault) → IsSame (fault.NotTyped told) t → EndsUntyped (refusal t) f.read_faults_old f.read_faults_new
+  as_untyped told (fault.NotText a) h = absurd h
+  as_untyped told (fault.NotTyped a) h = tt
+  as_untyped told (fault.TooLarge a) h = absurd h
+  as_untyped told fault.Memory h = tt
+
+  pub ends_untyped_by : (some : TypeFault) (text : List ℕ) → Came text → length text ≤ most_bytes → IsUntyped set text → EndsUntyped r f.read_faults_old f.read_faults_new
+  ends_untyped_by some text came fits is = ends_cause text (λ x. EndsUntyped x f.read_faults_old f.read_faults_new) tt (λ rose. rose) (fault.NotTyped some) is (as_untyped some) fits came
+
+  as_over : (reason : SizeFault) (t : SketchFault) → IsSame (fault.TooLarge reason) t → EndsLarge reason (refusal t) f.read_faults_old f.read_faults_new
+  as_over reason (fault.NotText a) h = absurd h
+  as_over reason (fault.NotTyped a) h = absurd h
+  as_over reason (fault.TooLarge a) h = h
+  as_over reason fault.Memory h = tt
+
+  over_cause : (text : List ℕ) (reason : SizeFault) → IsTrue (is_of_expansion reason) → IsTooLarge set text reason → IsCause (IsFaultOfExpansion set text) (fault.TooLarge reason)
+  over_cause text size.Copies b is = is
+  over_cause text size.Sites b is = is
+  over_cause text size.Steps b is = absurd (false≢true b)
+  over_cause text size.News b is = absurd (false≢true b)
+  over_cause text size.Memory b is = absurd (false≢true b)
+
+  pub ends_copies_by : (text : List ℕ) → Came text → (reason : SizeFault) → IsTrue (is_of_expansion reason) → IsTooLarge set text reason → EndsLarge reason r f.read_faults_old f.read_faults_new
+  ends_copies_by text came reason b is = ends_cause text (λ x. EndsLarge reason x f.read_faults_old f.read_faults_new) tt (λ rose. rose) (fault.TooLarge reason) (over_cause text reason b is) (as_over reason) is.typed.short came
+
+  pub ends_long_by : (text : List ℕ) → Came text → most_bytes < length text → EndsLong r f.read_faults_old f.read_faults_new
+  ends_long_by text (came_failed e rose) over = subst (λ x. EndsLong x f.read_faults_old f.read_faults_new) (sym e) rose
+  ends_long_by text (came_long e l) over = subst (λ x. EndsLong x f.read_faults_old f.read_faults_new) (sym e) tt
+  ends_long_by text (came_wanting e) over = subst (λ x. EndsLong x f.read_faults_old f.read_faults_new) (sym e) tt
+  ends_long_by text (came_whole short w) over = too_long text short over

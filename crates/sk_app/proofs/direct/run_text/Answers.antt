@@ -1,0 +1,23 @@
+use Rattle.std.proofs.Common.{refl, subst}
+use Rattle.sk_direct.specs.Direct.{IsExecuted}
+use Rattle.sk_app.specs.Ends.{IsDelivered}
+use Rattle.sk_app.specs.Effects.{refused, not_run, ran}
+use Rattle.sk_app.proofs.direct.run_text.Goals as goal
+
+pub returns-in-Err : goal.returns-in-Err
+returns-in-Err g c = refused c.in-Err.fault c.in-Err.ensures.fault c.refusal.ensures refl
+
+pub returns-in-Ok-NotRun : goal.returns-in-Ok-NotRun
+returns-in-Ok-NotRun g c =
+    let m = c.in-Ok-NotRun in
+    not_run m.reason (subst (IsExecuted c.args.set.now c.args.name.now c.args.values.now c.args.text.now) m.field-0-is m.ensures.found) refl refl
+
+pub returns-in-Ok-Run : goal.returns-in-Ok-Run
+returns-in-Ok-Run g c =
+    let m = c.in-Ok-Run in
+    let a = g.K.Sink.faults c.args.sink.now in
+    let b = g.K.Sink.faults c.deliver.new.sink in
+    let d = g.K.Sink.held c.args.sink.now in
+    let e = g.K.Sink.held c.deliver.new.sink in
+    ran m.outcome m.out.items (subst (IsExecuted c.args.set.now c.args.name.now c.args.values.now c.args.text.now) m.field-0-is m.ensures.found)
+    (subst (λ x. IsDelivered c.deliver.result x m.out.items a b d e) c.ending_of-done.ensures (subst (λ x. IsDelivered c.deliver.result c.ending_of-done.result x a b d e) c.as_slice.ensures.value c.deliver.ensures))
