@@ -1,7 +1,7 @@
 //! Each public call once, with ample memory.
-use crate::{at, called, meant_at, variable};
+use crate::{at, called, constant_fault, meant_at, own_fault, variable};
 use sk_base::{Bounds, Boxed, List, Name, Span};
-use sk_check::Heading;
+use sk_check::{Heading, Rule, Typing};
 use sk_prog::{Elem, FunKind, PEForm, Ty};
 use sk_tree::{EForm, Expr, Mark};
 use sk_typing::{Env, Names, Scope};
@@ -104,5 +104,37 @@ fn a_call_has_the_type_of_its_function(rt: HostRuntime) -> Result<(), AllocError
         Err(_) => assert!(rt; false),
     }
     assert!(rt; variable(&env, &scope, &EForm::Word(name)).is_none());
+    Ok(())
+}
+
+fn is_breach(why: Option<Typing>, rule: Rule) -> bool {
+    match why {
+        Some(Typing::Fault(fault)) => fault.rule == rule,
+        _ => false,
+    }
+}
+
+#[test]
+fn a_fault_is_that_of_the_part(rt: HostRuntime) -> Result<(), AllocError> {
+    let top = Names {
+        structs: List::new(rt.alloc()),
+        consts: List::new(rt.alloc()),
+        funs: List::new(rt.alloc()),
+    };
+    let env = Env {
+        alloc: rt.alloc(),
+        bounds: BOUNDS,
+        top: &top,
+        known: &[],
+    };
+    let scope = Scope::new(rt.alloc());
+    let unknown = expr(EForm::Word(Name::from_slice(rt.alloc(), b"y")?));
+    assert!(rt; is_breach(own_fault(&env, &scope, &unknown), Rule::UnknownName));
+    let large = expr(EForm::Number(2_147_483_648));
+    let why = constant_fault(&env, &scope, &large);
+    assert!(rt; is_breach(Some(why), Rule::LiteralRange));
+    let hole = expr(EForm::Hole(None));
+    let why = constant_fault(&env, &scope, &hole);
+    assert!(rt; is_breach(Some(why), Rule::NotConstant));
     Ok(())
 }
