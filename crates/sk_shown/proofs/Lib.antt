@@ -26,3 +26,11 @@ mod Small
 mod Bald
 mod ExprsReadable
 mod StmtsReadable
+mod FormsBack
+mod TypesAgain
+mod TargetsAgain
+mod CountsAgain
+mod Shaped
+mod StmtsAgain
+mod TreeAgain
+mod ProgramShown

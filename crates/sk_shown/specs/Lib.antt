@@ -9,3 +9,5 @@ pub mod MeansAgain
 pub mod PlacedAgain
 pub mod NumbersSmall
 pub mod ReadableAgain
+pub mod TreesMean
+pub mod ProgramsShown

@@ -2,10 +2,12 @@
 ghost use Rattle.sk_shown.specs.MeansAgain.{ExpressionsMean};
 ghost use Rattle.sk_shown.specs.NumbersSmall.{NumbersAreSmall};
 ghost use Rattle.sk_shown.specs.PlacedAgain.{ExpressionsPlaced, TreesPlaced};
+ghost use Rattle.sk_shown.specs.ProgramsShown.{ProgramsShown};
 ghost use Rattle.sk_shown.specs.ReadableAgain.{ProgramsReadable};
 ghost use Rattle.sk_shown.specs.ReadsAs.{TextReads};
 ghost use Rattle.sk_shown.specs.Respans.{Respans};
 ghost use Rattle.sk_shown.specs.Tells.{Tells};
+ghost use Rattle.sk_shown.specs.TreesMean.{TreesMean};
 
 /// The layout of a well-formed program, of numbers that a text can spell, is divided into tokens, and these have the
 /// kinds that spell the printed tree.
@@ -50,4 +52,15 @@ pub fn numbers_are_small()
 /// A program that keeps the rules is printed so that it is spelt as a tree may be.
 pub fn programs_are_readable()
     ensures { ProgramsReadable }
+{}
+
+/// A tree that differs in spans alone from a printed program means that program, spans aside. The printed tree holds
+/// numbers in place of constant expressions, and its bodies stand in braces.
+pub fn trees_mean_again()
+    ensures { TreesMean }
+{}
+
+/// The layout of a well-formed program that keeps the rules shows that program, where an integer has at most 32 bits.
+pub fn programs_are_shown()
+    ensures { ProgramsShown }
 {}
