@@ -86,6 +86,29 @@ SIZES = [
     ("generators in a condition", SITED_GENERATORS, {}),
 ]
 
+LAYOUTS = [
+    ("minus signs in a row","int f(int x) { return - -x - -1; }"),
+    ("choices in choices","int f(bit a, bit b, int x) { return a ? b ? 1 : 2 : (b ? 3 : x); }"),
+    ("a choice in a choice's condition","int f(bit a, bit b, int x) { return (a ? b : a) ? x : a ? 1 : 2; }"),
+    ("empty blocks","void f() { } void g() { { } { { } } ; }"),
+    ("else if","void f(bit a, bit b) { if (a) { } else if (b) ; else assert 1; }"),
+    ("an if in an if","void f(bit a, bit b) { if (a) if (b) assert 1; else assert 0; }"),
+    ("repeats","harness void main(int x) { int t = x; repeat (1 + 2) t = t + 1; repeat (??) { t = t + 1; } repeat (??(3)) ; minrepeat t = t - 1; }"),
+    ("a reorder","harness void main(int x) { int t = x; reorder { t = 1; { t = 2; } if (t == 3) t = 4; } }"),
+    ("two lengths","int N = 2; int[2][3] f(int[2][3] a) { int[N] c = a[1]; a[2] = c; a[0][N - 1] = a[1][0]; return a; }"),
+    ("a slice and braces","int[3] f(int[4] a, int i) { int[3] b = {1, 2, a[i]}; b = a[i::3]; return b; }"),
+    ("records","struct P { int u; P next; } P f(ref int x, P p) { P q = new P(u = x, next = null); p.next.u = q.u; P r = new P(); return q; }"),
+    ("a loop by its parts","int f(int x) { for (int i = 0; i < 3; i++) { x += i; x -= 1; } while (x > 0) x--; return x; }"),
+    ("two variables at once","int f() { int a = 1, b, c = a + 2; return c; }"),
+    ("patterns, generators and references","generator int g(int x) { return {| x | ?? | x + 1 |} + g(x); } int h(int x) implements k { return g(x); } int k(int x) { return x; }"),
+    ("operators by their levels","bit f(int x, int y) { return !(x < y) && -x == y || x % 2 >= (y / 3) * 2; }"),
+    ("the same to the left and to the right","int f(int x, int y, int z) { return x - (y - z) - (x - y) * z; }"),
+    ("bits","bit[8] f(bit[8] b, int i) { return (b << 2) ^ (b >> i) & {1, 0, 1, 0, 1, 0, 1, 0} | ~b; }"),
+    ("calls, assumptions and costs","void f(ref int x) { x = 1; } harness void main(int x) { assume x > 2; int y; f(y); minimize(x + y); return; }"),
+    ("truth values and null","struct P { int u; } bit f(P p) { return true != (p == null) && false == 0; }"),
+    ("a harness and a constant that is written out","int N = 8; int M = N * 2 + 1; harness void main(int[8] a) { assert a[7] == M; }"),
+]
+
 FILLINGS = [
     ("two copies", TWO_COPIES, {}, [2, 3]),
     ("one function", TWO_COPIES.replace("generator ", ""), {}, [2]),
@@ -191,6 +214,9 @@ def main():
         e = expand(p, b)
         assert len(sites(e, b)) == len(values)  # numbers the sites too
         row(name, rust(text), bounds(opts), "&[%s]" % ", ".join(map(str, values)), rust(layout(fill(e, values))))
+    print("];\n\nconst LAYOUTS: [(&[u8], &[u8]); %d] = [" % len(LAYOUTS))
+    for name, text in LAYOUTS:
+        row(name, rust(text), rust(layout(load(text)[0])))
     print("];")
 
 

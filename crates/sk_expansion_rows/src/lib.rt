@@ -1,8 +1,10 @@
-//! Examples of expanding, measuring and filling whole texts, which are tests of `expand`, `sizes` and `fill`.
+//! Examples of expanding, measuring, filling and printing whole texts, which are tests of `expand`, `sizes`, `fill` and `print`.
 #![tactic(auto)]
 
 #[cfg(test)]
 mod fillings;
+#[cfg(test)]
+mod layouts;
 #[cfg(test)]
 mod limits;
 #[cfg(test)]
