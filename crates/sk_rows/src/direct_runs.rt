@@ -10,7 +10,7 @@ const ELEMENT: &str = "int f(int[8] a, int i) { return a[i]; }";
 const FACTORS: &str = "int f(int n) { if (n == 0) return 0; return n + f(n - 1); }";
 
 /// A line, a text, the status, what is written and the message.
-const RUNS: [(&str, &str, u8, &str, &str); 22] = [
+const RUNS: [(&str, &str, u8, &str, &str); 23] = [
     (
         "exec f 1,2,3,4,5,6,7,8 7",
         ELEMENT,
@@ -63,6 +63,13 @@ const RUNS: [(&str, &str, u8, &str, &str); 22] = [
         0,
         "result 31\ncost 0\n",
         "",
+    ),
+    (
+        "exec f 0 --int-bits=6",
+        "int f(int x) { return x - 33; }",
+        12,
+        "",
+        "type 7 26 28",
     ),
     (
         "exec f 2147483647 --int-bits 32",
