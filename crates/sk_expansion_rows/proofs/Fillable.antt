@@ -13,6 +13,7 @@ use Rattle.sk_sites.specs.Small.{IsSmall, AreSmall}
 use Rattle.sk_holes.specs.Needs.{HasItsSites, are_narrow}
 
 pub has : (e : Expanded) (p : Prog) (bounds : Bounds) → e ≡ expand p bounds → HasItsSites e
+unfolding expand
 has e p bounds is = subst (λ x. HasItsSites x) (sym is) (record { bounds = bounds; listed = refl })
 
 pub narrow : (ss : List Site) → AreSmall ss → IsTrue (are_narrow ss)
