@@ -2,3 +2,9 @@ pub mod Owns
 pub mod LawNames
 pub mod Holes
 pub mod Strings
+pub mod Keeping
+pub mod Callees
+pub mod Expanded
+pub mod Sizes
+pub mod Filling
+pub mod Fillings
