@@ -1,0 +1,10 @@
+pub mod Trees
+pub mod Strings
+pub mod Exprs
+pub mod Plain
+pub mod Stmts
+pub mod Spelt
+pub mod Read
+pub mod Whole
+pub mod Words
+pub mod Named
