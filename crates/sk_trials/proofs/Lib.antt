@@ -1,0 +1,6 @@
+pub mod Capping
+pub mod Division
+pub mod Numbering
+pub mod TryLaws
+pub mod SearchLaws
+pub mod Completable

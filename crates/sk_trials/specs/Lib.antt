@@ -1,0 +1,4 @@
+pub mod Counts
+pub mod Numbered
+pub mod Trying
+pub mod Completing
