@@ -1,0 +1,10 @@
+pub mod Makers
+pub mod Targets
+pub mod Parts
+pub mod Depths
+pub mod Standing
+pub mod Walks
+pub mod Values
+pub mod Forms
+pub mod Copies
+pub mod Choices

@@ -1,0 +1,10 @@
+//! Arrays of values over the nodes of a graph, and operations on them.
+#![tactic(auto)]
+
+mod choice;
+mod copy;
+mod maker;
+mod part;
+mod target;
+
+pub use choice::choose;
