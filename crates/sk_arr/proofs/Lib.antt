@@ -8,3 +8,4 @@ pub mod Values
 pub mod Forms
 pub mod Copies
 pub mod Choices
+pub mod Equals

@@ -3,8 +3,10 @@
 
 mod choice;
 mod copy;
+mod equality;
 mod maker;
 mod part;
 mod target;
 
 pub use choice::choose;
+pub use equality::same;
