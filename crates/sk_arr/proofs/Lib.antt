@@ -9,3 +9,6 @@ pub mod Forms
 pub mod Copies
 pub mod Choices
 pub mod Equals
+pub mod Indexes
+pub mod ReadLaws
+pub mod WriteLaws

@@ -1,5 +1,5 @@
 -- What the loops over the elements of a list have answered so far.
-use Rattle.std.specs.Prelude.{◌≡◌, ℕ, ◌≤◌, ◌<◌, pos, Bool, List, length, All, map, Some, slice_get, ◌&&◌, if◌then◌else◌}
+use Rattle.std.specs.Prelude.{◌≡◌, ℕ, ◌-◌, ◌≤◌, ◌<◌, pos, Bool, List, length, All, map, Some, slice_get, ◌&&◌, if◌then◌else◌}
 use Rattle.std.specs.Ordering.{int_eq}
 use Rattle.sk_dag.specs.declared.env.Env.{Env}
 use Rattle.sk_dag.specs.declared.node.BoolId.{BoolId}
@@ -12,12 +12,14 @@ use Rattle.sk_arr.specs.Shapes.{blank, Alike, AlikeTo, Stands, AllStand, SlotsPa
 use Rattle.sk_arr.specs.Places.{replaced_at}
 use Rattle.sk_arr.specs.Answers.{shapes_value}
 
--- a shape that is the element which the index names, if that is at this place or behind it
+-- a shape that is the element which the index names, if that is at this place or behind it, and the last element if it is
+-- none
 pub record IsReadFrom (g : Graph) (list : List Shape) (index : WordId) (place : ℕ) (r : Shape) : Type 0 where
   pub stands : Stands g r
   pub alike : AlikeTo r list
   pub named : (test : ℕ → Bool) → AllSlotsPass test list → SlotsPass test r
   pub value : (h : Graph) → Grows g h → (e : Env) (i : ℕ) → place ≤ i → i < length list → word_value h e index ≡ pos i → slice_get (shapes_value h e list) i ≡ Some (shape_value h e r)
+  pub last : (h : Graph) → Grows g h → (e : Env) (i : ℕ) → length list ≤ i → word_value h e index ≡ pos i → slice_get (shapes_value h e list) (length list - 1) ≡ Some (shape_value h e r)
 
 -- the value where the guard holds and the index is this place, and the old shape where not
 pub record IsWrittenAt (g : Graph) (guard : BoolId) (index : WordId) (place : ℕ) (value old r : Shape) : Type 0 where
