@@ -12,3 +12,5 @@ pub mod Equals
 pub mod Indexes
 pub mod ReadLaws
 pub mod WriteLaws
+pub mod SliceLaws
+pub mod PadLaws

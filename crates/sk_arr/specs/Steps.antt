@@ -1,5 +1,5 @@
 -- What the loops over the elements of a list have answered so far.
-use Rattle.std.specs.Prelude.{◌≡◌, ℕ, ◌-◌, ◌≤◌, ◌<◌, pos, Bool, List, length, All, map, Some, slice_get, ◌&&◌, if◌then◌else◌}
+use Rattle.std.specs.Prelude.{◌≡◌, ℕ, ◌-◌, ◌≤◌, ◌<◌, pos, Bool, List, length, take, drop, All, map, Some, slice_get, ◌&&◌, if◌then◌else◌}
 use Rattle.std.specs.Ordering.{int_eq}
 use Rattle.sk_dag.specs.declared.env.Env.{Env}
 use Rattle.sk_dag.specs.declared.node.BoolId.{BoolId}
@@ -8,7 +8,7 @@ use Rattle.sk_dag.specs.declared.shape.Shape.{Shape}
 use Rattle.sk_dag.specs.Graph.{Graph, Grows}
 use Rattle.sk_dag.specs.Eval.{bool_value, word_value}
 use Rattle.sk_dag.specs.EvalShape.{shape_value}
-use Rattle.sk_arr.specs.Shapes.{blank, Alike, AlikeTo, Stands, AllStand, SlotsPass, AllSlotsPass}
+use Rattle.sk_arr.specs.Shapes.{blank, Alike, AlikeTo, EachAlikeTo, Stands, AllStand, SlotsPass, AllSlotsPass}
 use Rattle.sk_arr.specs.Places.{replaced_at}
 use Rattle.sk_arr.specs.Answers.{shapes_value}
 
@@ -34,3 +34,11 @@ pub record AreWritten (g : Graph) (guard : BoolId) (list : List Shape) (index : 
   pub alike : map blank made ≡ map blank list
   pub named : (test : ℕ → Bool) → AllSlotsPass test list → SlotsPass test value → AllSlotsPass test made
   pub written : (h : Graph) → Grows g h → (e : Env) → shapes_value h e made ≡ (if bool_value h e guard then replaced_at (shapes_value h e list) (word_value h e index) (shape_value h e value) else shapes_value h e list)
+
+-- so many elements from the one on that the index names, if that is one of the first `starts`
+pub record AreReadFrom (g : Graph) (list : List Shape) (from : WordId) (starts count : ℕ) (made : List Shape) : Type 0 where
+  pub stand : AllStand g made
+  pub alike : EachAlikeTo made list
+  pub long : length made ≡ count
+  pub named : (test : ℕ → Bool) → AllSlotsPass test list → AllSlotsPass test made
+  pub value : (h : Graph) → Grows g h → (e : Env) (i : ℕ) → i < starts → word_value h e from ≡ pos i → shapes_value h e made ≡ take count (drop i (shapes_value h e list))
