@@ -14,3 +14,6 @@ pub mod ReadLaws
 pub mod WriteLaws
 pub mod SliceLaws
 pub mod PadLaws
+pub mod BitLaws
+pub mod SumLaws
+pub mod MoveLaws

@@ -5,3 +5,4 @@ pub mod Firsts
 pub mod Places
 pub mod Answers
 pub mod Steps
+pub mod Bits
