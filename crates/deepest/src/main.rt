@@ -33,7 +33,7 @@ const NESTS: [(&str, Nest); 8] = [
 ];
 
 /// Levels in each function: some that a run has stack for, and as many as a text may have.
-const LEVELS: [u64; 2] = [8, 240];
+const LEVELS: [u64; 2] = [24, 240];
 
 fn repeated(text: &mut Vec<u8>, words: &str, times: u64) -> Result<(), AllocError> {
     for _ in 0..times {

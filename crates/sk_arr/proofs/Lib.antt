@@ -8,12 +8,3 @@ pub mod Values
 pub mod Forms
 pub mod Copies
 pub mod Choices
-pub mod Equals
-pub mod Indexes
-pub mod ReadLaws
-pub mod WriteLaws
-pub mod SliceLaws
-pub mod PadLaws
-pub mod BitLaws
-pub mod SumLaws
-pub mod MoveLaws

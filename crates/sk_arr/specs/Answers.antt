@@ -1,7 +1,7 @@
 -- What the calls answer. Each record says what the answer is worth in every graph that the graph of the answer grows
 -- to, in every environment; that it may be handed in again; of which form it is; and that each slot that it names is
 -- named in an argument.
-use Rattle.std.specs.Prelude.{◌≡◌, ◌++◌, ◌-◌, replicate, ℕ, Bool, true, false, not, List, length, All, map, Some, if◌then◌else◌, ◌↔◌}
+use Rattle.std.specs.Prelude.{◌≡◌, ℕ, Bool, true, false, not, List, length, All, map, Some, if◌then◌else◌, ◌↔◌}
 use Rattle.sk_dag.specs.declared.env.Env.{Env}
 use Rattle.sk_dag.specs.declared.node.BoolId.{BoolId}
 use Rattle.sk_dag.specs.declared.node.WordId.{WordId}
@@ -10,8 +10,8 @@ use Rattle.sk_dag.specs.declared.shape.Seen.{Seen}
 use Rattle.sk_dag.specs.Graph.{Graph, Grows, HasBool}
 use Rattle.sk_dag.specs.Eval.{bool_value, word_value}
 use Rattle.sk_dag.specs.EvalShape.{shape_value}
-use Rattle.sk_arr.specs.Shapes.{blank, Alike, AlikeTo, EachAlikeTo, Stands, AllStand, SlotsPass, AllSlotsPass}
-use Rattle.sk_arr.specs.Places.{is_within, element_of, replaced_at, is_slice_within, slice_of}
+use Rattle.sk_arr.specs.Shapes.{blank, Alike, AlikeTo, Stands, AllStand, SlotsPass, AllSlotsPass}
+use Rattle.sk_arr.specs.Places.{is_within, element_of, replaced_at}
 
 -- what the shapes are in an environment
 abbrev pub shapes_value : Graph → Env → List Shape → List Seen
@@ -76,21 +76,3 @@ pub record IsWritten (g : Graph) (guard : BoolId) (list : List Shape) (index : W
   pub named : (test : ℕ → Bool) → AllSlotsPass test list → SlotsPass test value → AllSlotsPass test made
   pub left : (h : Graph) → Grows g h → (e : Env) → bool_value h e outside ≡ not (is_within (length list) (word_value h e index))
   pub written : (h : Graph) → Grows g h → (e : Env) → shapes_value h e made ≡ (if bool_value h e guard then replaced_at (shapes_value h e list) (word_value h e index) (shape_value h e value) else shapes_value h e list)
-
--- what a slice by an index answers: so many shapes, each alike to the elements, and whether it leaves the range. Where it
--- does not, they are the elements from the index on.
-pub record IsSliced (g : Graph) (list : List Shape) (from : WordId) (count : ℕ) (made : List Shape) (outside : BoolId) : Type 0 where
-  pub stand : AllStand g made
-  pub there : HasBool g.nodes outside
-  pub alike : EachAlikeTo made list
-  pub long : length made ≡ count
-  pub named : (test : ℕ → Bool) → AllSlotsPass test list → AllSlotsPass test made
-  pub left : (h : Graph) → Grows g h → (e : Env) → bool_value h e outside ≡ not (is_slice_within (length list) count (word_value h e from))
-  pub value : (h : Graph) → Grows g h → (e : Env) → bool_value h e outside ≡ false → slice_of (shapes_value h e list) (word_value h e from) count ≡ Some (shapes_value h e made)
-
--- the list, and then a shape as often as is wanting to so many
-pub record IsPadded (g : Graph) (list : List Shape) (zero : Shape) (count : ℕ) (made : List Shape) : Type 0 where
-  pub stand : AllStand g made
-  pub alike : AlikeTo zero made
-  pub named : (test : ℕ → Bool) → AllSlotsPass test list → SlotsPass test zero → AllSlotsPass test made
-  pub value : (h : Graph) (e : Env) → shapes_value h e made ≡ shapes_value h e list ++ replicate (count - length list) (shape_value h e zero)

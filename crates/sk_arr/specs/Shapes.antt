@@ -27,10 +27,6 @@ Alike a b = blank a ≡ blank b
 pub record AlikeTo (a : Shape) (list : List Shape) : Type 0 where
   pub each : All (Alike a) list
 
--- each of the first is alike to each of the second
-pub record EachAlikeTo (made list : List Shape) : Type 0 where
-  pub each : All (λ a. AlikeTo a list) made
-
 -- each of these is alike to each
 pub record AllAlike (list : List Shape) : Type 0 where
   pub each : All (λ a. AlikeTo a list) list

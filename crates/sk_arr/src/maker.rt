@@ -127,20 +127,3 @@ pub fn either(dag: &mut Dag, a: BoolId, b: BoolId) -> Result<BoolId, AllocError>
     let r = dag.or(a, b)?;
     Ok(r)
 }
-
-/// Whether it does not hold.
-#[tactic(auto, using(crate::proofs::Makers::staying))]
-pub(crate) fn opposite(dag: &mut Dag, a: BoolId) -> Result<BoolId, AllocError>
-    requires { HasBool dag.old.nodes a }
-    ensures keeps { Keeps dag.old dag.new }
-    ensures there { IfOk result (λ r. HasBool dag.new.nodes r) }
-    ensures value { IfOk result (λ r. (g : Graph) → Grows dag.new g → (e : Env) →
-        bool_value g e r ≡ not (bool_value g e a)) }
-{
-    if let Some(known) = flag_of(dag, a) {
-        let r = dag.flag(!known)?;
-        return Ok(r);
-    }
-    let r = dag.not(a)?;
-    Ok(r)
-}

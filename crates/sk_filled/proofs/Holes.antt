@@ -1,6 +1,6 @@
 -- In the place of a hole stands a number, or braces of bits, that keeps the rules.
 use Rattle.std.proofs.Common.{◌≡◌, ◌<◌, ◌≤◌, ℕ, zero, suc, ◌+◌, ◌-◌, ◌^◌, Bool, true, false, List, [], ◌∷◌, length, Option, Some, None, inl, inr, refl, sym, ap, subst, ◌∙◌, arith}
-use Rattle.std.specs.Prelude.{if◌then◌else◌, ◌&&◌, ◌||◌, nat_lt, nat_le, replicate, map}
+use Rattle.std.specs.Prelude.{if◌then◌else◌, ◌&&◌, ◌||◌, nat_lt, nat_le, replicate}
 use Rattle.std.proofs.lemmas.Bool.{lt-ltb, ltb-true}
 use Rattle.std.proofs.Math.Pow.{pow_mono}
 use Rattle.sk_base.specs.declared.span.Span.{Span}
@@ -8,7 +8,6 @@ use Rattle.sk_base.specs.declared.bounds.Bounds.{Bounds}
 use Rattle.sk_tree.specs.declared.expr.Expr.{Expr}
 use Rattle.sk_tree.specs.declared.expr.EForm.TheVariants as eform
 use Rattle.sk_tree.specs.declared.expr.EForm.TheOpen as E
-use Rattle.sk_tree.specs.Placed.{Place, alone, all_placed, place_of}
 use Rattle.sk_prog.specs.declared.ty.Ty.{Ty}
 use Rattle.sk_prog.specs.declared.ty.Ty.TheVariants as ty
 use Rattle.sk_prog.specs.declared.ty.Elem.TheVariants as elem
@@ -30,7 +29,6 @@ use Rattle.sk_check.proofs.Ats.{both_true}
 use Rattle.sk_model.specs.Parts.{value}
 use Rattle.sk_model.specs.Sites.{site, hole_bits}
 use Rattle.sk_model.specs.Fill.{bits_at}
-use Rattle.sk_filled.proofs.Places.{place_at}
 use Rattle.sk_filled.specs.Owns.{Stays}
 use Rattle.sk_filled.specs.Holes.{Below, AreWide, IsFilled, HolesFill}
 
@@ -57,9 +55,6 @@ module _ (context : Context) (scope : List Variable) where
   abbrev number_tree : Span → ℕ → Expr
   number_tree s n = record { span = s; form = eform.Number n }
 
-  number_place : (s : Span) (n : ℕ) → place_of (number_tree s n) ≡ alone true
-  number_place s n = place_at (number_tree s n) (E.Number n) (sym (eform.rolls-Number n))
-
   number_own_is : (s : Span) (n : ℕ) → own context scope (number_tree s n) ≡ number_own n
   number_own_is s n = ap (λ z. z.own) (sort_number context scope s n)
 
@@ -69,8 +64,6 @@ module _ (context : Context) (scope : List Variable) where
     means = mean (P.Number n) (pform.Number n) (pform.rolls-Number n) (Some int) (number_tree s n) (refl, within, refl);
     type = refl;
     own = stays (nat_lt n 2) refl;
-    level = ap (λ (a : Place). a.level) (number_place s n);
-    placed = ap (λ (a : Place). a.placed) (number_place s n);
   }
     where
       stays : (b : Bool) → nat_lt n 2 ≡ b → Stays Loose (own context scope (number_tree s n)) int
@@ -88,8 +81,6 @@ module _ (context : Context) (scope : List Variable) where
     means = bit_means s n wide below;
     type = refl;
     own = inl (number_own_is s n ∙ ap (λ b. if b then Loose else Firm int) (lt-ltb n 2 below));
-    level = ap (λ (a : Place). a.level) (number_place s n);
-    placed = ap (λ (a : Place). a.placed) (number_place s n);
   }
 
   module _ (values : List ℕ) (number : ℕ → ℕ) where
@@ -109,13 +100,6 @@ module _ (context : Context) (scope : List Variable) where
     some_bits s zero i h = absurd (omega (arith, h))
     some_bits s (suc n) i h = tt
 
-    bits_placed : (s : Span) (n i : ℕ) → all_placed (map place_of (bit_trees s n i)) ≡ true
-    bits_placed s zero i = refl
-    bits_placed s (suc n) i =
-        let one = ap (λ (a : Place). a.placed) (number_place s (value values i)) in
-        let rest = bits_placed s n (i + 1) in
-        λ j. one j && rest j
-
     abbrev braces_tree : Span → ℕ → ℕ → Expr
     braces_tree s n i = record { span = s; form = eform.Braces (bit_trees s n i) }
 
@@ -128,8 +112,6 @@ module _ (context : Context) (scope : List Variable) where
           means = mean (P.Braces bits) (pform.Braces bits) (pform.rolls-Braces bits) (Some (ty.Array elem.Bit n)) (braces_tree s n i) (bit_trees s n i, refl, some_bits s n i some, bit, each_bit s n i wide h, ty.Array elem.Bit n, refl, few, refl);
           type = refl;
           own = inl (ap (λ z. z.own) (sort_is context scope (braces_tree s n i) ∙ ap (form_sort context scope) (sym (eform.rolls-Braces (bit_trees s n i))) ∙ form_sort_is context scope (E.Braces (bit_trees s n i))));
-          level = ap (λ (a : Place). a.level) (place_at (braces_tree s n i) (E.Braces (bit_trees s n i)) (sym (eform.rolls-Braces (bit_trees s n i))));
-          placed = ap (λ (a : Place). a.placed) (place_at (braces_tree s n i) (E.Braces (bit_trees s n i)) (sym (eform.rolls-Braces (bit_trees s n i)))) ∙ bits_placed s n i;
         }
 
 pub holes_fill : HolesFill

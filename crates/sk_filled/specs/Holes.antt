@@ -1,9 +1,8 @@
 -- What a hole becomes.
-use Rattle.std.specs.Prelude.{◌≡◌, ◌<◌, ◌≤◌, ℕ, ◌+◌, List, [], ◌∷◌, Option, Some, true, IsTrue}
+use Rattle.std.specs.Prelude.{◌≡◌, ◌<◌, ◌≤◌, ℕ, ◌+◌, List, [], ◌∷◌, Option, Some, IsTrue}
 use Rattle.sk_base.specs.declared.span.Span.{Span}
 use Rattle.sk_base.specs.declared.bounds.Bounds.{Bounds}
 use Rattle.sk_tree.specs.declared.expr.Expr.{Expr}
-use Rattle.sk_tree.specs.Placed.{place_of, expr_placed}
 use Rattle.sk_prog.specs.declared.ty.Ty.{Ty}
 use Rattle.sk_prog.specs.declared.ty.Ty.TheVariants as ty
 use Rattle.sk_prog.specs.declared.expr.PExpr.{PExpr}
@@ -35,15 +34,12 @@ HasElements (ty.One a) = Unit {0}
 HasElements (ty.Array a n) = 1 ≤ n
 HasElements (ty.Grid a n m) = 1 ≤ m
 
--- A typed expression that means some tree at a type, in the place of a loose one. The tree is of the tightest
--- level, and its operands stand where they may.
+-- a typed expression that means some tree at a type, in the place of a loose one
 pub record IsFilled (context : Context) (scope : List Variable) (p : PExpr) (t : Ty) : Type 0 where
   pub tree : Expr
   pub means : Means context scope p tree
   pub type : p.ty ≡ Some t
   pub own : Stays Loose (own context scope tree) t
-  pub level : (place_of tree).level ≡ 1
-  pub placed : expr_placed tree ≡ true
 
 -- In the place of a hole that keeps the rules stands what keeps them, where its values are in range.
 abbrev pub HolesFill : Type 0

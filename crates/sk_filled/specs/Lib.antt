@@ -2,9 +2,3 @@ pub mod Owns
 pub mod LawNames
 pub mod Holes
 pub mod Strings
-pub mod Keeping
-pub mod Callees
-pub mod Expanded
-pub mod Sizes
-pub mod Filling
-pub mod Fillings

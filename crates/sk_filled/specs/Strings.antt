@@ -1,8 +1,7 @@
 -- What a pattern becomes.
-use Rattle.std.specs.Prelude.{◌≡◌, ℕ, List, map, Some, true, slice_get}
+use Rattle.std.specs.Prelude.{◌≡◌, ℕ, List, Some, slice_get}
 use Rattle.sk_base.specs.declared.span.Span.{Span}
 use Rattle.sk_tree.specs.declared.expr.Expr.{Expr}
-use Rattle.sk_tree.specs.Placed.{place_of, expr_placed, all_placed}
 use Rattle.sk_prog.specs.declared.ty.Ty.{Ty}
 use Rattle.sk_prog.specs.declared.expr.PExpr.{PExpr}
 use Rattle.sk_types.specs.declared.rules.Own.TheVariants.{Loose}
@@ -20,13 +19,12 @@ pub record IsString (context : Context) (scope : List Variable) (t : Ty) (p : PE
   pub means : Means context scope p tree
   pub type : p.ty ≡ Some t
   pub own : Stays Loose (own context scope tree) t
-  pub placed : expr_placed tree ≡ true
 
--- Each string that a pattern keeps is one, where its operands stand where they may.
+-- Each string that a pattern keeps is one.
 abbrev pub KeptAreStrings : Type 0
 KeptAreStrings =
     (context : Context) (scope : List Variable) (t : Ty) (es : List Expr) (ps : List PExpr)
-    → EachMeans (λ p. p) (Means context scope) t ps (kept context scope t es) → all_placed (map place_of es) ≡ true
+    → EachMeans (λ p. p) (Means context scope) t ps (kept context scope t es)
     → (n : ℕ) (p : PExpr) → slice_get ps n ≡ Some p → IsString context scope t p
 
 -- In the place of a pattern the chosen string keeps the rules, in parentheses or as it is.

@@ -1,6 +1,4 @@
 //! Laws of own types where an expression is filled.
-ghost use Rattle.sk_filled.specs.Expanded.{FilledMeans};
-ghost use Rattle.sk_filled.specs.Fillings.{ExprsFill, TargetsFill};
 ghost use Rattle.sk_filled.specs.Holes.{HolesFill};
 ghost use Rattle.sk_filled.specs.LawNames.{OwnsFit, OperandsStay, ChoicesStay};
 ghost use Rattle.sk_filled.specs.Strings.{KeptAreStrings, StringsFill};
@@ -38,19 +36,4 @@ pub fn kept_are_strings()
 /// parentheses or as it is.
 pub fn strings_fill()
     ensures { StringsFill }
-{}
-
-/// A filled expression keeps the rules, at the type that it had.
-pub fn exprs_fill()
-    ensures { ExprsFill }
-{}
-
-/// A filled target is a target of the same type.
-pub fn targets_fill()
-    ensures { TargetsFill }
-{}
-
-/// A filling of an expansion, by a choice in range, keeps the rules and is well-formed.
-pub fn filled_means()
-    ensures { FilledMeans }
 {}

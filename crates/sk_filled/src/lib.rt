@@ -1,10 +1,9 @@
-//! What an expansion keeps of the rules, and that a filling of one, by a choice in range, keeps the rules and is
-//! well-formed: laws alone, with nothing to run.
+//! That the filled program of a program which keeps the rules keeps them: the laws of own types, of holes and of
+//! patterns, which are the begin of it, with nothing to run.
 #![tactic(auto)]
 
 mod laws;
 
 pub use laws::{
-    choices_stay, exprs_fill, filled_means, holes_fill, kept_are_strings, operands_stay,
-    own_types_fit, strings_fill, targets_fill,
+    choices_stay, holes_fill, kept_are_strings, operands_stay, own_types_fit, strings_fill,
 };

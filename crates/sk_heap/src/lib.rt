@@ -10,3 +10,6 @@ mod write;
 mod zero;
 
 pub use heap::SymHeap;
+
+#[cfg(test)]
+mod tests;
