@@ -5,4 +5,3 @@ pub mod Structs
 pub mod Allocs
 pub mod ReadLaws
 pub mod WriteLaws
-pub mod Examples

@@ -1,9 +1,10 @@
 -- Structs and their fields, in the words of an index.
 use Rattle.std.proofs.lemmas.Bool.{ltb-true, lt-ltb}
 use Rattle.std.proofs.lemmas.Option.{none-some, slice_get_read, slice_get_within}
-use Rattle.std.proofs.Common.{◌≡◌, ℕ, ◌<◌, true, true≢false, length, slice_get, get_or, Option, Some, None, IsTrue, refl, sym, ap, ◌∙◌, arith, map, Bool}
+use Rattle.std.proofs.Common.{◌≡◌, ℕ, ◌<◌, true, true≢false, length, slice_get, get_or, Option, Some, None, IsTrue, refl, sym, ap, ◌∙◌, arith, map}
 use Rattle.sk_arr.proofs.Values.{length_map}
 use Rattle.sk_prog.specs.declared.ids.StructId.{StructId}
+use Rattle.sk_prog.specs.declared.ty.Ty.{Ty}
 use Rattle.sk_prog.specs.declared.prog.FieldDef.{FieldDef}
 use Rattle.sk_prog.specs.declared.prog.StructDef.{StructDef}
 use Rattle.sk_prog.specs.declared.prog.Prog.{Prog}

@@ -10,6 +10,3 @@ mod write;
 mod zero;
 
 pub use heap::SymHeap;
-
-#[cfg(test)]
-mod tests;
