@@ -3,11 +3,15 @@
 
 mod env;
 mod number;
+mod numbers;
 mod own;
 mod rules;
+mod listed;
 mod scope;
 
 pub use env::{Env, Names, field_place, is_same};
+pub use listed::{Listed, Named, are_distinct};
+pub use numbers::Numbers;
 pub use own::{is_harness, reference_meant, reference_to, struct_meant};
 pub use rules::{
     BIT, INT, binary_wants, boxed, copied, cut, element_wanted, fault, field_found, firm, hole_at,
