@@ -22,8 +22,8 @@ use sk_check::{Rule, Typing};
 use sk_plain::{plain, unsteady_step};
 use sk_prog::{ConstDef, FieldDef, Fun, ParamDef, Prog, StructDef};
 use sk_tree::{Item, Tree};
-use sk_typing::{Names, fault};
-use std::alloc::Global;
+use sk_typing::{Listed, Names, StructTable, fault};
+use std::alloc::{AllocError, Global};
 
 #[tactic(auto, using(sk_typing::proofs::Places::split_at))]
 fn has_generator(funs: &[Fun]) -> bool
@@ -133,6 +133,17 @@ fn may_keep_names(prog: &Prog) -> bool
     !has_generator(prog.funs.as_slice()) || names_free(prog)
 }
 
+/// The structs as they stand in a program.
+fn struct_defs(alloc: Global, tables: Listed<StructTable>) -> Result<List<StructDef>, AllocError>
+    ensures { IfOk result (λ defs. defs ≡ tables) }
+{
+    let mut defs = List::new(alloc);
+    for table in tables.into_vec() {
+        defs.push(table.into_def())?;
+    }
+    Ok(defs)
+}
+
 /// The program of these items, where these names stand at the top.
 fn prog_in(alloc: Global, bounds: &Bounds, top: Names, items: &[Item]) -> Result<Prog, Typing>
     requires { IsWidth bounds.now }
@@ -152,6 +163,7 @@ fn prog_in(alloc: Global, bounds: &Bounds, top: Names, items: &[Item]) -> Result
         consts: _,
         funs: _,
     } = top;
+    let structs = struct_defs(alloc, structs)?;
     let prog = Prog {
         structs,
         consts,

@@ -1,12 +1,13 @@
 -- The table of places, when an item is put behind the others, and whether names are distinct.
-use Rattle.std.proofs.Common.{◌≡◌, ℕ, zero, suc, ◌+◌, ◌<◌, Bool, true, false, not, ◌&&◌, ◌||◌, cond, List, [], ◌∷◌, ◌++◌, length, Option, Some, None, refl, sym, ap, subst, ◌∙◌, arith, true≢false}
+use Rattle.std.proofs.Common.{◌≡◌, ℕ, zero, suc, ◌+◌, ◌<◌, Bool, true, false, not, ◌&&◌, ◌||◌, cond, List, [], ◌∷◌, ◌++◌, length, take, drop, get_or, is_some, Option, Some, None, refl, sym, ap, subst, ◌∙◌, arith, true≢false}
 use Rattle.std.specs.Prelude.{map, if◌then◌else◌}
 use Rattle.std.specs.List.{list_any}
 use Rattle.std.specs.Cmp.Lexicographic.{bytes_decides, nat_list_eq_equiv}
 use Rattle.std.specs.Str.{bytes_eq}
-use Rattle.std.proofs.lemmas.List.{map-append, length-map}
+use Rattle.std.proofs.lemmas.List.{map-append, length-map, take_more, length-take-le, take-append-drop}
 use Rattle.std.proofs.lemmas.List.Folds.{list_any-append}
 use Rattle.sk_types.specs.Scope.{place_of, next_place, all_distinct}
+use Rattle.sk_typing.proofs.Places.{split_at}
 use Rattle.sk_typing.specs.Tables.{number_of, Sets, ArePlaces}
 
 abbrev or_place : Option ℕ → Option ℕ → Option ℕ
@@ -101,3 +102,31 @@ distinct_none (z ∷ zs) x ys j h = by (bytes_eq z x) (place_of zs x) refl (λ i
         ap (λ b. not b && all_distinct (zs ++ x ∷ ys)) there
     by false (Some i) same more h = ap (λ d. not (list_any (bytes_eq z) (zs ++ x ∷ ys)) && d) (more i refl) ∙ never (not (list_any (bytes_eq z) (zs ++ x ∷ ys)))
     by false None same more h = cc
+
+-- the loop that sees whether names are distinct
+no_number : (o : Option ℕ) → is_some o ≡ false → o ≡ None
+no_number None h = refl
+no_number (Some i) h = absurd (true≢false h)
+
+module _ {X : Type 0} (name : X → List ℕ) (items : List X) (i : ℕ) (x : X) (rows : List (List ℕ × ℕ)) (n : List ℕ) where
+  pub distinct_step : (new : List (List ℕ × ℕ)) → i < length items → x ≡ get_or items i x → n ≡ name x → ArePlaces rows (map name (take i items)) → all_distinct (map name (take i items)) ≡ true
+      → is_some (number_of rows n) ≡ false → Sets rows new n (Some i) → ArePlaces new (map name (take (i + 1) items)) × (all_distinct (map name (take (i + 1) items)) ≡ true)
+  distinct_step new within at is places apart none sets =
+      let names = map name (take i items) in
+      let more : map name (take (i + 1) items) ≡ names ++ n ∷ [] =
+      ap (map name) (take_more items i x within ∙ ap (λ y. take i items ++ y ∷ []) (sym at)) ∙ names_more name (take i items) x ∙ ap (λ n. names ++ n ∷ []) (sym is) in
+      let long : length names ≡ i = names_length name (take i items) ∙ length-take-le i items (omega (arith, within)) in
+      let absent = no_number (number_of rows n) none in
+      (subst (ArePlaces new) (sym more) (new_place rows new names n i long absent sets places), ap all_distinct more ∙ distinct_more names n apart (sym (places n) ∙ absent))
+
+  pub distinct_end : i < length items → x ≡ get_or items i x → n ≡ name x → ArePlaces rows (map name (take i items)) → is_some (number_of rows n) ≡ true → all_distinct (map name items) ≡ false
+  distinct_end within at is places some =
+      let names = map name (take i items) in
+      let rest = map name (drop (i + 1) items) in
+      let whole : map name items ≡ names ++ n ∷ rest =
+      ap (map name) (sym (take-append-drop i items) ∙ ap (λ l. take i items ++ l) (split_at items i x within at)) ∙ map-append name (take i items) (x ∷ drop (i + 1) items) ∙ ap (λ n. names ++ n ∷ rest) (sym is) in
+      ap all_distinct whole ∙ by (place_of names n) refl (ap is_some (sym (places n)) ∙ some)
+    where
+      by : (o : Option ℕ) → place_of (map name (take i items)) n ≡ o → is_some o ≡ true → all_distinct (map name (take i items) ++ n ∷ map name (drop (i + 1) items)) ≡ false
+      by None at some = absurd (true≢false (sym some))
+      by (Some j) at some = distinct_none (map name (take i items)) n (map name (drop (i + 1) items)) j at

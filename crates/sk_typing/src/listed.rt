@@ -4,7 +4,7 @@ ghost use Rattle.sk_types.specs.Scope.{place_of, all_distinct};
 ghost use Rattle.sk_typing.specs.Tables.{ArePlaces};
 
 use crate::numbers::Numbers;
-use sk_base::{List, Name};
+use sk_base::Name;
 use std::alloc::{AllocError, Global};
 use std::marker::Model;
 
@@ -70,11 +70,11 @@ impl<T: Named + Drop> Listed<T> {
         self.items.as_slice()
     }
 
-    /// The items as a list alone.
-    pub fn into_items(self) -> List<T>
-        ensures { result ≡ self }
+    /// The items alone.
+    pub fn into_vec(self) -> Vec<T>
+        ensures { result.items ≡ self }
     {
-        List::from_vec(self.items)
+        self.items
     }
 
     /// The place of the first item of this name.
@@ -105,10 +105,11 @@ pub fn are_distinct<T: Named>(alloc: Global, items: &[T]) -> Result<bool, AllocE
 {
     let mut places = Numbers::new(alloc);
     for (i, item) in items.iter().enumerate() {
-        if places.get(item.name()).is_some() {
+        let name = item.name();
+        if places.get(name).is_some() {
             return Ok(false);
         }
-        places.put(item.name(), i)?;
+        places.put(name, i)?;
     }
     Ok(true)
 }
