@@ -62,4 +62,6 @@ pub ruleset adding = (append_none, map_added)
 
 pub ruleset rows = (split_at, one_more)
 
+pub ruleset defs = (append_none, one_more)
+
 pub ruleset naming = (split_at, named_next, joined_none)
