@@ -1,5 +1,5 @@
 -- Which spans stand in a tree: those of its expressions and of its statements.
-use Rattle.std.specs.Prelude.{nat_eq, Bool, true, false, ◌&&◌, ◌||◌, List, map, Option, Some, None, IsTrue}
+use Rattle.std.specs.Prelude.{◌≡◌, ◌⊎◌, nat_eq, Bool, true, false, ◌&&◌, ◌||◌, List, map, Option, Some, None, IsTrue}
 use Rattle.std.specs.List.{list_any}
 use Rattle.sk_base.specs.declared.span.Span.{Span}
 use Rattle.sk_tree.specs.declared.expr.Expr.{Expr}
@@ -26,9 +26,9 @@ use Rattle.sk_check.specs.declared.fault.Typing.TheVariants.{Fault, Memory}
 abbrev pub same_span : Span → Span → Bool
 same_span a b = nat_eq a.from b.from && nat_eq a.to b.to
 
--- 0 to 0, which is no place
-abbrev pub is_nowhere : Span → Bool
-is_nowhere a = nat_eq a.from 0 && nat_eq a.to 0
+-- which is no place
+abbrev pub nowhere : Span
+nowhere = record { from = 0; to = 0 }
 
 abbrev pub some_yes : List Bool → Bool
 some_yes bs = list_any is_yes bs
@@ -128,4 +128,4 @@ module _ (s : Span) where
 -- The place of a fault stands in the tree, or it is none.
 abbrev pub IsPlaced : Tree → Typing → Type 0
 IsPlaced tree Memory = Unit {0}
-IsPlaced tree (Fault f) = IsTrue (is_nowhere f.span || tree_has f.span tree)
+IsPlaced tree (Fault f) = IsTrue (tree_has f.span tree) ⊎ (f.span ≡ nowhere)

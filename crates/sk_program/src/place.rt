@@ -3,7 +3,7 @@ ghost use Rattle.std.specs.Prelude.{◌≡◌, Option, map, option_map};
 ghost use Rattle.std.specs.List.{list_any};
 ghost use Rattle.sk_prog.specs.declared.prog.Prog.{Prog};
 ghost use Rattle.sk_typing.specs.Gives.{Fails};
-ghost use Rattle.sk_program.specs.Places.{same_span, is_nowhere, some_yes, maybe_yes, expr_has, eform_has, field_has, any_expr_has, ty_has, declared_has, stmt_has, form_has, any_ty_has, param_has, struct_field_has, fun_has, item_has, tree_has, IsPlaced};
+ghost use Rattle.sk_program.specs.Places.{same_span, some_yes, maybe_yes, expr_has, eform_has, field_has, any_expr_has, ty_has, declared_has, stmt_has, form_has, any_ty_has, param_has, struct_field_has, fun_has, item_has, tree_has, IsPlaced};
 
 use crate::signature::NOWHERE;
 use sk_base::{Boxed, Span};
