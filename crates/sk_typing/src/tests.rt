@@ -1,7 +1,10 @@
 //! Names and scopes, with ample memory.
+ghost use Rattle.std.specs.Prelude.{◌≡◌, ◌+◌, length, IfOk, OnOk};
+ghost use Rattle.sk_typing.specs.Envs.{IsNumbered, IsEnv};
+
 use crate::{BIT, Env, INT, Listed, Names, Scope, StructTable, are_distinct};
 use sk_base::{Bounds, List, Name};
-use sk_check::{Constant, Heading, Meant};
+use sk_check::{Heading, Meant};
 use sk_prog::{FieldDef, FunKind, ParamDef, Ty};
 use sk_types::{Place, Variable, ty_eq};
 use std::alloc::{AllocError, Global};
@@ -129,17 +132,66 @@ fn heading(alloc: Global, bytes: &[u8]) -> Result<Heading, AllocError> {
     })
 }
 
-// A struct R, constants c and d, functions f, g, and d once more.
-fn top(alloc: Global) -> Result<Names, AllocError> {
-    let mut top = Names::new(alloc);
-    top.structs.push(record(alloc)?)?;
-    top.consts.push(name(alloc, b"c")?)?;
-    top.consts.push(name(alloc, b"d")?)?;
-    top.funs.push(heading(alloc, b"f")?)?;
-    top.funs.push(heading(alloc, b"g")?)?;
-    top.funs.push(heading(alloc, b"d")?)?;
-    top.funs.push(heading(alloc, b"f")?)?;
-    Ok(top)
+fn add_const(alloc: Global, consts: &mut Listed<Name>, bytes: &[u8]) -> Result<(), AllocError>
+    ensures { OnOk result (length consts.new ≡ length consts.old + 1) }
+{
+    let name = name(alloc, bytes)?;
+    consts.push(name)?;
+    Ok(())
+}
+
+fn add_fun(alloc: Global, funs: &mut Listed<Heading>, bytes: &[u8]) -> Result<(), AllocError>
+    ensures { OnOk result (length funs.new ≡ length funs.old + 1) }
+{
+    let heading = heading(alloc, bytes)?;
+    funs.push(heading)?;
+    Ok(())
+}
+
+// The constants c and d.
+fn consts(alloc: Global) -> Result<Listed<Name>, AllocError>
+    ensures { IfOk result (λ consts. length consts ≡ 2) }
+{
+    let mut consts = Listed::new(alloc);
+    add_const(alloc, &mut consts, b"c")?;
+    add_const(alloc, &mut consts, b"d")?;
+    Ok(consts)
+}
+
+// The functions f and g, one that is named as a constant, and f once more.
+fn funs(alloc: Global) -> Result<Listed<Heading>, AllocError>
+    ensures { IfOk result (λ funs. length funs ≡ 4) }
+{
+    let mut funs = Listed::new(alloc);
+    add_fun(alloc, &mut funs, b"f")?;
+    add_fun(alloc, &mut funs, b"g")?;
+    add_fun(alloc, &mut funs, b"d")?;
+    add_fun(alloc, &mut funs, b"f")?;
+    Ok(funs)
+}
+
+// The struct R, and these constants and functions.
+fn top(alloc: Global) -> Result<Names, AllocError>
+    ensures { IfOk result (λ top. IsNumbered top) }
+{
+    let mut structs = Listed::new(alloc);
+    let record = record(alloc)?;
+    structs.push(record)?;
+    let consts = consts(alloc)?;
+    let funs = funs(alloc)?;
+    Ok(Names {
+        structs,
+        consts,
+        funs,
+    })
+}
+
+// What a name means at the top.
+fn meant(alloc: Global, top: &Names, bytes: &[u8]) -> Result<Meant, AllocError>
+    requires { IsNumbered top.now }
+{
+    let name = name(alloc, bytes)?;
+    Ok(top.meaning(&name))
 }
 
 fn is_struct(meant: Meant, number: u32) -> bool {
@@ -178,41 +230,60 @@ fn is_nothing(meant: Meant) -> bool {
 }
 
 #[test]
-fn names_at_the_top(rt: HostRuntime) -> Result<(), AllocError> {
+fn structs_and_constants_at_the_top(rt: HostRuntime) -> Result<(), AllocError> {
     let alloc = rt.alloc();
     let top = top(alloc)?;
-    assert!(rt; is_struct(top.meaning(&name(alloc, b"R")?), 0));
-    assert!(rt; is_constant(top.meaning(&name(alloc, b"c")?), 0));
-    assert!(rt; is_constant(top.meaning(&name(alloc, b"d")?), 1));
-    assert!(rt; is_function(top.meaning(&name(alloc, b"f")?), 0));
-    assert!(rt; is_function(top.meaning(&name(alloc, b"g")?), 1));
-    assert!(rt; is_nothing(top.meaning(&name(alloc, b"x")?)));
-    assert!(rt; is_nothing(top.meaning(&name(alloc, b"")?)));
+    assert!(rt; is_struct(meant(alloc, &top, b"R")?, 0));
+    assert!(rt; is_constant(meant(alloc, &top, b"c")?, 0));
+    assert!(rt; is_constant(meant(alloc, &top, b"d")?, 1));
     Ok(())
+}
+
+#[test]
+fn functions_at_the_top(rt: HostRuntime) -> Result<(), AllocError> {
+    let alloc = rt.alloc();
+    let top = top(alloc)?;
+    assert!(rt; is_function(meant(alloc, &top, b"f")?, 0));
+    assert!(rt; is_function(meant(alloc, &top, b"g")?, 1));
+    Ok(())
+}
+
+#[test]
+fn nothing_at_the_top(rt: HostRuntime) -> Result<(), AllocError> {
+    let alloc = rt.alloc();
+    let top = top(alloc)?;
+    assert!(rt; is_nothing(meant(alloc, &top, b"x")?));
+    assert!(rt; is_nothing(meant(alloc, &top, b"")?));
+    assert!(rt; is_nothing(meant(alloc, &top, b"ff")?));
+    Ok(())
+}
+
+// What a name means where a variable of this name is entered, and where it has left.
+fn hidden(env: &Env, bytes: &[u8]) -> Result<(Meant, Meant), AllocError>
+    requires { IsEnv env.now }
+{
+    let f = name(env.alloc, bytes)?;
+    let mut scope = Scope::new(env.alloc);
+    enter(env.alloc, &mut scope, bytes, INT)?;
+    let inside = env.meaning(&scope, &f);
+    scope.leave(0);
+    Ok((inside, env.meaning(&scope, &f)))
 }
 
 #[test]
 fn variables_hide_what_stands_at_the_top(rt: HostRuntime) -> Result<(), AllocError> {
     let alloc = rt.alloc();
     let top = top(alloc)?;
-    let mut known = Listed::new(alloc);
-    known.push(Constant {
-        name: name(alloc, b"c")?,
-        number: 7,
-    })?;
+    let known = Listed::new(alloc);
     let env = Env {
         alloc,
         bounds: BOUNDS,
         top: &top,
         known: &known,
     };
-    let f = name(alloc, b"f")?;
-    let mut scope = Scope::new(alloc);
-    assert!(rt; is_function(env.meaning(&scope, &f), 0));
-    enter(alloc, &mut scope, b"f", INT)?;
-    assert!(rt; is_variable(env.meaning(&scope, &f), 0));
-    scope.leave(0);
-    assert!(rt; is_function(env.meaning(&scope, &f), 0));
+    let (inside, behind) = hidden(&env, b"f")?;
+    assert!(rt; is_variable(inside, 0));
+    assert!(rt; is_function(behind, 0));
     Ok(())
 }
 
