@@ -6,5 +6,4 @@ pub mod Stmts
 pub mod Spelt
 pub mod Read
 pub mod Whole
-pub mod Words
 pub mod Named

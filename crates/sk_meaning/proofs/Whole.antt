@@ -1,10 +1,7 @@
--- What a text means keeps the rules, and is well-formed.
-use Rattle.sk_fits.proofs.Whole.{well_formed}
+-- What a text means keeps the rules.
 use Rattle.sk_meaning.specs.Meaning.{TextsKeepRules}
-use Rattle.sk_meaning.specs.WellFormed.{TextsAreWellFormed}
 use Rattle.sk_meaning.proofs.Stmts.{patterns_are_held}
 use Rattle.sk_meaning.proofs.Read.{tree_whole}
-use Rattle.sk_meaning.proofs.Named.{tree_named}
 
 pub texts_keep : TextsKeepRules
 texts_keep set text tree bounds prog typed =
@@ -15,8 +12,3 @@ texts_keep set text tree bounds prog typed =
       types = typed.types;
       patterns = patterns_are_held tree bounds prog typed.types (tree_whole tree (typed.reads).tokens (r.reads).spelt r.few r.good);
     }
-
-pub texts_fit : TextsAreWellFormed
-texts_fit set text tree bounds prog typed =
-    let r = (typed.reads).reads in
-    well_formed bounds tree prog (tree_named text (typed.reads).tokens tree (typed.reads).lexed (r.reads).spelt) typed.types

@@ -1,13 +1,13 @@
-//! The laws of what a text means.
+//! Laws of what a text means.
 ghost use Rattle.sk_meaning.specs.Meaning.{TextsKeepRules};
-ghost use Rattle.sk_meaning.specs.WellFormed.{TextsAreWellFormed};
+ghost use Rattle.sk_meaning.specs.Named.{TextsAreNamed};
 
 /// What a text means keeps the rules.
 pub fn texts_keep_rules()
     ensures { TextsKeepRules }
 {}
 
-/// What a text means is well-formed.
-pub fn texts_are_well_formed()
-    ensures { TextsAreWellFormed }
+/// The names of the tree as which a text reads are words and no keywords.
+pub fn texts_are_named()
+    ensures { TextsAreNamed }
 {}

@@ -1,4 +1,4 @@
-//! One harness of the early language, from bytes to bytes.
+//! Sketches, from bytes to bytes.
 use sk_app::{Ending, TextFault, message, run, status};
 use sk_base::{CalmSink, CalmSource, List, MemSink, MemSource, Span};
 use sk_check::{Rule, TypeFault};
@@ -87,27 +87,27 @@ fn wraps_at_sixteen_bits(rt: HostRuntime) -> Result<(), Fail> {
 }
 
 #[test]
-fn refuses_what_is_not_taken(rt: HostRuntime) -> Result<(), Fail> {
-    let texts: [&[u8]; 8] = [
-        b"",
-        b"void f() { }",
-        b"harness int f() { }",
-        b"harness void f(bit x) { }",
-        b"harness void f(int x) { x = x + x + x; }",
-        b"harness void f(int x) { x = {| x | ?? + x |}; }",
-        b"int N = 2; harness void f(int x) { x = N; }",
-        b"harness void f(int x) { } harness void g(int x) { }",
+fn refuses_what_is_not_small(rt: HostRuntime) -> Result<(), Fail> {
+    let texts: [&[u8]; 2] = [
+        // Two holes and two inputs, of 20 bits in all.
+        b"harness void f(int a, int b) { a = ??; b = ??; }",
+        // Four inputs of 5 bits.
+        b"harness void f(int a, int b, int c, int d) { assert a == b; }",
     ];
     for text in texts {
         expect_synth(&rt, rt.alloc(), text, Ending::NotBuilt, b"")?;
     }
-    // Two holes and two inputs, of 20 bits in all.
+    Ok(())
+}
+
+#[test]
+fn completes_what_holds_nothing(rt: HostRuntime) -> Result<(), Fail> {
     expect_synth(
         &rt,
         rt.alloc(),
-        b"harness void f(int a, int b) { a = ??; b = ??; }",
-        Ending::NotBuilt,
         b"",
+        Ending::Completed,
+        b"//@ completion\n//@ value 0\n//@ holes\n",
     )
 }
 
@@ -278,7 +278,13 @@ fn shows_the_help_and_the_version(rt: HostRuntime) -> Result<(), Fail> {
 fn takes_a_text_of_a_mebibyte(rt: HostRuntime) -> Result<(), Fail> {
     let alloc = rt.alloc();
     let mut text = vec![in alloc; 32u8; 1_048_576]?;
-    expect_synth(&rt, alloc, text.as_slice(), Ending::NotBuilt, b"")?;
+    expect_synth(
+        &rt,
+        alloc,
+        text.as_slice(),
+        Ending::Completed,
+        b"//@ completion\n//@ value 0\n//@ holes\n",
+    )?;
     text.push(32)?;
     expect_synth(&rt, alloc, text.as_slice(), Ending::TooLong, b"")
 }
