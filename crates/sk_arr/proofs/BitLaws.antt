@@ -1,5 +1,5 @@
 -- Lists of bits, and what they are seen as.
-use Rattle.std.proofs.Common.{◌≡◌, ℕ, zero, suc, ◌+◌, ◌<◌, Bool, false, List, [], ◌∷◌, ◌++◌, length, map, drop, get_or, slice_get, Some, All, refl, sym, ap, subst, ◌∙◌, arith}
+use Rattle.std.proofs.Common.{◌≡◌, ℕ, zero, suc, ◌<◌, Bool, false, List, [], ◌∷◌, ◌++◌, length, map, get_or, slice_get, Some, All, sym, ap, ◌∙◌, arith}
 use Rattle.std.specs.Prelude.{option_map}
 use Rattle.std.proofs.lemmas.Option.{same_Some, slice_get-map, slice_get-get_or}
 use Rattle.std.proofs.lemmas.List.Elements.{All-nil}
@@ -15,7 +15,7 @@ use Rattle.sk_dag.specs.Graph.{Graph}
 use Rattle.sk_dag.specs.Eval.{bool_value}
 use Rattle.sk_dag.specs.EvalShape.{shape_value}
 use Rattle.sk_arr.specs.Forms.{IsBit}
-use Rattle.sk_arr.specs.Shapes.{blank, Alike, AlikeTo, AllAlike}
+use Rattle.sk_arr.specs.Shapes.{blank, Alike, AllAlike}
 use Rattle.sk_arr.specs.Answers.{shapes_value}
 use Rattle.sk_arr.specs.Bits.{seen_bits, AreBits}
 use Rattle.sk_arr.proofs.Values.{value_bit, blank_bit, length_map, all_push}

@@ -1,6 +1,6 @@
 -- One of two shapes, part by part.
 use Rattle.std.proofs.lemmas.List.{take_more, take_all}
-use Rattle.std.proofs.Common.{◌≡◌, ℕ, zero, suc, ◌+◌, ◌<◌, ◌≤◌, arith, Bool, true, false, List, [], ◌∷◌, ◌++◌, length, map, take, get_or, None, All, IsTrue, refl, sym, ap, subst, ◌∙◌, if◌then◌else◌}
+use Rattle.std.proofs.Common.{◌≡◌, ℕ, zero, suc, ◌+◌, ◌<◌, ◌≤◌, arith, Bool, true, false, List, [], ◌∷◌, ◌++◌, length, map, take, get_or, None, IsTrue, refl, sym, ap, subst, ◌∙◌, if◌then◌else◌}
 use Rattle.std.proofs.lemmas.List.Elements.{All-nil}
 use Rattle.sk_dag.specs.declared.env.Env.{Env}
 use Rattle.sk_dag.specs.declared.node.BoolId.{BoolId}
@@ -12,10 +12,10 @@ use Rattle.sk_dag.specs.declared.shape.Shape.{Shape}
 use Rattle.sk_dag.specs.declared.shape.Shape.TheVariants as shape
 use Rattle.sk_dag.specs.Graph.{Graph, Grows, HasBool, HasWord}
 use Rattle.sk_dag.specs.Eval.{bool_value, word_value, Keeps}
-use Rattle.sk_dag.specs.EvalShape.{shape_value, held_slot}
+use Rattle.sk_dag.specs.EvalShape.{shape_value}
 use Rattle.sk_dag.proofs.EvalLemmas.{Grows-refl}
-use Rattle.sk_arr.specs.Held.{held_in, AllIn, AllPass, AreMerged}
-use Rattle.sk_arr.specs.Shapes.{blank, Alike, Stands, AllStand, SlotsPass, AllSlotsPass}
+use Rattle.sk_arr.specs.Held.{held_in, AreMerged}
+use Rattle.sk_arr.specs.Shapes.{blank, Alike, Stands, AllStand}
 use Rattle.sk_arr.specs.Answers.{shapes_value, IsCopy, IsChoice, AreChoices}
 use Rattle.sk_arr.proofs.Makers.{Keeps-refl}
 use Rattle.sk_arr.proofs.Targets.{first_of, held_slot_first}

@@ -1,17 +1,15 @@
 -- Copies of shapes.
 use Rattle.std.proofs.lemmas.List.{take_more}
-use Rattle.std.proofs.Common.{◌≡◌, ℕ, ◌+◌, ◌<◌, ◌≤◌, Bool, List, [], ◌∷◌, ◌++◌, length, map, take, get_or, All, refl, sym, ap, subst, ◌∙◌}
-use Rattle.sk_dag.specs.declared.env.Env.{Env}
+use Rattle.std.proofs.Common.{◌≡◌, ℕ, ◌+◌, ◌<◌, ◌≤◌, List, [], ◌∷◌, ◌++◌, length, take, get_or, refl, sym, ap, subst, ◌∙◌}
 use Rattle.sk_dag.specs.declared.shape.Targets.{Targets}
-use Rattle.sk_dag.specs.declared.shape.Seen.{Seen}
 use Rattle.sk_dag.specs.declared.shape.Seen.TheVariants.{Slot as SeenSlot, Array as SeenArray}
 use Rattle.sk_dag.specs.declared.shape.Shape.{Shape}
 use Rattle.sk_dag.specs.declared.shape.Shape.TheVariants as shape
 use Rattle.sk_dag.specs.Graph.{Graph}
 use Rattle.sk_dag.specs.EvalShape.{shape_value, held_slot}
 use Rattle.sk_arr.specs.Held.{held_in, AllIn, AllPass}
-use Rattle.sk_arr.specs.Shapes.{blank, Stands, AllStand, SlotsPass, AllSlotsPass}
-use Rattle.sk_arr.specs.Answers.{shapes_value, IsCopy, AreCopies}
+use Rattle.sk_arr.specs.Shapes.{blank, Stands, AllStand}
+use Rattle.sk_arr.specs.Answers.{IsCopy, AreCopies}
 use Rattle.sk_arr.proofs.Standing.{reference_stands, targets_there, targets_few, array_stands, parts_stand}
 use Rattle.sk_arr.proofs.Values.{value_reference, value_array, blank_reference, blank_array, reference_passes, targets_pass, array_passes, parts_pass, map_push, stand_none, stand_push, passes_push, passes_front, passes_last, stand_front, stand_last}
 

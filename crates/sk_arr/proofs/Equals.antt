@@ -1,5 +1,5 @@
 -- When two shapes are equal.
-use Rattle.std.proofs.Common.{◌≡◌, ℕ, zero, suc, ◌+◌, ◌<◌, ◌≤◌, Bool, true, false, true≢false, not, ◌&&◌, ◌||◌, List, [], ◌∷◌, ◌++◌, length, map, take, get_or, Option, Some, None, ℤ, All, refl, sym, ap, subst, ◌∙◌, arith, if◌then◌else◌}
+use Rattle.std.proofs.Common.{◌≡◌, ℕ, zero, suc, ◌+◌, ◌<◌, ◌≤◌, Bool, true, false, true≢false, not, ◌&&◌, ◌||◌, List, [], ◌∷◌, ◌++◌, length, map, take, get_or, Option, Some, None, ℤ, refl, sym, ap, subst, ◌∙◌, arith, if◌then◌else◌}
 use Rattle.std.specs.Prelude.{◌==◌, ◌↔◌}
 use Rattle.std.specs.Ordering.{int_eq}
 use Rattle.std.proofs.lemmas.Bool.{eqb-true, eq-eqb}
@@ -19,7 +19,7 @@ use Rattle.sk_dag.specs.declared.shape.Shape.{Shape}
 use Rattle.sk_dag.specs.declared.shape.Shape.TheVariants as shape
 use Rattle.sk_dag.specs.Graph.{Graph, Grows, HasBool}
 use Rattle.sk_dag.specs.Eval.{bool_value, word_value, Keeps}
-use Rattle.sk_dag.specs.EvalShape.{shape_value, held_slot}
+use Rattle.sk_dag.specs.EvalShape.{shape_value}
 use Rattle.sk_dag.proofs.EvalLemmas.{Keeps-grows}
 use Rattle.sk_arr.specs.Held.{held, held_in, is_some_held, is_among, have_common, AllIn}
 use Rattle.sk_arr.specs.Firsts.{IsFirst}

@@ -1,5 +1,5 @@
 -- Indexes and places.
-use Rattle.std.proofs.Common.{◌≡◌, ℕ, zero, suc, ◌+◌, ◌<◌, ◌≤◌, Bool, true, false, true≢false, not, ◌||◌, ℤ, pos, negsuc, ◌+ℤ◌, ◌<ℤ◌, ◌≤ℤ◌, refl, sym, ap, subst, ◌∙◌, arith}
+use Rattle.std.proofs.Common.{◌≡◌, ℕ, ◌≤◌, Bool, true, false, not, ◌||◌, ℤ, pos, negsuc, ◌<ℤ◌, refl, ap, subst, arith}
 use Rattle.std.specs.Prelude.{int_lt, nat_lt}
 use Rattle.std.specs.Ordering.{int_eq}
 use Rattle.std.proofs.lemmas.Int.{ints}
@@ -8,7 +8,6 @@ use Rattle.std.proofs.lemmas.Bool.Decides.{Decides-int_eq}
 use Rattle.sk_base.specs.Word.{IsWord, half}
 use Rattle.sk_base.proofs.Words.{half_pos}
 use Rattle.sk_arr.specs.Places.{is_within}
-use Rattle.sk_arr.proofs.Makers.{Keeps-refl}
 
 pub zero_word : (w : ℕ) → IsWord w (pos 0)
 zero_word w = record { low = omega (arith, ints); high = omega (arith, ints, half_pos w) }
@@ -32,8 +31,8 @@ never_at w place z h word = by (int_eq z (pos place)) refl
     by false e = refl
     by true e = let same = (Decides-int_eq z (pos place)).0 e in let high = subst (λ x. x <ℤ pos (half w)) same word.high in absurd (omega (arith, ints, high, h))
 
-pub always_below : (w count : ℕ) (z : ℤ) → half w ≤ count → IsWord w z → not (int_lt z (pos count)) ≡ false
+pub always_below : (w count : ℕ) (z : ℤ) → half w ≤ count → IsWord w z → int_lt z (pos count) ≡ true
 always_below w count (negsuc i) h word = refl
-always_below w count (pos i) h word = ap not (lt-ltb i count (omega (arith, ints, word.high, h)))
+always_below w count (pos i) h word = lt-ltb i count (omega (arith, ints, word.high, h))
 
 pub ruleset places = (zero_word, outside_is, never_at, always_below)

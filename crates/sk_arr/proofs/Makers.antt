@@ -1,6 +1,5 @@
 -- What the makers of this crate cite of the graph.
-use Rattle.std.proofs.Common.{◌≡◌, ℕ, Bool, List, refl, ap}
-use Rattle.sk_dag.specs.Graph.{Graph, Grows, HasSort}
+use Rattle.sk_dag.specs.Graph.{Graph}
 use Rattle.sk_dag.specs.Eval.{Keeps}
 use Rattle.sk_dag.proofs.EvalLemmas.{Keeps-trans, HasSort-grows, Grows-refl, read_bool, read_word}
 

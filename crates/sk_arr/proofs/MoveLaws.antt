@@ -1,5 +1,5 @@
 -- Shifts of bits.
-use Rattle.std.proofs.Common.{◌≡◌, ℕ, zero, suc, ◌+◌, ◌-◌, ◌<◌, ◌≤◌, min, Bool, true, false, List, [], ◌∷◌, ◌++◌, length, map, take, drop, get_or, slice_get, Some, ℤ, pos, All, ◌⊎◌, ⊎_elim, refl, sym, ap, subst, ◌∙◌, arith, append_assoc, append-nil, if◌then◌else◌}
+use Rattle.std.proofs.Common.{◌≡◌, ℕ, zero, suc, ◌+◌, ◌-◌, ◌<◌, ◌≤◌, min, Bool, true, false, List, [], ◌∷◌, ◌++◌, length, map, take, drop, slice_get, Some, pos, All, ⊎_elim, refl, sym, ap, subst, ◌∙◌, arith, append_assoc, append-nil, if◌then◌else◌}
 use Rattle.std.specs.Prelude.{reverse, replicate, int_lt}
 use Rattle.std.proofs.Math.Seq.{take-append_seam}
 use Rattle.std.proofs.lemmas.Bool.{cases_lt}
@@ -156,7 +156,7 @@ row_long h e row xs is = sym (bits_long h e row (xs ++ false ∷ []) is) ∙ lon
     long_push [] = refl
     long_push (x ∷ xs) = omega (arith, long_push xs)
 
-pub moved_more : {mid new : Graph} {row made : List Shape} {by : WordId} (place : ℕ) (r : Shape) → IsMovedSoFar mid row by place made → Keeps mid new → AreBits row → place + 1 < length row → IsReadFrom new (drop place row) by 0 r → IsMovedSoFar new row by (place + 1) (made ++ r ∷ [])
+pub moved_more : {mid new : Graph} {row made : List Shape} {by : WordId} (place : ℕ) (r : Shape) → IsMovedSoFar mid row by place made → Keeps mid new → AreBits row → place + 1 < length row → IsReadFrom new (drop place row) by r → IsMovedSoFar new row by (place + 1) (made ++ r ∷ [])
 moved_more {mid} {new} {row} {made} {by} place r are k bits within is = record {
   stand = stand_push made r (AllStand-keeps k are.stand) is.stands;
   bits = bits_push made r are.bits (bit_alike (is.alike.each 0 r some) (All-drop IsBit place row bits.each 0 r some));
@@ -183,7 +183,7 @@ moved_more {mid} {new} {row} {made} {by} place r are k bits within is = record {
         let tall : length (drop place row) ≡ length rest + 1 = omega (arith, length-drop place row, length-drop place xs, long, l) in
         let before : length (drop place row) - 1 ≡ length rest = omega (arith, tall) in
         let reached : shape_value h e r ≡ SeenBit (first_bit (drop n rest)) = at_end rest n (shape_value h e r)
-        (λ m. ap (λ vs. slice_get vs n) (sym seen) ∙ is.value h more e n (omega arith) (omega (arith, m, tall)) w)
+        (λ m. ap (λ vs. slice_get vs n) (sym seen) ∙ is.value h more e n (omega (arith, m, tall)) w)
         (λ m. (λ i. slice_get (sym seen i) (sym before i)) ∙ is.last h more e n (omega (arith, m, tall)) w) in
         let next : place + 1 ≡ suc place = omega arith in
         let open_one : rest ≡ first_bit rest ∷ drop (place + 1) xs = drop_first place xs l ∙ ap (λ m. first_bit rest ∷ drop m xs) (sym next) in

@@ -1,14 +1,13 @@
 -- Lists made longer.
-use Rattle.std.proofs.Common.{◌≡◌, ℕ, zero, suc, ◌+◌, ◌-◌, ◌<◌, ◌≤◌, Bool, List, [], ◌∷◌, ◌++◌, length, map, get_or, All, refl, sym, ap, subst, ◌∙◌, arith}
+use Rattle.std.proofs.Common.{◌≡◌, ℕ, zero, suc, ◌+◌, ◌-◌, List, [], ◌∷◌, ◌++◌, length, map, All, refl, sym, ap, subst, ◌∙◌, arith}
 use Rattle.std.specs.Prelude.{replicate}
-use Rattle.std.proofs.lemmas.List.{map-append, replicate_more, get_or-replicate, length-replicate}
+use Rattle.std.proofs.lemmas.List.{map-append, replicate_more}
 use Rattle.std.proofs.lemmas.List.Elements.{All-append, All-replicate}
-use Rattle.sk_dag.specs.declared.env.Env.{Env}
 use Rattle.sk_dag.specs.declared.shape.Seen.{Seen}
 use Rattle.sk_dag.specs.declared.shape.Shape.{Shape}
-use Rattle.sk_dag.specs.Graph.{Graph, Grows}
+use Rattle.sk_dag.specs.Graph.{Graph}
 use Rattle.sk_dag.specs.EvalShape.{shape_value}
-use Rattle.sk_arr.specs.Shapes.{blank, Alike, AlikeTo, Stands, AllStand, SlotsPass, AllSlotsPass}
+use Rattle.sk_arr.specs.Shapes.{blank, Alike, AlikeTo, Stands, AllStand, SlotsPass}
 use Rattle.sk_arr.specs.Answers.{shapes_value, IsCopy, AreCopies, IsPadded}
 use Rattle.sk_arr.proofs.Makers.{Keeps-refl}
 use Rattle.sk_arr.proofs.Copies.{copies_none, copies_push}

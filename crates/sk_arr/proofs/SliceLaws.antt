@@ -1,5 +1,5 @@
 -- Slices by an index.
-use Rattle.std.proofs.Common.{◌≡◌, ℕ, zero, suc, ◌+◌, ◌-◌, ◌<◌, ◌≤◌, Bool, true, false, true≢false, not, List, [], ◌∷◌, ◌++◌, length, map, take, drop, get_or, slice_get, Some, None, ℤ, pos, negsuc, All, refl, sym, ap, subst, ◌∙◌, arith, if◌then◌else◌}
+use Rattle.std.proofs.Common.{◌≡◌, ℕ, ◌+◌, ◌<◌, ◌≤◌, Bool, true, false, true≢false, not, List, [], ◌∷◌, ◌++◌, length, take, drop, get_or, slice_get, Some, None, ℤ, pos, negsuc, refl, sym, ap, subst, ◌∙◌, arith, if◌then◌else◌}
 use Rattle.std.specs.Prelude.{nat_lt, nat_le}
 use Rattle.std.proofs.lemmas.Bool.{ltb-true, ltb-false, le-leb, leb-true}
 use Rattle.std.proofs.lemmas.Option.{get_or_from_slice_get}
@@ -15,7 +15,7 @@ use Rattle.sk_dag.specs.Eval.{bool_value, word_value, Keeps}
 use Rattle.sk_dag.specs.EvalShape.{shape_value}
 use Rattle.sk_dag.proofs.EvalLemmas.{Keeps-trans}
 use Rattle.sk_arr.specs.Places.{is_within, is_slice_within, slice_of}
-use Rattle.sk_arr.specs.Shapes.{Alike, AlikeTo, AllAlike, EachAlikeTo, Stands, AllStand, SlotsPass, AllSlotsPass}
+use Rattle.sk_arr.specs.Shapes.{Alike, AlikeTo, AllAlike, Stands, AllStand, SlotsPass, AllSlotsPass}
 use Rattle.sk_arr.specs.Answers.{shapes_value, IsSliced}
 use Rattle.sk_arr.specs.Steps.{IsReadFrom, AreReadFrom}
 use Rattle.sk_arr.proofs.Makers.{Keeps-refl}
@@ -69,7 +69,7 @@ module _ (list : List Shape) (j starts : ℕ) (fits : j + starts ≤ length list
   pub window_value : (h : Graph) (e : Env) → shapes_value h e (take starts (drop j list)) ≡ take starts (drop j (shapes_value h e list))
   window_value h e = sym (take-map (shape_value h e) starts (drop j list)) ∙ ap (take starts) (sym (drop-map (shape_value h e) j list))
 
-pub windows_more : {mid new : Graph} {list made : List Shape} {from : WordId} {starts : ℕ} (j : ℕ) (r : Shape) → AreReadFrom mid list from starts j made → Keeps mid new → IsReadFrom new (take starts (drop j list)) from 0 r → j + starts ≤ length list → 1 ≤ starts → AllAlike list → AreReadFrom new list from starts (j + 1) (made ++ r ∷ [])
+pub windows_more : {mid new : Graph} {list made : List Shape} {from : WordId} {starts : ℕ} (j : ℕ) (r : Shape) → AreReadFrom mid list from starts j made → Keeps mid new → IsReadFrom new (take starts (drop j list)) from r → j + starts ≤ length list → 1 ≤ starts → AllAlike list → AreReadFrom new list from starts (j + 1) (made ++ r ∷ [])
 windows_more {mid} {new} {list} {made} {from} {starts} j r are k is fits some all = record {
   stand = stand_push made r (AllStand-keeps k are.stand) is.stands;
   alike = record { each = all_push (λ a. AlikeTo a list) made r are.alike.each (window_alike list j starts fits r some all is.alike) };
@@ -79,7 +79,7 @@ windows_more {mid} {new} {list} {made} {from} {starts} j r are k is fits some al
       map_push (shape_value h e) made r
       ∙ ap (λ vs. vs ++ shape_value h e r ∷ []) (are.value h (k.later h more) e i l w)
       ∙ sym (window_more (shapes_value h e list) i j starts (shape_value h e r) l (omega (arith, fits, l, length_map (shape_value h e) list))
-      (ap (λ vs. slice_get vs i) (sym (window_value list j starts fits h e)) ∙ is.value h more e i (omega arith) (omega (arith, l, window_long list j starts fits)) w));
+      (ap (λ vs. slice_get vs i) (sym (window_value list j starts fits h e)) ∙ is.value h more e i (omega (arith, l, window_long list j starts fits)) w));
 }
   where
     long_push : (xs : List Shape) (x : Shape) → length (xs ++ x ∷ []) ≡ length xs + 1

@@ -1,5 +1,5 @@
 -- Shapes that stand in a graph stand in what it grows to; and which references stand.
-use Rattle.std.proofs.Common.{◌≡◌, ℕ, ◌≤◌, Bool, true, List, [], length, map, ap, slice_get, get_or, Some, All, refl, sym, subst, ◌∙◌, arith}
+use Rattle.std.proofs.Common.{◌≡◌, ℕ, ◌≤◌, List, [], length, map, ap, slice_get, Some, sym, subst, ◌∙◌}
 use Rattle.std.proofs.lemmas.Option.{slice_get_within, get_or_from_slice_get}
 use Rattle.sk_dag.specs.declared.env.Env.{Env}
 use Rattle.sk_dag.specs.declared.node.BoolId.{BoolId}
@@ -13,7 +13,7 @@ use Rattle.sk_dag.specs.declared.shape.Seen.{Seen}
 use Rattle.sk_dag.specs.declared.shape.Seen.TheVariants.{Array as SeenArray}
 use Rattle.sk_dag.specs.declared.shape.Seen.TheOpen as N
 use Rattle.sk_dag.specs.declared.shape.Seen.TheViews.{out-Seen, outs-Array}
-use Rattle.sk_dag.specs.Graph.{Graph, Grows, HasSort, HasBool, HasWord, BoolSort, WordSort}
+use Rattle.sk_dag.specs.Graph.{Graph, HasBool, HasWord, BoolSort, WordSort}
 use Rattle.sk_dag.specs.Eval.{bool_value, Keeps}
 use Rattle.sk_dag.proofs.EvalLemmas.{Grows-refl, bool_value-grows}
 use Rattle.sk_arr.specs.Held.{held_in, AllIn}

@@ -1,10 +1,9 @@
 -- A sum of bits as a ripple of carries.
-use Rattle.std.proofs.Common.{◌≡◌, ℕ, zero, suc, ◌+◌, ◌-◌, ◌*◌, ◌/◌, ◌%◌, ◌<◌, ◌≤◌, Bool, true, false, ◌&&◌, ◌||◌, List, [], ◌∷◌, ◌++◌, length, map, take, drop, get_or, All, refl, sym, ap, subst, ◌∙◌, arith, append_assoc, append-nil, if◌then◌else◌}
+use Rattle.std.proofs.Common.{◌≡◌, ℕ, ◌+◌, ◌*◌, ◌/◌, ◌%◌, ◌<◌, Bool, true, false, List, [], ◌∷◌, ◌++◌, length, drop, get_or, refl, sym, ap, ◌∙◌, arith, append_assoc, append-nil, if◌then◌else◌}
 use Rattle.std.specs.Prelude.{◌==◌}
 use Rattle.std.proofs.lemmas.List.{drop_all, drop_more}
 use Rattle.sk_dag.specs.declared.env.Env.{Env}
 use Rattle.sk_dag.specs.declared.node.BoolId.{BoolId}
-use Rattle.sk_dag.specs.declared.shape.Seen.{Seen}
 use Rattle.sk_dag.specs.declared.shape.Seen.TheVariants.{Bit as SeenBit}
 use Rattle.sk_dag.specs.declared.shape.Shape.{Shape}
 use Rattle.sk_dag.specs.declared.shape.Shape.TheVariants as shape
@@ -18,7 +17,7 @@ use Rattle.sk_arr.specs.Answers.{shapes_value}
 use Rattle.sk_arr.specs.Bits.{seen_bits, AreBits, xor, carried, IsAddedBit, IsSum}
 use Rattle.sk_arr.proofs.Makers.{Keeps-refl}
 use Rattle.sk_arr.proofs.Standing.{AllStand-keeps, bit_stands, bit_there}
-use Rattle.sk_arr.proofs.Values.{value_bit, map_push, length_map, stand_none, stand_push}
+use Rattle.sk_arr.proofs.Values.{value_bit, map_push, stand_none, stand_push}
 use Rattle.sk_arr.proofs.BitLaws.{is_bit, bits_none, bits_push, bits_long, bit_at, bit_value}
 
 abbrev pub one : Bool → ℕ

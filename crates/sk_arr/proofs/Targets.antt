@@ -1,10 +1,10 @@
 -- The targets that hold: of lists that are joined, of two lists walked together, and when at most one does.
-use Rattle.std.proofs.Common.{◌≡◌, ℕ, zero, suc, ◌+◌, ◌<◌, ◌≤◌, Bool, true, false, true≢false, List, [], ◌∷◌, ◌++◌, length, slice_get, Option, Some, None, All, IsTrue, refl, sym, ap, subst, ◌∙◌, arith, append_assoc, append-nil, if◌then◌else◌}
+use Rattle.std.proofs.Common.{◌≡◌, ℕ, zero, suc, ◌+◌, ◌<◌, ◌≤◌, Bool, true, false, true≢false, List, [], ◌∷◌, ◌++◌, length, slice_get, Option, Some, None, IsTrue, refl, sym, ap, subst, ◌∙◌, arith, append_assoc, append-nil, if◌then◌else◌}
 use Rattle.std.proofs.lemmas.Option.{none-some, same_Some}
 use Rattle.std.proofs.lemmas.List.Elements.{All-nil, All-cons, All-tail, All-head, All-append}
 use Rattle.sk_dag.specs.declared.env.Env.{Env}
 use Rattle.sk_dag.specs.declared.node.BoolId.{BoolId}
-use Rattle.sk_dag.specs.Graph.{Graph, Grows, HasBool}
+use Rattle.sk_dag.specs.Graph.{Graph, HasBool}
 use Rattle.sk_dag.specs.Eval.{bool_value, Keeps}
 use Rattle.sk_dag.specs.EvalShape.{held_slot}
 use Rattle.sk_arr.specs.Held.{held, held_in, held_by, with_target, guard_in, AllIn, AllPass, IsAdded, AreMerged, IsNext}

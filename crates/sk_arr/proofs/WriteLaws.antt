@@ -1,5 +1,5 @@
 -- Writes by an index, under a guard.
-use Rattle.std.proofs.Common.{◌≡◌, ℕ, zero, suc, ◌+◌, ◌<◌, ◌≤◌, Bool, true, false, true≢false, not, ◌&&◌, List, [], ◌∷◌, ◌++◌, length, map, take, get_or, ℤ, pos, negsuc, All, refl, sym, ap, subst, ◌∙◌, arith, if◌then◌else◌}
+use Rattle.std.proofs.Common.{◌≡◌, ℕ, zero, suc, ◌+◌, ◌<◌, ◌≤◌, Bool, true, false, true≢false, not, ◌&&◌, List, [], ◌∷◌, ◌++◌, length, take, get_or, ℤ, pos, negsuc, refl, sym, ap, subst, ◌∙◌, arith, if◌then◌else◌}
 use Rattle.std.specs.Prelude.{slice_set}
 use Rattle.std.proofs.lemmas.List.{take_more, take_all}
 use Rattle.std.specs.Ordering.{int_eq}
@@ -14,7 +14,7 @@ use Rattle.sk_dag.specs.Eval.{bool_value, word_value, Keeps}
 use Rattle.sk_dag.specs.EvalShape.{shape_value}
 use Rattle.sk_dag.proofs.EvalLemmas.{Keeps-trans}
 use Rattle.sk_arr.specs.Places.{is_within, replaced_at}
-use Rattle.sk_arr.specs.Shapes.{blank, Alike, Stands, AllStand, SlotsPass, AllSlotsPass}
+use Rattle.sk_arr.specs.Shapes.{blank, Alike}
 use Rattle.sk_arr.specs.Answers.{shapes_value, IsChoice, IsWritten}
 use Rattle.sk_arr.specs.Steps.{IsWrittenAt, AreWritten}
 use Rattle.sk_arr.proofs.Makers.{Keeps-refl}

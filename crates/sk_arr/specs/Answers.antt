@@ -1,7 +1,7 @@
 -- What the calls answer. Each record says what the answer is worth in every graph that the graph of the answer grows
 -- to, in every environment; that it may be handed in again; of which form it is; and that each slot that it names is
 -- named in an argument.
-use Rattle.std.specs.Prelude.{◌≡◌, ◌++◌, ◌-◌, replicate, ℕ, Bool, true, false, not, List, length, All, map, Some, if◌then◌else◌, ◌↔◌}
+use Rattle.std.specs.Prelude.{◌≡◌, ◌++◌, ◌-◌, replicate, ℕ, Bool, true, false, not, List, length, map, Some, if◌then◌else◌, ◌↔◌}
 use Rattle.sk_dag.specs.declared.env.Env.{Env}
 use Rattle.sk_dag.specs.declared.node.BoolId.{BoolId}
 use Rattle.sk_dag.specs.declared.node.WordId.{WordId}

@@ -1,5 +1,5 @@
 -- Lists of bits as numbers, bit 0 first: what sums and shifts of them answer. Bits name no slot.
-use Rattle.std.specs.Prelude.{◌≡◌, ℕ, suc, ℤ, pos, int_lt, Bool, false, not, ◌&&◌, ◌||◌, List, [], ◌∷◌, ◌++◌, length, reverse, All, map, if◌then◌else◌}
+use Rattle.std.specs.Prelude.{◌≡◌, ℕ, suc, pos, int_lt, Bool, false, not, ◌&&◌, ◌||◌, List, [], ◌∷◌, ◌++◌, length, reverse, All, map, if◌then◌else◌}
 use Rattle.sk_model.specs.Operators.{sum_of, moved_up, moved_down}
 use Rattle.sk_dag.specs.declared.env.Env.{Env}
 use Rattle.sk_dag.specs.declared.node.BoolId.{BoolId}

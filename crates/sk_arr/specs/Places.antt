@@ -1,5 +1,5 @@
 -- What an index and a slice name in a list of values, and the list with one value replaced.
-use Rattle.std.specs.Prelude.{ℕ, ◌+◌, ℤ, pos, negsuc, Bool, true, false, List, length, take, drop, slice_get, slice_set, Option, Some, None, nat_lt, nat_le, if◌then◌else◌}
+use Rattle.std.specs.Prelude.{ℕ, ◌+◌, ℤ, pos, negsuc, Bool, false, List, length, take, drop, slice_get, slice_set, Option, Some, None, nat_lt, nat_le, if◌then◌else◌}
 use Rattle.sk_dag.specs.declared.shape.Seen.{Seen}
 
 -- whether the index names one of so many

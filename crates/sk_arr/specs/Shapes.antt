@@ -1,5 +1,5 @@
 -- Which shapes are alike, which may be handed in and are answered, and which slots a shape names.
-use Rattle.std.specs.Prelude.{◌≡◌, ℕ, pos, false, Bool, List, [], ◌∷◌, None, All, IsTrue, ⊤}
+use Rattle.std.specs.Prelude.{◌≡◌, ℕ, pos, false, Bool, List, None, All, IsTrue, ⊤}
 use Rattle.sk_dag.specs.declared.shape.Shape.{Shape}
 use Rattle.sk_dag.specs.declared.shape.Shape.TheOpen.{Shape-F, Bit, Int, Reference, Array}
 use Rattle.sk_dag.specs.declared.shape.Shape.TheFolds.{fold-Shape, every-Shape}

@@ -1,6 +1,6 @@
 //! Elements that an index names.
 
-ghost use Rattle.std.specs.Prelude.{◌≡◌, ◌≤◌, ◌<◌, ◌||◌, not, pos, length, IfOk, MatchOption, All, map, int_lt, ◌+◌};
+ghost use Rattle.std.specs.Prelude.{◌≡◌, ◌≤◌, ◌<◌, ◌||◌, not, pos, length, IfOk, MatchOption, All, map, int_lt, ◌+◌, ◌/◌};
 ghost use Rattle.std.specs.Ordering.{int_eq};
 ghost use Rattle.sk_base.specs.Word.{IsWord, half};
 ghost use Rattle.sk_dag.specs.declared.env.Env.{Env};
@@ -9,7 +9,7 @@ ghost use Rattle.sk_dag.specs.Eval.{bool_value, word_value, Keeps};
 ghost use Rattle.sk_arr.specs.Places.{is_within};
 ghost use Rattle.sk_arr.specs.Shapes.{Alike, AlikeTo, AllAlike, Stands, AllStand};
 ghost use Rattle.sk_arr.specs.Answers.{IsChoice, IsRead, IsWritten};
-ghost use Rattle.sk_arr.specs.Steps.{IsReadFrom, IsWrittenAt, AreWritten};
+ghost use Rattle.sk_arr.specs.Steps.{IsBefore, IsReadAmong, IsReadFrom, IsWrittenAt, AreWritten};
 
 use crate::choice::choose;
 use crate::copy::copy;
@@ -91,8 +91,30 @@ fn is_at(dag: &mut Dag, index: WordId, place: usize) -> Result<BoolId, AllocErro
     }
 }
 
-/// Whether the index is at or past the end of a list of so many.
+/// Whether the index is below this place in a list.
 #[tactic(auto, using(crate::proofs::Indexes::places))]
+fn is_before(dag: &mut Dag, index: WordId, place: usize) -> Result<BoolId, AllocError>
+    requires { HasWord dag.old.nodes index }
+    ensures keeps { Keeps dag.old dag.new }
+    ensures there { IfOk result (λ r. HasBool dag.new.nodes r) }
+    ensures value { IfOk result (λ r. (g : Graph) → Grows dag.new g → (e : Env) →
+        bool_value g e r ≡ int_lt (word_value g e index) (pos place)) }
+{
+    let _range = number_of(dag, index);
+    match word_of_place(dag.int_bits(), place) {
+        Some(n) => {
+            let r = is_below(dag, index, n)?;
+            Ok(r)
+        }
+        None => {
+            let r = dag.flag(true)?;
+            Ok(r)
+        }
+    }
+}
+
+/// Whether the index is at or past the end of a list of so many.
+#[tactic(auto, using(crate::proofs::Makers::staying))]
 fn is_past(dag: &mut Dag, index: WordId, count: usize) -> Result<BoolId, AllocError>
     requires { HasWord dag.old.nodes index }
     ensures keeps { Keeps dag.old dag.new }
@@ -100,18 +122,9 @@ fn is_past(dag: &mut Dag, index: WordId, count: usize) -> Result<BoolId, AllocEr
     ensures value { IfOk result (λ r. (g : Graph) → Grows dag.new g → (e : Env) →
         bool_value g e r ≡ not (int_lt (word_value g e index) (pos count))) }
 {
-    let _range = number_of(dag, index);
-    match word_of_place(dag.int_bits(), count) {
-        Some(n) => {
-            let below = is_below(dag, index, n)?;
-            let r = opposite(dag, below)?;
-            Ok(r)
-        }
-        None => {
-            let r = dag.flag(false)?;
-            Ok(r)
-        }
-    }
+    let before = is_before(dag, index, count)?;
+    let r = opposite(dag, before)?;
+    Ok(r)
 }
 
 /// Whether the index leaves a list of so many.
@@ -129,56 +142,79 @@ pub(crate) fn is_outside(dag: &mut Dag, index: WordId, count: usize) -> Result<B
     Ok(r)
 }
 
-/// `a` where the test holds, else `b`.
-#[tactic(auto, using(crate::proofs::ReadLaws::picks))]
-fn pick(
+/// One of two elements: what is read among the first half of so many, or among the others, by the test whether the
+/// index is below the second half.
+#[cycle(among)]
+#[tactic(auto, using(crate::proofs::ReadLaws::reads))]
+fn among_halves(
     alloc: Global,
     dag: &mut Dag,
+    list: &[Shape],
+    index: WordId,
+    low: usize,
+    count: usize,
     test: BoolId,
-    a: &Shape,
-    b: Shape,
 ) -> Result<Shape, AllocError>
-    requires test { HasBool dag.old.nodes test }
-    requires a { Stands dag.old a.now }
-    requires b { Stands dag.old b }
-    requires alike { Alike a.now b }
+    requires index { HasWord dag.old.nodes index }
+    requires list { AllStand dag.old list.now }
+    requires alike { AllAlike list.now }
+    requires some { 2 ≤ count }
+    requires within { low + count ≤ length list.now }
+    requires test { IsBefore dag.old index (low + count / 2) test }
     ensures keeps { Keeps dag.old dag.new }
-    ensures choice { IfOk result (λ r. IsChoice dag.new test a.now b r) }
+    ensures read { IfOk result (λ r. IsReadAmong dag.new list.now index low count r) }
 {
+    let half = count / 2;
+    let a = among(alloc, dag, list, index, low, half)?;
+    let b = among(alloc, dag, list, index, low + half, count - half)?;
+    let r = choose(alloc, dag, test, &a, &b)?;
+    Ok(r)
+}
+
+/// The element that the index names among so many from `low` on, or the last of these where it is above them. Halves
+/// them, so that the choices stand in a tree; where the index is given, no element is chosen.
+#[cycle(among)]
+#[tactic(auto, using(crate::proofs::ReadLaws::reads))]
+fn among(
+    alloc: Global,
+    dag: &mut Dag,
+    list: &[Shape],
+    index: WordId,
+    low: usize,
+    count: usize,
+) -> Result<Shape, AllocError>
+    requires index { HasWord dag.old.nodes index }
+    requires list { AllStand dag.old list.now }
+    requires alike { AllAlike list.now }
+    requires some { 1 ≤ count }
+    requires within { low + count ≤ length list.now }
+    ensures keeps { Keeps dag.old dag.new }
+    ensures read { IfOk result (λ r. IsReadAmong dag.new list.now index low count r) }
+{
+    if count == 1 {
+        let r = copy(alloc, &list[low])?;
+        return Ok(r);
+    }
+    let half = count / 2;
+    let test = is_before(dag, index, low + half)?;
     match flag_of(dag, test) {
-        Some(false) => Ok(b),
-        _ => {
-            let r = choose(alloc, dag, test, a, &b)?;
+        Some(true) => {
+            let r = among(alloc, dag, list, index, low, half)?;
+            Ok(r)
+        }
+        Some(false) => {
+            let r = among(alloc, dag, list, index, low + half, count - half)?;
+            Ok(r)
+        }
+        None => {
+            let r = among_halves(alloc, dag, list, index, low, count, test)?;
             Ok(r)
         }
     }
 }
 
-/// The element at a place where the index is that place, else what is read behind it.
-#[tactic(auto, using(crate::proofs::ReadLaws::reads))]
-fn read_at(
-    alloc: Global,
-    dag: &mut Dag,
-    list: &[Shape],
-    index: WordId,
-    place: usize,
-    behind: Shape,
-) -> Result<Shape, AllocError>
-    requires index { HasWord dag.old.nodes index }
-    requires list { AllStand dag.old list.now }
-    requires alike { AllAlike list.now }
-    requires place { place < length list.now }
-    requires behind { IsReadFrom dag.old list.now index (place + 1) behind }
-    ensures keeps { Keeps dag.old dag.new }
-    ensures read { IfOk result (λ r. IsReadFrom dag.new list.now index place r) }
-{
-    let test = is_at(dag, index, place)?;
-    let r = pick(alloc, dag, test, &list[place], behind)?;
-    Ok(r)
-}
-
-/// The element that the index names, the last one where it names none above 0.
-#[tactic(auto, using(crate::proofs::ReadLaws::reads))]
+/// The element that the index names, the last one where it is above all.
+#[tactic(auto, using(crate::proofs::ReadLaws::whole))]
 pub(crate) fn element(
     alloc: Global,
     dag: &mut Dag,
@@ -190,15 +226,9 @@ pub(crate) fn element(
     requires alike { AllAlike list.now }
     requires some { 1 ≤ length list.now }
     ensures keeps { Keeps dag.old dag.new }
-    ensures read { IfOk result (λ r. IsReadFrom dag.new list.now index 0 r) }
+    ensures read { IfOk result (λ r. IsReadFrom dag.new list.now index r) }
 {
-    let mut place = list.len() - 1;
-    let mut r = copy(alloc, &list[place])?;
-    while place > 0 {
-        place -= 1;
-        let next = read_at(alloc, dag, list, index, place, r)?;
-        r = next;
-    }
+    let r = among(alloc, dag, list, index, 0, list.len())?;
     Ok(r)
 }
 

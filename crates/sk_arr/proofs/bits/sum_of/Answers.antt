@@ -1,5 +1,4 @@
 use Rattle.std.proofs.Common.{◌≡◌, ◌<◌, length, get_or, refl, sym, subst, arith}
-use Rattle.sk_dag.specs.Graph.{BoolSort}
 use Rattle.sk_dag.proofs.EvalLemmas.{Keeps-trans}
 use Rattle.sk_arr.specs.Forms.{IsBit}
 use Rattle.sk_arr.proofs.Makers.{Keeps-refl}

@@ -1,4 +1,4 @@
-use Rattle.std.proofs.Common.{◌≡◌, sym, subst, arith}
+use Rattle.std.proofs.Common.{sym, subst, arith}
 use Rattle.sk_dag.specs.Graph.{BoolSort, WordSort}
 use Rattle.sk_dag.proofs.EvalLemmas.{Keeps-trans}
 use Rattle.sk_arr.specs.Shapes.{Alike}

@@ -23,7 +23,7 @@ loop-place-preserved c =
     record {
       keeps = Keeps-trans inv.keeps c.in_ok-one.ensures.keeps;
       moved = rw c.in_ok-push.ensures.ok (moved_more c.loop-place.place c.in_ok-one.one inv.moved c.in_ok-one.ensures.keeps c.requires.bits (omega (arith, c.loop-place-test.true))
-          (subst (λ l. IsReadFrom c.element.new.dag l c.args.by 0 c.in_ok-one.one) (take_rest c.args.row.now c.loop-place.place) c.in_ok-one.ensures.read));
+          (subst (λ l. IsReadFrom c.element.new.dag l c.args.by c.in_ok-one.one) (take_rest c.args.row.now c.loop-place.place) c.in_ok-one.ensures.read));
     }
 
 pub returns-clause-moved : goal.returns-clause-moved

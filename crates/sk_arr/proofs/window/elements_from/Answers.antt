@@ -28,5 +28,5 @@ loop-j-preserved c =
     let fits : j + c.args.starts ≤ length c.args.list.now = omega (arith, c.loop-j-test.true, c.requires.within) in
     record {
       keeps = Keeps-trans inv.keeps c.in_ok-one.ensures.keeps;
-      read = rw c.in_ok-push.ensures.ok (windows_more j c.in_ok-one.one inv.read c.in_ok-one.ensures.keeps (subst (λ k. IsReadFrom c.element.new.dag (take k (drop j c.args.list.now)) c.args.from 0 c.in_ok-one.one) n c.in_ok-one.ensures.read) fits c.requires.some c.requires.alike);
+      read = rw c.in_ok-push.ensures.ok (windows_more j c.in_ok-one.one inv.read c.in_ok-one.ensures.keeps (subst (λ k. IsReadFrom c.element.new.dag (take k (drop j c.args.list.now)) c.args.from c.in_ok-one.one) n c.in_ok-one.ensures.read) fits c.requires.some c.requires.alike);
     }
