@@ -74,6 +74,9 @@ SlotStands-more keeps more h = record {
 pub HeapStands-keeps : {g g' : Graph} {prog : Prog} {heap : List Slot} → Keeps g g' → HeapStands g prog heap → HeapStands g' prog heap
 HeapStands-keeps keeps h = record { each = λ n slot at. SlotStands-more keeps (λ s m p. p) (h.each n slot at) }
 
+pub HeapStands-none : (g : Graph) (prog : Prog) → HeapStands g prog []
+HeapStands-none g prog = record { each = λ n slot at. absurd (none-some slot at) }
+
 -- ---- one slot more
 
 pub get_front : {A : Type 0} (xs : List A) (x y : A) (n : ℕ) → slice_get xs n ≡ Some y → slice_get (xs ++ x ∷ []) n ≡ Some y

@@ -1,8 +1,10 @@
 -- Structs and their fields, in the words of an index.
 use Rattle.std.proofs.lemmas.Bool.{ltb-true, lt-ltb}
-use Rattle.std.proofs.lemmas.Option.{slice_get_read, slice_get_within}
-use Rattle.std.proofs.Common.{◌≡◌, ℕ, ◌<◌, true, true≢false, length, slice_get, get_or, Option, Some, None, IsTrue, refl, sym, ap, ◌∙◌}
+use Rattle.std.proofs.lemmas.Option.{none-some, slice_get_read, slice_get_within}
+use Rattle.std.proofs.Common.{◌≡◌, ℕ, ◌<◌, true, true≢false, length, slice_get, get_or, Option, Some, None, IsTrue, refl, sym, ap, ◌∙◌, arith, map}
+use Rattle.sk_arr.proofs.Values.{length_map}
 use Rattle.sk_prog.specs.declared.ids.StructId.{StructId}
+use Rattle.sk_prog.specs.declared.ty.Ty.{Ty}
 use Rattle.sk_prog.specs.declared.prog.FieldDef.{FieldDef}
 use Rattle.sk_prog.specs.declared.prog.StructDef.{StructDef}
 use Rattle.sk_prog.specs.declared.prog.Prog.{Prog}
@@ -33,5 +35,13 @@ field_within prog s field h = by (slice_get prog.structs s.index) h
 
 pub type_is : (prog : Prog) (s : StructId) (field : ℕ) (d : FieldDef) → field < length (fields_of prog s) → d ≡ get_or (fields_of prog s) field d → slice_get (field_types prog s) field ≡ Some d.ty
 type_is prog s field d l at = mapped_at type_in (fields_of prog s) field d (slice_get_read (fields_of prog s) (length (fields_of prog s)) field d refl l at)
+
+-- a struct with a type at a place has the field
+pub field_of_types : (prog : Prog) (s : StructId) (field : ℕ) (t : Ty) → slice_get (field_types prog s) field ≡ Some t → IsTrue (has_field prog s field)
+field_of_types prog s field t at = by (slice_get prog.structs s.index) at
+  where
+    by : (o : Option StructDef) → slice_get (map type_in (fields_in o)) field ≡ Some t → field_in field o ≡ true
+    by None e = absurd (none-some t e)
+    by (Some d) e = lt-ltb field (length d.fields) (omega (arith, slice_get_within (map type_in d.fields) field t e, length_map type_in d.fields))
 
 pub ruleset structs = (struct_within, fields_are, struct_there, field_within, type_is)

@@ -1,7 +1,7 @@
 -- Writes through a reference, target by target.
 use Rattle.std.proofs.lemmas.Bool.{eqb-true, eqb-false, cases_Bool, and_left, and_right, and_parts, or_parts, and_cases}
-use Rattle.std.proofs.lemmas.Option.{same_Some, slice_get_within, slice_get-get_or, get_or_from_slice_get}
-use Rattle.std.proofs.Common.{◌≡◌, ℕ, ◌≤◌, Bool, true, false, true≢false, ◌==◌, ◌||◌, ◌&&◌, List, [], ◌∷◌, length, map, slice_get, get_or, Some, option_map, refl, sym, ap, subst, ◌∙◌, arith, ⊎_elim, if◌then◌else◌}
+use Rattle.std.proofs.lemmas.Option.{same_Some, slice_get_within, slice_get-get_or, get_or_from_slice_get, slice_get-map, none-some}
+use Rattle.std.proofs.Common.{◌≡◌, ℕ, ◌≤◌, Bool, true, false, true≢false, ◌==◌, ◌||◌, ◌&&◌, List, [], ◌∷◌, length, map, slice_get, get_or, Option, None, Some, option_map, IsTrue, refl, sym, ap, subst, ◌∙◌, arith, ⊎_elim, if◌then◌else◌}
 use Rattle.sk_dag.specs.declared.env.Env.{Env}
 use Rattle.sk_dag.specs.declared.node.BoolId.{BoolId}
 use Rattle.sk_dag.specs.declared.shape.Targets.{Targets}
@@ -130,6 +130,17 @@ StaysOf-frames old new h s n is =
     let found = of_there old s n is in
     let was = frame_there new old n found.0 h found.1 in
     there_of new s n was.0 was.1 (sym (ap (λ f. f.1) was.2) ∙ found.2)
+
+-- where the structs stay, each slot stays of its struct
+pub StaysOf-structs : (old new : List Slot) → map struct_of new ≡ map struct_of old → StaysOf old new
+StaysOf-structs old new same s n is = let found = of_there old s n is in by found.0 found.1 found.2 (slice_get new n) refl
+  where
+    by : (was : Slot) → slice_get old n ≡ Some was → was.of ≡ s → (o : Option Slot) → slice_get new n ≡ o → IsTrue (is_of new s n)
+    by was at of_s o e = now o e (sym (ap (option_map struct_of) e) ∙ sym (slice_get-map struct_of new n) ∙ ap (λ l. slice_get l n) same ∙ slice_get-map struct_of old n ∙ ap (option_map struct_of) at)
+      where
+        now : (u : Option Slot) → slice_get new n ≡ u → option_map struct_of u ≡ Some was.of → IsTrue (is_of new s n)
+        now None e' p = absurd (none-some was.of p)
+        now (Some slot) e' p = there_of new s n slot e' (same_Some slot.of was.of p ∙ of_s)
 
 pub fields_written : {g0 g : Graph} {guard : BoolId} {target : Targets} {field : ℕ} {value : Shape} {old new : List Slot} → Stands g0 (shape.Reference target) → Keeps g0 g → AreWritten g guard target target.slots.items field value old new → IsFieldWritten g guard target field value old new
 fields_written {g0} {g} {guard} {target} {field} {value} {old} {new} stands keeps are = record {
