@@ -1,8 +1,9 @@
-//! Hands `run` the texts that nest deepest, on the stack that a process has: none of them may end the process. It
-//! writes how each ended. That the answers are those wanted is a test of this program's output.
+//! Hands `run` the texts that nest deepest, on the stack that a process has: none of them may end the process. They are
+//! runs of functions that call one another, sketches that are typed, expanded, filled, run and printed, and generators that
+//! call one another in a circle. It writes how each ended. That the answers are those wanted is a test of this program's output.
 #![tactic(auto)]
 
-use sk_app::{message, run, status};
+use sk_app::{Ending, message, run, status};
 use sk_base::{CalmSink, CalmSource, List, push_number};
 use std::alloc::{AllocError, Global};
 use std::io::Write;
@@ -103,7 +104,38 @@ fn circle(alloc: Global) -> Result<Vec<u8>, AllocError> {
     Ok(text)
 }
 
-/// Runs a line on a text, and writes how it ended: status, message, output.
+/// A harness with a hole that stands in so many nests, and is to be 1.
+fn sketch(alloc: Global, nest: &Nest, levels: u64) -> Result<Vec<u8>, AllocError> {
+    let mut text = Vec::new(alloc);
+    text.extend_from_slice(b"int same(int x) { return x; }\n")?;
+    text.extend_from_slice(b"harness void main(int x) { int y = 0; ")?;
+    match nest {
+        Nest::Expression(before, behind) => {
+            text.extend_from_slice(b"y = ")?;
+            repeated(&mut text, before, levels)?;
+            text.extend_from_slice(b"??(1)")?;
+            repeated(&mut text, behind, levels)?;
+            text.push(b';')?;
+        }
+        Nest::Statement(before, behind) => {
+            repeated(&mut text, before, levels)?;
+            text.extend_from_slice(b"y = ??(1);")?;
+            repeated(&mut text, behind, levels)?;
+        }
+    }
+    text.extend_from_slice(b" assert y == 1; }\n")?;
+    Ok(text)
+}
+
+/// Writes what comes before the ending of a line.
+fn about(lines: &mut Vec<u8>, name: &str, what: &str, levels: u64) -> Result<(), AllocError> {
+    lines.extend_from_slice(name.as_bytes())?;
+    lines.extend_from_slice(what.as_bytes())?;
+    push_number(lines, levels)?;
+    lines.extend_from_slice(b": ")
+}
+
+/// Runs a line on a text, and writes how it ended: status, message, and the output of a run.
 fn tell(alloc: Global, lines: &mut Vec<u8>, line: &str, text: &[u8]) -> Result<(), AllocError> {
     let mut words = Vec::new(alloc);
     for word in line.split_ascii_whitespace() {
@@ -118,22 +150,35 @@ fn tell(alloc: Global, lines: &mut Vec<u8>, line: &str, text: &[u8]) -> Result<(
         lines.extend_from_slice(message(alloc, &ending)?.as_bytes())?;
     }
     lines.push(b'\n')?;
-    lines.extend_from_slice(sink.bytes())
+    if ending == Ending::ExecDone {
+        lines.extend_from_slice(sink.bytes())?;
+    }
+    Ok(())
 }
 
 fn all_lines(alloc: Global) -> Result<Vec<u8>, AllocError> {
     let mut lines = Vec::new(alloc);
     for (name, nest) in &NESTS {
         for levels in LEVELS {
-            lines.extend_from_slice(name.as_bytes())?;
-            lines.extend_from_slice(b", levels ")?;
-            push_number(&mut lines, levels)?;
-            lines.extend_from_slice(b": ")?;
+            about(&mut lines, name, ", levels ", levels)?;
             let text = calls(alloc, nest, levels)?;
             tell(alloc, &mut lines, "exec f0 7", text.as_slice())?;
         }
+        for levels in LEVELS {
+            about(&mut lines, name, " round a hole, levels ", levels)?;
+            let text = sketch(alloc, nest, levels)?;
+            tell(
+                alloc,
+                &mut lines,
+                "synth --bnd-unroll-amnt 1",
+                text.as_slice(),
+            )?;
+        }
     }
-    for line in ["exec main 7", "synth"] {
+    for line in [
+        "exec main 7 --bnd-inline-amnt 16",
+        "synth --bnd-inline-amnt 16",
+    ] {
         lines.extend_from_slice(b"generators in a circle, ")?;
         lines.extend_from_slice(line.as_bytes())?;
         lines.extend_from_slice(b": ")?;

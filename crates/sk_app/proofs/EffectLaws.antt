@@ -28,7 +28,7 @@ use Rattle.sk_app.specs.ResultText.{IsCompletion, IsNone}
 use Rattle.sk_app.specs.Help.{help_text, version_text}
 use Rattle.sk_app.specs.Lines.{IsNoLine, IsSynth, ForSynth, IsExec, ForExec, TakesText, ForText, is_unbuilt, IsUnbuiltLine}
 use Rattle.sk_app.specs.Ends.{delivered, cut, no_room, Writes, WritesPart, writes_nothing, IsToldOf, EndsBuilt, EndsFaulty, EndsUntyped, EndsLarge, EndsLong, EndsUnbuilt, EndsRun, EndsNotRun, EndsNoLine, EndsUnbuiltLine, EndsHelp, EndsVersion}
-use Rattle.sk_app.specs.Effects.{Effect, ReadsNothing, DoesNothing, IsRefused, IsShown, is_of_synth, IsResult, Synthesises, is_of_expansion, IsRunResult, IsRunOutput, Executes, Serves, Answers, no_line, served, no_memory, IsOutput}
+use Rattle.sk_app.specs.Effects.{Effect, IsRefused, IsShown, is_of_synth, IsResult, Synthesises, is_of_expansion, IsRunResult, IsRunOutput, Executes, Serves, Answers, no_line, served, no_memory, IsOutput}
 use Rattle.sk_app.specs.Effects as output
 use Rattle.sk_app.proofs.StreamLemmas.{front-nil}
 use Rattle.sk_app.proofs.ToldLaws as by

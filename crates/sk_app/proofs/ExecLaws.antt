@@ -20,7 +20,6 @@ use Rattle.sk_direct.specs.Direct.{IsNotRun, IsRunText}
 use Rattle.sk_direct.proofs.TextLaws.{one_fault_of_text, no_fault_of_text_run, one_text_run, no_cause_of_run, no_cause_of_fault}
 use Rattle.sk_app.specs.declared.ending.Ending.{Ending}
 use Rattle.sk_app.specs.declared.ending.Ending.TheVariants as ending
-use Rattle.sk_app.specs.Streams.{IsWhole, IsLong}
 use Rattle.sk_app.specs.Ends.{delivered, cut, no_room, Writes, WritesPart, writes_nothing, ending_of, EndsRun, EndsNotRun, EndsFaulty, EndsUntyped, EndsLarge, EndsLong}
 use Rattle.sk_app.specs.Effects.{Effect, refusal, is_of_expansion, RunsText, refused, not_run, ran, RunsSource, failed, long, wanting, whole, IsRunResult, IsRunOutput}
 

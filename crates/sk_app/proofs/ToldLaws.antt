@@ -1,6 +1,5 @@
 -- What is told of a text is all that can be told of it: which endings there are for a text, by its cause.
 use Rattle.std.proofs.Common.{ℕ, List, ◌≤◌, ◌<◌, ◌≡◌, length, sym, subst, ◌∙◌, arith}
-use Rattle.std.specs.Prelude.{IsTrue}
 use Rattle.sk_base.specs.declared.bounds.Bounds.{Bounds}
 use Rattle.sk_check.specs.declared.fault.TypeFault.{TypeFault}
 use Rattle.sk_check.specs.declared.fault.Rule.TheVariants as rule
@@ -15,8 +14,8 @@ use Rattle.sk_front.specs.Front.{IsUntyped, IsTooLarge, IsCause, IsSame, IsFault
 use Rattle.sk_front.proofs.FrontLaws.{one_program, one_expansion, one_cause, sizes_or_cause}
 use Rattle.sk_app.specs.declared.ending.Ending.{Ending}
 use Rattle.sk_app.specs.declared.ending.Ending.TheVariants as ending
-use Rattle.sk_app.specs.Early.{is_early}
-use Rattle.sk_app.specs.Built.{IsSmall, IsBuilt, IsTaken, IsNotBuilt}
+use Rattle.sk_trials.specs.Counts.{IsSmall}
+use Rattle.sk_app.specs.Built.{IsBuilt, IsTaken, IsNotBuilt}
 use Rattle.sk_app.specs.Ends.{IsToldOf, EndsBuilt, EndsFaulty, EndsUntyped, EndsLarge, EndsUnbuilt, EndsLong}
 
 -- a fault of types: of a text that has one, no definition says which is told
@@ -37,7 +36,7 @@ module _ (set : Set) (text : List ℕ) where
       let b = t.built in
       let same = one_program set text b.tree n.tree t.bounds n.bounds b.prog n.prog b.sized.typed n.sized.typed in
       let once : t.e ≡ n.e = b.sized.is ∙ one_expansion set text b.tree n.tree t.bounds n.bounds b.prog n.prog b.sized.typed n.sized.typed ∙ sym n.sized.is in
-      absurd (n.untaken (subst (λ x. IsTrue (is_early x)) same.0 b.early) (subst (λ c. IsSmall c n.e) same.1 (subst (λ z. IsSmall t.bounds z) once b.small)))
+      absurd (n.large (subst (λ c. IsSmall c n.e) same.1 (subst (λ z. IsSmall t.bounds z) once b.small)))
 
   -- two causes are one
   one : {A : Type 0} (f g : SketchFault) → IsCause (IsFaultOfSizes set text) f → IsCause (IsFaultOfSizes set text) g → (IsSame f g → A) → A

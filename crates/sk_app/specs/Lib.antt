@@ -1,11 +1,3 @@
-pub mod Early
-pub mod EarlyRules
-pub mod EarlyTypes
-pub mod EarlySpelt
-pub mod EarlyPlaced
-pub mod EarlyDepth
-pub mod EarlyReads
-pub mod EarlyFilling
 pub mod Ending
 pub mod Streams
 pub mod ReadStep
@@ -14,12 +6,7 @@ pub mod ResultText
 pub mod SpentText
 pub mod Within
 pub mod Prepared
-pub mod EarlyFit
 pub mod Ends
 pub mod Help
 pub mod Lines
 pub mod Effects
-pub mod Typing
-pub mod Filling
-pub mod Searching
-pub mod Running

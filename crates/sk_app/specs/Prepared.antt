@@ -5,6 +5,7 @@ use Rattle.sk_base.specs.declared.bounds.Bounds.{Bounds}
 use Rattle.sk_model.specs.declared.expanded.Expanded.{Expanded}
 use Rattle.sk_opts.specs.declared.line.Set.{Set}
 use Rattle.sk_opts.specs.Ranges.{AreInRanges}
+use Rattle.sk_sites.specs.Small.{AreSmall}
 use Rattle.sk_front.specs.Texts.{most_bytes, IsTextFault}
 use Rattle.sk_front.specs.Front.{IsUntyped, IsTooLarge}
 use Rattle.sk_app.specs.declared.complete.Building.{Building}
@@ -15,14 +16,13 @@ use Rattle.sk_app.specs.declared.prepare.Prepared.{Prepared}
 use Rattle.sk_app.specs.declared.prepare.Prepared.TheVariants as prepared
 use Rattle.sk_app.specs.Streams.{IsLong}
 use Rattle.sk_app.specs.Built.{IsOnly, IsNotBuilt}
-use Rattle.sk_app.specs.Filling.{IsEarlyExpansion}
 use Rattle.sk_app.specs.ResultText.{IsCompletion, IsNone}
 
--- the bounds and the expansion of a text that is taken, as the search for a filling asks for them
+-- the bounds and the expansion of a text that is taken, as the search for a completion asks for them
 pub record IsReady (set : Set) (text : List ℕ) (bounds : Bounds) (e : Expanded) : Type 0 where
   pub only : IsOnly set text bounds e
-  pub early : IsEarlyExpansion e bounds
   pub ranges : AreInRanges bounds
+  pub narrow : AreSmall e.sites
 
 -- what is built of a text with these options, or why nothing is
 abbrev pub IsBuilding : Set → Building → List ℕ → Type 0

@@ -1,14 +1,16 @@
 -- What is written, and when: a completion of the sketch, or that there is none.
-use Rattle.std.specs.Prelude.{ℕ, ◌≤◌, ◌≡◌, List, [], ◌∷◌, ◌++◌, codes}
+use Rattle.std.specs.Prelude.{ℕ, ◌≡◌, List, [], ◌∷◌, ◌++◌, codes}
 use Rattle.std.specs.Fmt.{decimal}
 use Rattle.sk_base.specs.declared.bounds.Bounds.{Bounds}
 use Rattle.sk_model.specs.declared.expanded.Choice.{Choice}
 use Rattle.sk_model.specs.declared.expanded.Expanded.{Expanded}
 use Rattle.sk_model.specs.Fill.{InRange, fill}
-use Rattle.sk_model.specs.Meets.{Meets, IsGreatestCost}
+use Rattle.sk_model.specs.Meets.{Meets}
 use Rattle.sk_print.specs.Layout.{layout}
 use Rattle.sk_print.specs.Shows.{Shows}
 use Rattle.sk_opts.specs.declared.line.Set.{Set}
+use Rattle.sk_trials.specs.declared.completion.Completion.{Completion}
+use Rattle.sk_trials.specs.Completing.{IsLeast}
 use Rattle.sk_app.specs.Built.{IsOnly}
 
 -- each number with a space before it
@@ -21,30 +23,26 @@ abbrev pub completion_lines : Choice → ℕ → List ℕ
 completion_lines a value = codes "//@ completion\n//@ value " ++ decimal value ++ codes "\n//@ holes" ++ spaced a.values ++ codes "\n"
 
 -- the filled program, and the lines of the completion
-abbrev pub completed_text : Expanded → Choice → ℕ → List ℕ
-completed_text e a value = layout (fill e a) ++ completion_lines a value
+abbrev pub completed_text : Completion → List ℕ
+completed_text c = layout c.filled ++ completion_lines c.choice c.value
 
 -- the line where there is no completion
 abbrev pub none_text : List ℕ
 none_text = codes "//@ none\n"
 
--- The result text is that of a completion: a filling in range, whose text shows it, that meets its
--- harness on every input in range, with its greatest cost, and no filling that
--- does so costs less. With these options the text has no other bounds and no other expansion.
+-- The result text is that of a completion: the filling of a choice in range, which meets its obligations on every input
+-- in range, with its greatest cost, and no filling that does so costs less; the text shows the filled program. With these
+-- options the text of the sketch has no other bounds and no other expansion.
 pub record IsCompletion (set : Set) (text out : List ℕ) : Type 0 where
   pub bounds : Bounds
   pub e : Expanded
-  pub a : Choice
-  pub value : ℕ
+  pub c : Completion
   pub only : IsOnly set text bounds e
-  pub in_range : InRange e a
-  pub shows : Shows (layout (fill e a)) bounds (fill e a)
-  pub meets : Meets (fill e a) bounds
-  pub costs : IsGreatestCost (fill e a) bounds value
-  pub least : (b : Choice) → InRange e b → Meets (fill e b) bounds → (v : ℕ) → IsGreatestCost (fill e b) bounds v → value ≤ v
-  pub is : out ≡ completed_text e a value
+  pub least : IsLeast bounds e c
+  pub shows : Shows (layout c.filled) bounds c.filled
+  pub is : out ≡ completed_text c
 
--- The result text says that there is no completion, and no filling in range meets its harness.
+-- The result text says that there is no completion, and no filling in range meets its obligations.
 pub record IsNone (set : Set) (text out : List ℕ) : Type 0 where
   pub bounds : Bounds
   pub e : Expanded

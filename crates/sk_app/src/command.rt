@@ -23,7 +23,7 @@ ghost use Rattle.sk_direct.specs.Direct.{IsNotRun, IsRunText};
 ghost use Rattle.sk_app.specs.Help.{help_text, version_text};
 ghost use Rattle.sk_app.specs.Lines.{IsNoLine, IsSynth, ForSynth, IsExec, ForExec, TakesText, ForText, IsUnbuiltLine};
 ghost use Rattle.sk_app.specs.Ends.{IsDelivered, Writes, WritesPart, writes_nothing, IsToldOf, EndsBuilt, EndsFaulty, EndsUntyped, EndsLarge, EndsLong, EndsUnbuilt, EndsRun, EndsNotRun, EndsNoLine, EndsUnbuiltLine, EndsHelp, EndsVersion};
-ghost use Rattle.sk_app.specs.Effects.{is_of_synth, is_of_expansion, IsResult, IsRunResult, IsShown, IsOutput, Serves, Answers};
+ghost use Rattle.sk_app.specs.Effects.{is_of_synth, is_of_expansion, IsResult, IsRunResult, IsOutput, Serves, Answers};
 
 use crate::direct::run_source;
 use crate::ending::Ending;

@@ -1,18 +1,12 @@
 //! The completion of a text.
 
-ghost use Rattle.std.specs.Prelude.{◌≡◌, ◌≤◌, ◌↔◌, ◌++◌, length, IsTrue, IfOk, OnOk};
-ghost use Rattle.sk_model.specs.Fill.{InRange, fill};
+ghost use Rattle.std.specs.Prelude.{◌≡◌, ◌≤◌, ◌++◌, length, IfOk, OnOk};
 ghost use Rattle.sk_opts.specs.Ranges.{IsInRanges};
 ghost use Rattle.sk_front.specs.Texts.{most_bytes};
-ghost use Rattle.sk_app.specs.Built.{bits_count, most_bits, IsSmall};
-ghost use Rattle.sk_app.specs.ResultText.{spaced, completion_lines, completed_text, none_text};
-ghost use Rattle.sk_app.specs.Filling.{IsEarlyExpansion, FromEarly};
+ghost use Rattle.sk_app.specs.ResultText.{spaced, completion_lines, completed_text};
 ghost use Rattle.sk_app.specs.Prepared.{IsBuilding, IsFound};
 
-use crate::early::is_early;
-use crate::filling::{fill_early, is_within};
 use crate::prepare::Found;
-use crate::search::{is_searchable, search};
 use sk_base::{Bounds, push_number};
 use sk_check::TypeFault;
 use sk_front::{SketchFault, TextFault, sized_expansion_of};
@@ -20,10 +14,8 @@ use sk_model::{Choice, Expanded};
 use sk_opts::Set;
 use sk_print::print;
 use sk_sizes::SizeFault;
+use sk_trials::{Completion, is_small};
 use std::alloc::{AllocError, Global};
-
-/// The greatest number of nodes of an expansion that is taken so far.
-const MOST_NODES: usize = 4096;
 
 /// What is built of a text.
 #[derive(Drop)]
@@ -40,23 +32,6 @@ pub enum Building {
     Whole { bounds: Bounds, expanded: Expanded },
 }
 
-/// Whether the holes and the arguments have few enough bits to try all.
-#[tactic(auto, using(crate::proofs::CompleteLaws::bits_same))]
-fn has_few_bits(expanded: &Expanded, bounds: &Bounds) -> bool
-    requires { IsEarlyExpansion expanded.now bounds.now }
-    ensures { IsTrue result ↔ (bits_count expanded.now bounds.now ≤ most_bits) }
-{
-    is_searchable(expanded, bounds)
-}
-
-/// Whether an early expansion is small enough to try all its fillings on all its inputs.
-fn is_small(expanded: &Expanded, bounds: &Bounds) -> bool
-    requires { IsEarlyExpansion expanded.now bounds.now }
-    ensures { IsTrue result ↔ IsSmall bounds.now expanded.now }
-{
-    is_within(&expanded.prog, MOST_NODES) && has_few_bits(expanded, bounds)
-}
-
 /// What is built of a text with the options of a line: the expansion of one that is taken, or why there is none.
 fn built(alloc: Global, set: &Set, text: &[u8]) -> Result<Building, AllocError>
     requires short { length text.now ≤ most_bytes }
@@ -70,9 +45,6 @@ fn built(alloc: Global, set: &Set, text: &[u8]) -> Result<Building, AllocError>
         Err(SketchFault::TooLarge(fault)) => return Ok(Building::TooLarge(fault)),
         Err(SketchFault::Memory) => return Err(AllocError),
     };
-    if !is_early(&expansion.tree) {
-        return Ok(Building::NotBuilt);
-    }
     if !is_small(&expansion.expanded, &expansion.bounds) {
         return Ok(Building::NotBuilt);
     }
@@ -107,19 +79,16 @@ fn push_completion(out: &mut Vec<u8>, choice: &Choice, value: u64) -> Result<(),
     Ok(())
 }
 
-/// The result text of a choice: the filled program and the lines of the completion.
-fn completed(alloc: Global, expanded: &Expanded, choice: &Choice) -> Result<Vec<u8>, AllocError>
-    requires expansion { FromEarly expanded.now }
-    requires range { InRange expanded.now choice.now }
-    ensures { IfOk result (λ out. out.items ≡ completed_text expanded.now choice.now 0) }
+/// The result text of a completion: the filled program and the lines of the completion.
+fn completed(alloc: Global, completion: &Completion) -> Result<Vec<u8>, AllocError>
+    ensures { IfOk result (λ out. out.items ≡ completed_text completion.now) }
 {
-    let filled = fill_early(alloc, expanded, choice)?;
-    let mut out = print(alloc, &filled)?;
-    push_completion(&mut out, choice, 0)?;
+    let mut out = print(alloc, &completion.filled)?;
+    push_completion(&mut out, &completion.choice, completion.value)?;
     Ok(out)
 }
 
-/// Completes a text with the options of a line, by trying every filling on every input.
+/// Completes a text with the options of a line, by trying every choice on every input.
 #[tactic(auto, using(crate::proofs::CompleteLaws::finding))]
 pub fn complete(alloc: Global, set: &Set, text: &[u8]) -> Result<Found, AllocError>
     requires short { length text.now ≤ most_bytes }
@@ -131,15 +100,17 @@ pub fn complete(alloc: Global, set: &Set, text: &[u8]) -> Result<Found, AllocErr
         Building::NotTyped(fault) => Ok(Found::NotTyped(fault)),
         Building::TooLarge(fault) => Ok(Found::TooLarge(fault)),
         Building::NotBuilt => Ok(Found::NotBuilt),
-        Building::Whole { bounds, expanded } => match search(alloc, &expanded, &bounds)? {
-            Some(choice) => {
-                let out = completed(alloc, &expanded, &choice)?;
-                Ok(Found::Completion(out))
+        Building::Whole { bounds, expanded } => {
+            match sk_trials::complete(alloc, &expanded, &bounds)? {
+                Some(completion) => {
+                    let out = completed(alloc, &completion)?;
+                    Ok(Found::Completion(out))
+                }
+                None => {
+                    let out = Vec::from_slice(alloc, b"//@ none\n")?;
+                    Ok(Found::Nothing(out))
+                }
             }
-            None => {
-                let out = Vec::from_slice(alloc, b"//@ none\n")?;
-                Ok(Found::Nothing(out))
-            }
-        },
+        }
     }
 }

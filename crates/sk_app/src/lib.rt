@@ -4,15 +4,10 @@
 mod command;
 mod complete;
 mod direct;
-mod early;
 mod ending;
-mod filling;
 mod help;
-pub mod laws;
 mod output;
 mod prepare;
-mod running;
-mod search;
 mod std_streams;
 mod text;
 

@@ -1,10 +1,9 @@
 //! What is to be written, or why nothing is.
 
-ghost use Rattle.std.specs.Prelude.{◌≡◌, ◌≤◌, length, IfOk};
+ghost use Rattle.std.specs.Prelude.{IfOk};
 ghost use Rattle.sk_opts.specs.Ranges.{IsInRanges};
-ghost use Rattle.sk_front.specs.Texts.{most_bytes};
 ghost use Rattle.sk_app.specs.Streams.{TakesFew};
-ghost use Rattle.sk_app.specs.Prepared.{IsFound, IsPrepared};
+ghost use Rattle.sk_app.specs.Prepared.{IsPrepared};
 
 use crate::complete::complete;
 use crate::text::{Reading, read_text};

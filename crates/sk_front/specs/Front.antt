@@ -13,6 +13,7 @@ use Rattle.sk_model.specs.Limits.{most_nodes, most_sites, most_steps, most_news,
 use Rattle.sk_opts.specs.declared.line.Set.{Set}
 use Rattle.sk_opts.specs.BoundsOf.{bounds_of}
 use Rattle.sk_opts.specs.Ranges.{AreInRanges}
+use Rattle.sk_sites.specs.Small.{AreSmall}
 use Rattle.sk_sizes.specs.declared.fault.SizeFault.{SizeFault}
 use Rattle.sk_sizes.specs.declared.fault.SizeFault.TheVariants as size
 use Rattle.sk_front.specs.declared.fault.SketchFault.{SketchFault}
@@ -67,7 +68,7 @@ pub record IsTooLarge (set : Set) (text : List ℕ) (reason : SizeFault) : Type 
 
 -- Answers
 
--- what the text means, with bounds in their ranges
+-- what the text means, with bounds in their ranges; of an expansion also that each site has few values
 pub record Means (set : Set) (text : List ℕ) (typed : Typed) : Type 0 where
   pub typed_as : IsTypedAs set text typed.tree typed.bounds typed.prog
   pub ranges : AreInRanges typed.bounds
@@ -75,10 +76,12 @@ pub record Means (set : Set) (text : List ℕ) (typed : Typed) : Type 0 where
 pub record Expands (set : Set) (text : List ℕ) (x : Expansion) : Type 0 where
   pub expanded_to : IsExpandedTo set text x.tree x.bounds x.prog x.expanded
   pub ranges : AreInRanges x.bounds
+  pub narrow : AreSmall x.expanded.sites
 
 pub record ExpandsWithin (set : Set) (text : List ℕ) (x : Expansion) : Type 0 where
   pub sized_to : IsSizedTo set text x.tree x.bounds x.prog x.expanded
   pub ranges : AreInRanges x.bounds
+  pub narrow : AreSmall x.expanded.sites
 
 -- the answers that these are
 

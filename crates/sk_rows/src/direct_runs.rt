@@ -1,7 +1,5 @@
 //! Lines `exec`, from bytes to bytes.
-use sk_app::{message, run, status};
-use sk_base::{CalmSink, CalmSource, List};
-use std::alloc::{AllocError, Global};
+use crate::ran::tells;
 use std::process::Abort;
 use std::test::Fail;
 
@@ -127,26 +125,21 @@ const RUNS: [(&str, &str, u8, &str, &str); 23] = [
     ("exec f -1", ELEMENT, 10, "", "usage"),
 ];
 
-fn words_of(alloc: Global, line: &str) -> Result<Vec<String>, AllocError> {
-    let mut words = Vec::new(alloc);
-    for word in line.split_ascii_whitespace() {
-        words.push(String::from_str(alloc, word)?)?;
-    }
-    Ok(words)
-}
-
 #[test]
 fn runs_functions(rt: HostRuntime) -> Result<(), Fail> {
     let alloc = rt.alloc();
-    for (line, text, ends, written, said) in RUNS {
-        let words = words_of(alloc, line)?;
-        let mut source = CalmSource::new(List::from_slice(alloc, text.as_bytes())?);
-        let mut sink = CalmSink::new(alloc);
-        let ending = run(alloc, words.as_slice(), &mut source, &mut sink);
-        let message = message(alloc, &ending)?;
-        assert_eq!(rt; status(&ending), ends, "{line}: {text}");
-        assert!(rt; sink.bytes() == written.as_bytes(), "{line}: {text}");
-        assert!(rt; message.as_bytes() == said.as_bytes(), "{line}: {text}");
+    for row in &RUNS {
+        let (line, text, number, written, said) = *row;
+        let written = written.as_bytes();
+        let is_told = tells(
+            alloc,
+            line,
+            text.as_bytes(),
+            number,
+            written,
+            said.as_bytes(),
+        )?;
+        assert!(rt; is_told, "{line}: {text}");
     }
     Ok(())
 }

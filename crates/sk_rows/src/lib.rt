@@ -2,8 +2,16 @@
 #![tactic(auto)]
 
 #[cfg(test)]
+mod completions;
+#[cfg(test)]
 mod direct_runs;
 #[cfg(test)]
-mod first_path;
+mod lines;
+#[cfg(test)]
+mod ran;
+#[cfg(test)]
+mod refusals;
+#[cfg(test)]
+mod streams;
 #[cfg(test)]
 mod text_faults;

@@ -33,4 +33,4 @@ mod CountsAgain
 mod Shaped
 mod StmtsAgain
 mod TreeAgain
-mod ProgramShown
+pub mod ProgramShown
