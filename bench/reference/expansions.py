@@ -42,6 +42,7 @@ CIRCLE = ("int even(int n) { if (n == 0) return 1; return odd(n - 1); } int odd(
           "return even(n - 1); } harness void main(int x) { assert even(x) >= 0; }")
 RECORDS = ("struct P { int u; } P made(int x) { return new P(u = x); } harness void main(int x) { P p = null; "
            "while (p == null) { p = made(x); } repeat (3) { p = new P(u = p.u + 1); } assert p.u == x + 3; }")
+MIXED = "harness void main(int x) { int t = x; reorder { t = t + ??(1); t = t * ??(2); t = 3; } assert t == x; }"
 BITS = "harness void main(bit[4] x) { bit[4] h = ??; bit b = ??; assert h[0] == b || x == h; }"
 STRINGS = "harness void main(int x, int y) { int z = {| x + ?? | (x | y) | ?? * y |}; assert z == y; }"
 REFERENCE = "int twice(int x) { return x + x; } int other(int x) implements twice { return x * ??; }"
@@ -130,8 +131,26 @@ FILLINGS = [
     ("a string of one word", STRINGS, {"cbits": 2}, [2, 1, 2]),
     ("a product", STRINGS, {"cbits": 2}, [3, 1, 2]),
     ("bits", BITS, {}, [1, 0, 1, 1, 0]),
+    ("six copies, the last past the bound", ITSELF, {}, [0] * 5),
+    ("holes in a reorder", MIXED, {}, [1, 2, 1, 3]),
+    ("a repeat by 0", NONE, {}, []),
+    ("a repeat by 64", MANY, {}, [1 if i % 5 == 0 else 0 for i in range(64)]),
 ]
 
+MINREPEAT, PATTERN = "minrepeat { t = t + 2; }", "{| x + 1 | x |}"
+OPEN = "harness void main(int x) { int h = ??(4); bit[2] b = ??; int z = %s; assert z == h; }" % PATTERN
+TURNS = "harness void main(int x) { int t = x; repeat (??(1)) t = t + 1; repeat (2) t = t - 1; assert t == x; }"
+# Text, bounds, values, which function of the filling, and for each of its statements words of the text: those that have the
+# span of the statement, those that have the span of its expression, and of what stands in parentheses or braces there.
+SPANS = [
+    ("a minrepeat is paid, and is a block", LEAST, {}, [1], 0, [[MINREPEAT, MINREPEAT], ["int t = 0;", "0"], [MINREPEAT], ["assert t >= 6;", "t >= 6"]]),
+    ("a reorder is a block", SWAP, {}, [1, 0], 0, [["bit[4] a = x;", "x"], ["bit[4] b = y;", "y"], ["bit[4] t;"], ["reorder { a = b; t = a; b = t; }"], ["assert a == y && b == x;", "a == y && b == x"]]),
+    ("repeats are blocks", TURNS, {}, [1], 0, [["int t = x;", "x"], ["repeat (??(1)) t = t + 1;"], ["repeat (2) t = t - 1;"], ["assert t == x;", "t == x"]]),
+    ("what is chosen stands where it was open, in parentheses", OPEN, {}, [3, 1, 0, 0], 0, [["int h = ??(4);", "??(4)"], ["bit[2] b = ??;", "??", "??", "??"], ["int z = %s;" % PATTERN, PATTERN, PATTERN], ["assert z == h;", "z == h"]]),
+    ("and without them", OPEN, {}, [3, 1, 0, 1], 0, [["int h = ??(4);", "??(4)"], ["bit[2] b = ??;", "??", "??", "??"], ["int z = %s;" % PATTERN, PATTERN], ["assert z == h;", "z == h"]]),
+    ("a copy is where its generator is", ITSELF, {"inline": 1}, [0], 1, [["if (??) return x;"], ["return g(x) + 1;"]]),
+    ("a copy past the bound is where its call is", ITSELF, {"inline": 1}, [0], 2, [["g(x)", "g(x)"]]),
+]
 
 def padded(make, base, chunk, want):
     """The text with so many more statements that it comes to `want`, where it comes to `base` without them and sixty-four
@@ -195,6 +214,20 @@ def bounds(opts):
     return "[%d, %d, %d]" % (opts.get("cbits", 5), opts.get("unroll", 8), opts.get("inline", 5))
 
 
+def spans(text, words):
+    """Where these words of each statement stand in the text: those of its expression in its own."""
+    told = ""
+    for statement, *inner in words:
+        first = text.index(statement)
+        told += "%d %d " % (first, first + len(statement))
+        for word in inner:
+            # The value of a declaration stands behind its `=`.
+            first_in = text.index(word, text.index("=", first) if statement[0] in "ib" else first)
+            told += "%d %d " % (first_in, first_in + len(word))
+        told += ";"
+    return told
+
+
 def row(name, *cells):
     print("    // %s" % name)
     print("    (%s)," % ", ".join(cells))
@@ -214,6 +247,9 @@ def main():
         e = expand(p, b)
         assert len(sites(e, b)) == len(values)  # numbers the sites too
         row(name, rust(text), bounds(opts), "&[%s]" % ", ".join(map(str, values)), rust(layout(fill(e, values))))
+    print("];\n\nconst SPANS: [(&[u8], [u32; 3], &[u64], usize, &[u8]); %d] = [" % len(SPANS))
+    for name, text, opts, values, which, words in SPANS:
+        row(name, rust(text), bounds(opts), "&[%s]" % ", ".join(map(str, values)), str(which), rust(spans(text, words)))
     print("];\n\nconst LAYOUTS: [(&[u8], &[u8]); %d] = [" % len(LAYOUTS))
     for name, text in LAYOUTS:
         row(name, rust(text), rust(layout(load(text)[0])))

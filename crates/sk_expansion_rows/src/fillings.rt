@@ -11,7 +11,7 @@ use sk_sizes::SizeFault;
 use std::alloc::{AllocError, Global};
 
 // A text, the bounds on the width of holes, on turns and on calls, values, and the text of the filling.
-const FILLINGS: [(&[u8], [u32; 3], &[u64], &[u8]); 20] = [
+const FILLINGS: [(&[u8], [u32; 3], &[u64], &[u8]); 24] = [
     // two copies
     (
         b"generator int g(int x) { return x * ??; } harness void main(int x) { assert g(x) == x * 2; assert g(x) == x * 3; }",
@@ -152,15 +152,47 @@ const FILLINGS: [(&[u8], [u32; 3], &[u64], &[u8]); 20] = [
         &[1, 0, 1, 1, 0],
         b"harness void main(bit[4] x) {\n    bit[4] h = {1, 0, 1, 1};\n    bit b = 0;\n    assert h[0] == b || x == h;\n}\n",
     ),
+    // six copies, the last past the bound
+    (
+        b"generator int g(int x) { if (??) return x; return g(x) + 1; } harness void main(int x) { assert g(x) == x + 3; }",
+        [5, 8, 5],
+        &[0, 0, 0, 0, 0],
+        b"harness void main(int x) {\n    assert g__1(x) == x + 3;\n}\nint g__1(int x) {\n    if (0) {\n        return x;\n    }\n    return g__2(x) + 1;\n}\nint g__2(int x) {\n    if (0) {\n        return x;\n    }\n    return g__3(x) + 1;\n}\nint g__3(int x) {\n    if (0) {\n        return x;\n    }\n    return g__4(x) + 1;\n}\nint g__4(int x) {\n    if (0) {\n        return x;\n    }\n    return g__5(x) + 1;\n}\nint g__5(int x) {\n    if (0) {\n        return x;\n    }\n    return g__6(x) + 1;\n}\nint g__6(int x) {\n    assert false;\n}\n",
+    ),
+    // holes in a reorder
+    (
+        b"harness void main(int x) { int t = x; reorder { t = t + ??(1); t = t * ??(2); t = 3; } assert t == x; }",
+        [5, 8, 5],
+        &[1, 2, 1, 3],
+        b"harness void main(int x) {\n    int t = x;\n    {\n        t = 3;\n        t = t * 3;\n        t = t + 1;\n    }\n    assert t == x;\n}\n",
+    ),
+    // a repeat by 0
+    (
+        b"harness void main(int x) { int t = x; repeat (0) { t = t + ??; } assert t == x; }",
+        [5, 8, 5],
+        &[],
+        b"harness void main(int x) {\n    int t = x;\n    {\n    }\n    assert t == x;\n}\n",
+    ),
+    // a repeat by 64
+    (
+        b"harness void main(int x) { int t = x; repeat (64) { t = t + ??(1); } assert t == x + 7; }",
+        [5, 8, 5],
+        &[
+            1, 0, 0, 0, 0, 1, 0, 0, 0, 0, 1, 0, 0, 0, 0, 1, 0, 0, 0, 0, 1, 0, 0, 0, 0, 1, 0, 0, 0,
+            0, 1, 0, 0, 0, 0, 1, 0, 0, 0, 0, 1, 0, 0, 0, 0, 1, 0, 0, 0, 0, 1, 0, 0, 0, 0, 1, 0, 0,
+            0, 0, 1, 0, 0, 0,
+        ],
+        b"harness void main(int x) {\n    int t = x;\n    {\n        {\n            t = t + 1;\n        }\n        {\n            t = t + 0;\n        }\n        {\n            t = t + 0;\n        }\n        {\n            t = t + 0;\n        }\n        {\n            t = t + 0;\n        }\n        {\n            t = t + 1;\n        }\n        {\n            t = t + 0;\n        }\n        {\n            t = t + 0;\n        }\n        {\n            t = t + 0;\n        }\n        {\n            t = t + 0;\n        }\n        {\n            t = t + 1;\n        }\n        {\n            t = t + 0;\n        }\n        {\n            t = t + 0;\n        }\n        {\n            t = t + 0;\n        }\n        {\n            t = t + 0;\n        }\n        {\n            t = t + 1;\n        }\n        {\n            t = t + 0;\n        }\n        {\n            t = t + 0;\n        }\n        {\n            t = t + 0;\n        }\n        {\n            t = t + 0;\n        }\n        {\n            t = t + 1;\n        }\n        {\n            t = t + 0;\n        }\n        {\n            t = t + 0;\n        }\n        {\n            t = t + 0;\n        }\n        {\n            t = t + 0;\n        }\n        {\n            t = t + 1;\n        }\n        {\n            t = t + 0;\n        }\n        {\n            t = t + 0;\n        }\n        {\n            t = t + 0;\n        }\n        {\n            t = t + 0;\n        }\n        {\n            t = t + 1;\n        }\n        {\n            t = t + 0;\n        }\n        {\n            t = t + 0;\n        }\n        {\n            t = t + 0;\n        }\n        {\n            t = t + 0;\n        }\n        {\n            t = t + 1;\n        }\n        {\n            t = t + 0;\n        }\n        {\n            t = t + 0;\n        }\n        {\n            t = t + 0;\n        }\n        {\n            t = t + 0;\n        }\n        {\n            t = t + 1;\n        }\n        {\n            t = t + 0;\n        }\n        {\n            t = t + 0;\n        }\n        {\n            t = t + 0;\n        }\n        {\n            t = t + 0;\n        }\n        {\n            t = t + 1;\n        }\n        {\n            t = t + 0;\n        }\n        {\n            t = t + 0;\n        }\n        {\n            t = t + 0;\n        }\n        {\n            t = t + 0;\n        }\n        {\n            t = t + 1;\n        }\n        {\n            t = t + 0;\n        }\n        {\n            t = t + 0;\n        }\n        {\n            t = t + 0;\n        }\n        {\n            t = t + 0;\n        }\n        {\n            t = t + 1;\n        }\n        {\n            t = t + 0;\n        }\n        {\n            t = t + 0;\n        }\n        {\n            t = t + 0;\n        }\n        {\n            t = t + 0;\n        }\n        {\n            t = t + 1;\n        }\n        {\n            t = t + 0;\n        }\n        {\n            t = t + 0;\n        }\n        {\n            t = t + 0;\n        }\n    }\n    assert t == x + 7;\n}\n",
+    ),
 ];
 
 // A reorder of three statements: its two sites have the sizes 2 and 3.
 const SWAP: &[u8] =
     b"harness void swap(bit[4] x, bit[4] y) { bit[4] a = x; bit[4] b = y; bit[4] t; reorder { a = b; t = a; b = t; } assert a == y && b == x; }";
 
-// What a text filled with these values is; none where it does not expand.
+/// What a text filled with these values is; none where it does not expand.
 #[tactic(auto, using(crate::proofs::Fillable::fillable))]
-fn filled(
+pub fn filled(
     alloc: Global,
     text: &[u8],
     numbers: [u32; 3],

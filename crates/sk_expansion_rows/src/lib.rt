@@ -10,4 +10,6 @@ mod limits;
 #[cfg(test)]
 mod measures;
 #[cfg(test)]
+mod spans;
+#[cfg(test)]
 mod text;
