@@ -3,7 +3,7 @@ use crate::{body_free, enter, is_free, make_all, most, value_at, written};
 use sk_base::{Bounds, List, Name, Span};
 use sk_prog::{Elem, Ty};
 use sk_tree::{Base, EForm, Expr, Form, Stmt, TyTree};
-use sk_typing::{Env, INT, Names, Scope};
+use sk_typing::{Env, INT, Listed, Names, Scope};
 use std::alloc::{AllocError, Global};
 
 const NOWHERE: Span = Span { from: 0, to: 0 };
@@ -26,16 +26,13 @@ fn word(alloc: Global, name: &[u8]) -> Result<Expr, AllocError> {
 
 #[test]
 fn a_body_returns_its_variable(rt: HostRuntime) -> Result<(), AllocError> {
-    let top = Names {
-        structs: List::new(rt.alloc()),
-        consts: List::new(rt.alloc()),
-        funs: List::new(rt.alloc()),
-    };
+    let top = Names::new(rt.alloc());
+    let known = Listed::new(rt.alloc());
     let env = Env {
         alloc: rt.alloc(),
         bounds: BOUNDS,
         top: &top,
-        known: &[],
+        known: &known,
     };
     let mut scope = Scope::new(rt.alloc());
     let x = Name::from_slice(rt.alloc(), b"x")?;
@@ -59,16 +56,13 @@ fn a_body_returns_its_variable(rt: HostRuntime) -> Result<(), AllocError> {
 
 #[test]
 fn a_type_is_read(rt: HostRuntime) -> Result<(), AllocError> {
-    let top = Names {
-        structs: List::new(rt.alloc()),
-        consts: List::new(rt.alloc()),
-        funs: List::new(rt.alloc()),
-    };
+    let top = Names::new(rt.alloc());
+    let known = Listed::new(rt.alloc());
     let env = Env {
         alloc: rt.alloc(),
         bounds: BOUNDS,
         top: &top,
-        known: &[],
+        known: &known,
     };
     let scope = Scope::new(rt.alloc());
     let mut lengths = List::new(rt.alloc());
