@@ -1,5 +1,5 @@
 -- Which spans stand in a tree: those of its expressions and of its statements.
-use Rattle.std.specs.Prelude.{◌≡◌, ◌⊎◌, nat_eq, Bool, true, false, ◌&&◌, ◌||◌, List, map, Option, Some, None, IsTrue}
+use Rattle.std.specs.Prelude.{◌≡◌, ◌⊎◌, nat_eq, Bool, false, ◌&&◌, ◌||◌, List, map, Option, Some, None, IsTrue}
 use Rattle.std.specs.List.{list_any}
 use Rattle.sk_base.specs.declared.span.Span.{Span}
 use Rattle.sk_tree.specs.declared.expr.Expr.{Expr}

@@ -1,13 +1,12 @@
 //! The values of constants and the bodies of functions.
-ghost use Rattle.std.specs.Prelude.{◌≡◌, map, []};
+ghost use Rattle.std.specs.Prelude.{map, []};
 ghost use Rattle.sk_tree.specs.declared.item.Item.TheVariants as item;
-ghost use Rattle.sk_types.specs.Scope.{meaning_of};
-ghost use Rattle.sk_types.specs.Types.{parameters, variable_of};
+ghost use Rattle.sk_types.specs.Types.{parameters};
 ghost use Rattle.sk_check.specs.Envs.{known, signature};
-ghost use Rattle.sk_check.specs.Whole.{context_in, bodies_of, const_of, fun_of, implements_of, prog_in};
+ghost use Rattle.sk_check.specs.Whole.{context_in, bodies_of, const_of, fun_of, implements_of};
 ghost use Rattle.sk_typing.specs.Envs.{context_of, top_seen, IsEnv, IsNumbered};
 ghost use Rattle.sk_typing.specs.Gives.{Gives, IsWidth};
-ghost use Rattle.sk_program.specs.Tops.{bodies_seen, bodies_after, Steps, GivesBodies};
+ghost use Rattle.sk_program.specs.Tops.{bodies_after, Steps, GivesBodies};
 
 use crate::items::{heading_in, know, number_in};
 use crate::signature::{NOWHERE, may_implement};

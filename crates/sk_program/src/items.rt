@@ -1,5 +1,5 @@
 //! What stands at the top, with the types of fields and of signatures.
-ghost use Rattle.std.specs.Prelude.{◌≡◌, map, []};
+ghost use Rattle.std.specs.Prelude.{map, []};
 ghost use Rattle.sk_tree.specs.declared.item.Item.TheVariants as item;
 ghost use Rattle.sk_types.specs.Constants.{constant_number};
 ghost use Rattle.sk_check.specs.Envs.{known};
