@@ -11,16 +11,16 @@ ghost use Rattle.sk_check.specs.Elaborate.{string_at, strings_at, argument_at, a
 ghost use Rattle.sk_check.specs.Parts.{item_part, argument_part, form_part, part, ats, items, arguments, settings};
 
 use crate::constant::constant_fault;
-use crate::parts::{all_distinct, firm_any, member_found, unfit, unindexed, unjoined, variable};
+use crate::parts::{firm_any, member_found, unfit, unindexed, unjoined, variable};
 use sk_base::{Boxed, List, Name, Span, at as item_at};
 use sk_check::{Called, Meant, Rule, Typing};
-use sk_prog::{PEForm, PExpr, PField, ParamDef, StructDef, Ty};
+use sk_prog::{PEForm, PExpr, PField, ParamDef, Ty};
 use sk_tree::{EForm, Expr, Mark, NewField};
 use sk_types::{Own, operator_of, unary_of};
 use sk_typing::{
-    BIT, Env, INT, Scope, binary_wants, boxed, cut, element_wanted, fault, field_found, firm,
-    hole_at, indexed, is_harness, may_keep, may_pass, named_at, null_at, number_at, pattern_at,
-    reference_meant, reference_to, struct_meant, typed, unary_wants,
+    BIT, Env, INT, Scope, StructTable, are_distinct, binary_wants, boxed, cut, element_wanted,
+    fault, field_found, firm, hole_at, indexed, is_harness, may_keep, may_pass, named_at, null_at,
+    number_at, pattern_at, reference_meant, reference_to, struct_meant, typed, unary_wants,
 };
 
 /// An expression at a type that its place wants.
@@ -136,7 +136,7 @@ fn settings(
     env: &Env,
     scope: &Scope,
     span: Span,
-    def: &StructDef,
+    def: &StructTable,
     fields: &[NewField],
 ) -> Result<List<PField>, Typing>
     requires { IsEnv env.now }
@@ -201,7 +201,8 @@ fn made_new(
     let Some(def) = item_at(env.top.structs.as_slice(), s.index as usize) else {
         return Err(fault(Rule::UnknownName, span));
     };
-    if !all_distinct(fields) {
+    let distinct = are_distinct(env.alloc, fields)?;
+    if !distinct {
         return Err(fault(Rule::Twice, span));
     }
     let fields = settings(env, scope, span, def, fields)?;

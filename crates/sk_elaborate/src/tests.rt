@@ -4,7 +4,7 @@ use sk_base::{Bounds, Boxed, List, Name, Span};
 use sk_check::Heading;
 use sk_prog::{Elem, FunKind, PEForm, Ty};
 use sk_tree::{EForm, Expr, Mark};
-use sk_typing::{Env, Names, Scope};
+use sk_typing::{Env, Listed, Names, Scope};
 use std::alloc::{AllocError, Global};
 
 const NOWHERE: Span = Span { from: 0, to: 0 };
@@ -58,16 +58,13 @@ fn is_binary(form: &PEForm) -> bool {
 
 #[test]
 fn a_hole_beside_a_number_is_an_integer(rt: HostRuntime) -> Result<(), AllocError> {
-    let top = Names {
-        structs: List::new(rt.alloc()),
-        consts: List::new(rt.alloc()),
-        funs: List::new(rt.alloc()),
-    };
+    let top = Names::new(rt.alloc());
+    let known = Listed::new(rt.alloc());
     let env = Env {
         alloc: rt.alloc(),
         bounds: BOUNDS,
         top: &top,
-        known: &[],
+        known: &known,
     };
     let scope = Scope::new(rt.alloc());
     let e = sum(rt.alloc())?;
@@ -84,18 +81,14 @@ fn a_hole_beside_a_number_is_an_integer(rt: HostRuntime) -> Result<(), AllocErro
 
 #[test]
 fn a_call_has_the_type_of_its_function(rt: HostRuntime) -> Result<(), AllocError> {
-    let mut funs = List::new(rt.alloc());
-    funs.push(heading(rt.alloc())?)?;
-    let top = Names {
-        structs: List::new(rt.alloc()),
-        consts: List::new(rt.alloc()),
-        funs,
-    };
+    let mut top = Names::new(rt.alloc());
+    top.funs.push(heading(rt.alloc())?)?;
+    let known = Listed::new(rt.alloc());
     let env = Env {
         alloc: rt.alloc(),
         bounds: BOUNDS,
         top: &top,
-        known: &[],
+        known: &known,
     };
     let scope = Scope::new(rt.alloc());
     let name = Name::from_slice(rt.alloc(), b"f")?;
