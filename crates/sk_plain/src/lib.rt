@@ -10,6 +10,8 @@ mod single;
 mod steady;
 mod step;
 mod stmt;
+#[cfg(test)]
+mod tests;
 
 pub use expr::copy_name;
 pub use item::plain;
