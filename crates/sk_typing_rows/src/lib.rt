@@ -1,15 +1,28 @@
-//! Examples of reading and typing whole texts, which are tests of `tokens`, `parse` and `check`.
+//! Examples of reading and typing whole texts, which are tests of `tokens`, `parse` and `check`; of the bounds of a text,
+//! and of how programs are laid out.
 #![tactic(auto)]
 
 #[cfg(test)]
 mod examples;
 #[cfg(test)]
+mod fits;
+#[cfg(test)]
 mod inside;
+#[cfg(test)]
+mod layouts;
+#[cfg(test)]
+mod manual;
 #[cfg(test)]
 mod names;
 #[cfg(test)]
+mod operands;
+#[cfg(test)]
 mod operators;
 #[cfg(test)]
+mod pragmas;
+#[cfg(test)]
 mod rules;
+#[cfg(test)]
+mod shadows;
 #[cfg(test)]
 mod text;

@@ -186,8 +186,8 @@ const COPIES: [(&[u8], bool); 16] = [
     ),
 ];
 
-// The rows whose text is accepted and should not be, or is refused and should not be.
-fn wrong(alloc: Global, rows: &[(&[u8], bool)]) -> Result<Vec<usize>, AllocError> {
+/// The rows whose text is accepted and should not be, or is refused and should not be.
+pub fn wrong(alloc: Global, rows: &[(&[u8], bool)]) -> Result<Vec<usize>, AllocError> {
     let mut found = Vec::new(alloc);
     for row in 0..rows.len() {
         let (text, accepted) = rows[row];

@@ -382,7 +382,11 @@ const LENGTH_RANGE: [(&[u8], &[u8]); 11] = [
     ),
 ];
 
-const NO_ALTERNATIVE: [(&[u8], &[u8]); 9] = [
+const NO_ALTERNATIVE: [(&[u8], &[u8]); 10] = [
+    (
+        b"harness void main(int x, bit[4] b) { int y = {| b |}; assert y == 2 * x; }",
+        b"harness void main(int x, bit[4] b) { int y = {| b | x | x + x |}; assert y == 2 * x; }",
+    ),
     (
         b"int N = 1; void f(int x) { {| N | x + x |} = 1; }",
         b"int N = 1; void f(int x) { {| N | x |} = 1; }",
