@@ -3,3 +3,4 @@ pub mod RoomLaws
 pub mod TypeLaws
 pub mod CallLaws
 pub mod IfLaws
+pub mod DeclareLaws

@@ -6,8 +6,6 @@ mod free;
 mod room;
 mod single;
 mod target;
-#[cfg(test)]
-mod tests;
 
 pub use block::make_all;
 pub use free::{body_free, is_free};

@@ -291,10 +291,10 @@ fn declare(
     requires { IsEnv env.now }
     ensures { Leaves result scope.new (declare (context_of env.now) from scope.old ty.now declared.now) }
 {
+    let ty = written(env, scope, span, ty)?;
     if is_taken(from, scope.lookup(&declared.name)) {
         return Err(fault(Rule::Twice, span));
     }
-    let ty = written(env, scope, span, ty)?;
     let value = any_value_at(env, scope, ty, &declared.value)?;
     let slot = numbered(scope.len())?;
     let name = copied(env.alloc, &declared.name)?;

@@ -73,6 +73,11 @@ lost o m xs e h = e ∙ ap (λ m. m >>= λ rest. Some (xs ++ rest)) h
 pub refused : {X : Type 0} (why : Typing) (f : TypeFault) (o : Option X) → why ≡ Fault f → o ≡ None → Fails why o
 refused why f o e h = subst (λ w. Fails w o) (sym e) h
 
+-- whatever the fault
+pub fails_nothing : {X : Type 0} (why : Typing) (o : Option X) → o ≡ None → Fails why o
+fails_nothing Memory o h = tt
+fails_nothing (Fault f) o h = h
+
 pub argument_fails : (context : Context) (scope : List Variable) (ds : List ParamDef) (es : List Expr) (i : ℕ) (d : ParamDef) (e : Expr) (made : List PExpr) (why : Typing) → slice_get ds i ≡ Some d → i < length es → e ≡ get_or es i e → (o : Option (List PExpr)) → o ≡ (arguments_at (drop i ds) (arguments context scope (drop i es)) >>= λ rest. Some (made ++ rest)) → Fails why (argument_at d (argument_part (part context scope e))) → Fails why o
 argument_fails context scope ds es i d e made Memory g h x o is n = tt
 argument_fails context scope ds es i d e made (Fault f) g h x o is n = lost o (arguments_at (drop i ds) (arguments context scope (drop i es))) made is (argument_lost context scope ds es i d e g h x n)

@@ -11,16 +11,17 @@ ghost use Rattle.sk_check.specs.Elaborate.{string_at, strings_at, argument_at, a
 ghost use Rattle.sk_check.specs.Parts.{item_part, argument_part, form_part, part, ats, items, arguments, settings};
 
 use crate::constant::constant_fault;
-use crate::parts::{all_distinct, firm_any, member_found, unfit, unindexed, unjoined, variable};
+use crate::parts::{firm_any, member_found, unfit, unindexed, unjoined, variable};
 use sk_base::{Boxed, List, Name, Span, at as item_at};
 use sk_check::{Called, Meant, Rule, Typing};
-use sk_prog::{PEForm, PExpr, PField, ParamDef, StructDef, Ty};
+use sk_prog::{PEForm, PExpr, PField, ParamDef, Ty};
 use sk_tree::{EForm, Expr, Mark, NewField};
 use sk_types::{Own, operator_of, unary_of};
 use sk_typing::{
-    BIT, Env, INT, Scope, binary_wants, boxed, cut, element_wanted, fault, field_found, firm,
-    hole_at, indexed, is_harness, may_keep, may_pass, named_at, null_at, number_at, pattern_at,
-    reference_meant, reference_to, struct_meant, typed, unary_wants,
+    BIT, Env, INT, Numbers, Scope, StructTable, are_distinct, binary_wants, boxed, cut,
+    element_wanted, fault, field_found, firm, hole_at, indexed, is_harness, may_keep, may_pass,
+    named_at, null_at, number_at, pattern_at, reference_meant, reference_to, struct_meant, typed,
+    unary_wants,
 };
 
 /// An expression at a type that its place wants.
@@ -136,7 +137,7 @@ fn settings(
     env: &Env,
     scope: &Scope,
     span: Span,
-    def: &StructDef,
+    def: &StructTable,
     fields: &[NewField],
 ) -> Result<List<PField>, Typing>
     requires { IsEnv env.now }
@@ -152,6 +153,46 @@ fn settings(
         })?;
     }
     Ok(made)
+}
+
+/// The fields that stand before one that is set again.
+#[cycle(typing)]
+fn settings_before_twice(
+    env: &Env,
+    scope: &Scope,
+    span: Span,
+    def: &StructTable,
+    fields: &[NewField],
+) -> Result<(), Typing>
+    requires { IsEnv env.now }
+{
+    let mut set = Numbers::new(env.alloc);
+    for (i, field) in fields.iter().enumerate() {
+        if set.get(&field.name).is_some() {
+            return Ok(());
+        }
+        set.put(&field.name, i)?;
+        let found = field_found(def, &field.name, span)?;
+        at(env, scope, found.ty, &field.value)?;
+    }
+    Ok(())
+}
+
+/// What is wrong with fields of which one is set twice: what is found before it is set again, else that.
+#[cycle(typing)]
+fn twice_fault(
+    env: &Env,
+    scope: &Scope,
+    span: Span,
+    def: &StructTable,
+    fields: &[NewField],
+) -> Typing
+    requires { IsEnv env.now }
+{
+    match settings_before_twice(env, scope, span, def, fields) {
+        Err(why) => why,
+        Ok(()) => fault(Rule::Twice, span),
+    }
 }
 
 /// A call as it stands, with the type of its result.
@@ -201,8 +242,9 @@ fn made_new(
     let Some(def) = item_at(env.top.structs.as_slice(), s.index as usize) else {
         return Err(fault(Rule::UnknownName, span));
     };
-    if !all_distinct(fields) {
-        return Err(fault(Rule::Twice, span));
+    let distinct = are_distinct(env.alloc, fields)?;
+    if !distinct {
+        return Err(twice_fault(env, scope, span, def, fields));
     }
     let fields = settings(env, scope, span, def, fields)?;
     let form = PEForm::New { s, fields };
@@ -226,7 +268,11 @@ fn member(
         let why = fault(Rule::Mismatch, span);
         return Err(own_fault(env, scope, base).unwrap_or(why));
     };
-    let found = member_found(env, s, name, span)?;
+    let found = match member_found(env, s, name, span) {
+        Ok(found) => found,
+        Err(Typing::Memory) => return Err(Typing::Memory),
+        Err(why) => return Err(own_fault(env, scope, base).unwrap_or(why)),
+    };
     let field = found.field;
     let base = part(env, scope, reference_to(s), base)?;
     let form = PEForm::Member { base, s, field };

@@ -4,8 +4,6 @@
 mod constant;
 mod elaborate;
 mod parts;
-#[cfg(test)]
-mod tests;
 
 pub use constant::constant_fault;
 pub use elaborate::{at, called, meant_at, own_fault};

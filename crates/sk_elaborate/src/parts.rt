@@ -1,8 +1,5 @@
 //! What the parts of an expression are typed by, apart from the parts themselves.
-ghost use Rattle.std.specs.Prelude.{◌≡◌, Some, map};
-ghost use Rattle.std.specs.List.{list_any};
-ghost use Rattle.std.specs.Str.{bytes_eq};
-ghost use Rattle.sk_types.specs.Scope.{all_distinct};
+ghost use Rattle.std.specs.Prelude.{◌≡◌, Some};
 ghost use Rattle.sk_typing.specs.Gives.{Gives};
 ghost use Rattle.sk_typing.specs.Envs.{top_seen, context_of};
 ghost use Rattle.sk_check.specs.Elaborate.{firm_any, member_found};
@@ -11,35 +8,10 @@ ghost use Rattle.sk_check.specs.Parts.{form_part};
 use sk_base::{Name, Span, at as item_at};
 use sk_check::{Found, Rule, Typing};
 use sk_prog::{PEForm, PExpr, StructId, Ty};
-use sk_tree::{EForm, NewField};
+use sk_tree::EForm;
 use sk_types::Own;
-use sk_typing::{Env, Scope, fault, field_found, firm, indexed, is_same};
+use sk_typing::{Env, Scope, fault, field_found, firm, indexed};
 use std::alloc::Global;
-
-#[tactic(auto, using(sk_typing::proofs::Places::split_at))]
-fn is_set(fields: &[NewField], name: &Name) -> bool
-    ensures { result ≡ list_any (bytes_eq name.now) (map (λ (x : NewField). x.name) fields.now) }
-{
-    for field in fields {
-        if is_same(name, &field.name) {
-            return true;
-        }
-    }
-    false
-}
-
-/// Whether no field is set twice.
-#[tactic(auto, using(sk_typing::proofs::Places::split_at))]
-pub fn all_distinct(fields: &[NewField]) -> bool
-    ensures { result ≡ all_distinct (map (λ (x : NewField). x.name) fields.now) }
-{
-    for (i, field) in fields.iter().enumerate() {
-        if is_set(&fields[i + 1..], &field.name) {
-            return false;
-        }
-    }
-    true
-}
 
 /// The type of the variable that an expression names, where it is a name of one.
 pub fn variable(env: &Env, scope: &Scope, form: &EForm) -> Option<Ty>

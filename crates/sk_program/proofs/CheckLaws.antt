@@ -1,5 +1,5 @@
 -- What a tree becomes is what it means.
-use Rattle.std.proofs.Common.{◌≡◌, Option, Some, None, sym, ◌∙◌}
+use Rattle.std.proofs.Common.{◌≡◌, Option, Some, None}
 use Rattle.sk_base.specs.declared.bounds.Bounds.{Bounds}
 use Rattle.sk_tree.specs.declared.item.Tree.{Tree}
 use Rattle.sk_prog.specs.declared.prog.Prog.{Prog}

@@ -1,12 +1,12 @@
 -- Whether all names are free, row by row.
 use Rattle.std.proofs.Common.{◌≡◌, List, [], ◌∷◌, ◌++◌, Bool, true, false, refl, sym, ap, ◌∙◌}
-use Rattle.std.specs.Prelude.{ℕ, map, ◌&&◌}
+use Rattle.std.specs.Prelude.{map, ◌&&◌}
 use Rattle.std.specs.List.{list_all}
 use Rattle.sk_prog.specs.declared.prog.Prog.{Prog}
 use Rattle.sk_prog.specs.declared.prog.Fun.{Fun}
 use Rattle.sk_prog.specs.declared.prog.ConstDef.{ConstDef}
 use Rattle.sk_prog.specs.declared.prog.StructDef.{StructDef}
-use Rattle.sk_types.specs.Scope.{Signature, signature_of, top_names, top_of}
+use Rattle.sk_types.specs.Scope.{Signature, signature_of}
 use Rattle.sk_types.specs.Types.{is_free, fun_free, struct_free, names_free}
 
 all_append : {X : Type 0} (p : X → Bool) (xs ys : List X) → list_all p (xs ++ ys) ≡ (list_all p xs && list_all p ys)

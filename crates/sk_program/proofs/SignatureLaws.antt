@@ -11,7 +11,7 @@ use Rattle.sk_types.specs.Rules.{◌>>=◌, only_if, ty_eq}
 use Rattle.sk_types.specs.Scope.{Context, all_distinct}
 use Rattle.sk_types.specs.Types.{kind_of, may_be, same_bool, same_params}
 use Rattle.sk_check.specs.declared.fault.Typing.{Typing}
-use Rattle.sk_check.specs.declared.fault.Typing.TheVariants.{Fault, Memory}
+use Rattle.sk_check.specs.declared.fault.Typing.TheVariants.{Fault}
 use Rattle.sk_check.specs.declared.fault.TypeFault.{TypeFault}
 use Rattle.sk_check.specs.Whole.{any_written, fields_of, params_of, struct_of, heading_of}
 use Rattle.sk_typing.specs.Gives.{Fails}

@@ -1,5 +1,5 @@
 -- Tops and bodies, one behind another.
-use Rattle.std.proofs.Common.{◌≡◌, ℕ, List, [], ◌∷◌, ◌++◌, Option, Some, None, refl, sym, ap, ◌∙◌, append_assoc}
+use Rattle.std.proofs.Common.{◌≡◌, ℕ, List, [], ◌∷◌, ◌++◌, refl, sym, ap, ◌∙◌, append_assoc}
 use Rattle.std.specs.Prelude.{map}
 use Rattle.std.proofs.lemmas.List.{append-nil}
 use Rattle.sk_tree.specs.declared.item.Item.{Item}
@@ -46,16 +46,22 @@ names_seen (h ∷ hs) = ap (λ rest. h.name ∷ rest) (names_seen hs)
 all_names : (a b : List (List ℕ)) (hs : List Heading) → (a ++ b) ++ map (λ (h : Heading). h.name) hs ≡ a ++ (b ++ map (λ (s : Signature). s.name) (map signature hs))
 all_names a b hs = append_assoc a b (map (λ (h : Heading). h.name) hs) ∙ ap (λ rest. a ++ (b ++ rest)) (names_seen hs)
 
+pub map_same : (xs : List (List ℕ)) → map (λ (x : List ℕ). x) xs ≡ xs
+map_same [] = refl
+map_same (x ∷ xs) = ap (λ rest. x ∷ rest) (map_same xs)
+
 -- the names of structs, then of constants, then of functions
-pub all_made : (ss ss' : List StructDef) (cs cs' : List (List ℕ)) (hs hs' : List Heading) (none a b made : List (List ℕ)) → ss' ≡ ss → cs' ≡ cs → hs' ≡ hs → none ≡ [] → a ≡ none ++ map (λ (d : StructDef). d.name) ss' → b ≡ a ++ cs' → made ≡ b ++ map (λ (h : Heading). h.name) hs' → made ≡ map (λ (d : StructDef). d.name) ss ++ (cs ++ map (λ (s : Signature). s.name) (map signature hs))
+pub all_made : (ss ss' : List StructDef) (cs cs' : List (List ℕ)) (hs hs' : List Heading) (none a b made : List (List ℕ)) → ss' ≡ ss → cs' ≡ cs → hs' ≡ hs → none ≡ [] → a ≡ none ++ map (λ (d : StructDef). d.name) ss' → b ≡ a ++ map (λ (x : List ℕ). x) cs' → made ≡ b ++ map (λ (h : Heading). h.name) hs' → made ≡ map (λ (d : StructDef). d.name) ss ++ (cs ++ map (λ (s : Signature). s.name) (map signature hs))
 all_made ss ss' cs cs' hs hs' none a b made es ec eh en ea eb em =
     em
     ∙ ap (λ (l : List Heading). b ++ map (λ (h : Heading). h.name) l) eh
-    ∙ ap (λ l. l ++ map (λ (h : Heading). h.name) hs) (eb ∙ ap (λ l. a ++ l) ec ∙ ap (λ l. l ++ cs) (ea ∙ ap (λ (l : List StructDef). none ++ map (λ (d : StructDef). d.name) l) es ∙ ap (λ l. l ++ map (λ (d : StructDef). d.name) ss) en))
+    ∙ ap (λ l. l ++ map (λ (h : Heading). h.name) hs) (eb ∙ ap (λ l. a ++ l) (map_same cs' ∙ ec) ∙ ap (λ l. l ++ cs) (ea ∙ ap (λ (l : List StructDef). none ++ map (λ (d : StructDef). d.name) l) es ∙ ap (λ l. l ++ map (λ (d : StructDef). d.name) ss) en))
     ∙ all_names (map (λ (d : StructDef). d.name) ss) cs hs
 
 pub ruleset adding = (append_none, map_added)
 
 pub ruleset rows = (split_at, one_more)
+
+pub ruleset defs = (append_none, one_more)
 
 pub ruleset naming = (split_at, named_next, joined_none)

@@ -1,10 +1,11 @@
 -- What a whole tree becomes, step by step.
-use Rattle.std.proofs.Common.{◌≡◌, List, [], Bool, true, false, Option, Some, None, refl, sym, ap, ◌∙◌}
+use Rattle.std.proofs.Common.{◌≡◌, List, [], Bool, true, false, Option, Some, None, sym, ap, ◌∙◌}
 use Rattle.std.specs.Prelude.{not, ◌||◌, if◌then◌else◌}
 use Rattle.sk_base.specs.declared.bounds.Bounds.{Bounds}
 use Rattle.sk_tree.specs.declared.item.Item.{Item}
 use Rattle.sk_tree.specs.declared.item.Tree.{Tree}
 use Rattle.sk_prog.specs.declared.prog.Prog.{Prog}
+use Rattle.sk_prog.specs.declared.prog.StructDef.{StructDef}
 use Rattle.sk_types.specs.Rules.{◌>>=◌, only_if}
 use Rattle.sk_types.specs.Scope.{Top, all_distinct, top_names}
 use Rattle.sk_types.specs.Types.{has_generator, names_free}
@@ -14,12 +15,15 @@ use Rattle.sk_typing.specs.Gives.{Fails}
 use Rattle.sk_check.specs.Whole.{Bodies, named_top, typed_top, bodies_of, may_keep_names, prog_in, items_of, prog_of}
 use Rattle.sk_types.specs.Plain.{plain, steps_are_targets}
 
-abbrev whole_of : Top → Bodies → Prog
-whole_of top b = record { structs = top.structs; consts = b.consts; funs = b.funs }
+abbrev whole_of : List StructDef → Bodies → Prog
+whole_of ss b = record { structs = ss; consts = b.consts; funs = b.funs }
 
 -- the program of items whose bodies are known
-pub prog_kept : (bounds : Bounds) (top : Top) (is : List Item) (b : Bodies) (k : Bool) → bodies_of bounds top [] is ≡ Some b → (not (has_generator (whole_of top b)) || names_free (whole_of top b)) ≡ k → prog_in bounds top is ≡ only_if k (whole_of top b)
-prog_kept bounds top is b k h t = ap (λ o. o >>= λ (b : Bodies). may_keep_names (whole_of top b)) h ∙ ap (λ k. only_if k (whole_of top b)) t
+pub prog_kept : (bounds : Bounds) (top : Top) (is : List Item) (b : Bodies) (ss : List StructDef) (k : Bool) → bodies_of bounds top [] is ≡ Some b → ss ≡ top.structs → (not (has_generator (whole_of ss b)) || names_free (whole_of ss b)) ≡ k → prog_in bounds top is ≡ only_if k (whole_of ss b)
+prog_kept bounds top is b ss k h e t =
+    ap (λ o. o >>= λ (b : Bodies). may_keep_names (whole_of top.structs b)) h
+    ∙ ap (λ ss. only_if (not (has_generator (whole_of ss b)) || names_free (whole_of ss b)) (whole_of ss b)) (sym e)
+    ∙ ap (λ k. only_if k (whole_of ss b)) t
 
 -- the program of items whose names are known
 pub items_named : (bounds : Bounds) (is : List Item) (names : Top) (k : Bool) → names ≡ named_top is → all_distinct (top_names names) ≡ k → items_of bounds is ≡ (if k then (typed_top bounds names [] is >>= λ top. prog_in bounds top is) else None)

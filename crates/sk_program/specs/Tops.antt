@@ -7,7 +7,6 @@ use Rattle.sk_types.specs.Rules.{◌>>=◌}
 use Rattle.sk_types.specs.Scope.{Top, Known}
 use Rattle.sk_check.specs.declared.fault.Typing.{Typing}
 use Rattle.sk_check.specs.declared.fault.Typing.TheVariants.{Fault, Memory}
-use Rattle.sk_check.specs.declared.env.Constant.{Constant}
 use Rattle.sk_check.specs.Envs.{known}
 use Rattle.sk_check.specs.Whole.{Bodies, typed_top, bodies_of, prog_in}
 use Rattle.sk_typing.specs.declared.env.Names.{Names}

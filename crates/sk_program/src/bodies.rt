@@ -1,13 +1,12 @@
 //! The values of constants and the bodies of functions.
-ghost use Rattle.std.specs.Prelude.{◌≡◌, map, []};
+ghost use Rattle.std.specs.Prelude.{map, []};
 ghost use Rattle.sk_tree.specs.declared.item.Item.TheVariants as item;
-ghost use Rattle.sk_types.specs.Scope.{meaning_of};
-ghost use Rattle.sk_types.specs.Types.{parameters, variable_of};
+ghost use Rattle.sk_types.specs.Types.{parameters};
 ghost use Rattle.sk_check.specs.Envs.{known, signature};
-ghost use Rattle.sk_check.specs.Whole.{context_in, bodies_of, const_of, fun_of, implements_of, prog_in};
+ghost use Rattle.sk_check.specs.Whole.{context_in, bodies_of, const_of, fun_of, implements_of};
 ghost use Rattle.sk_typing.specs.Envs.{context_of, top_seen, IsEnv, IsNumbered};
 ghost use Rattle.sk_typing.specs.Gives.{Gives, IsWidth};
-ghost use Rattle.sk_program.specs.Tops.{bodies_seen, bodies_after, Steps, GivesBodies};
+ghost use Rattle.sk_program.specs.Tops.{bodies_after, Steps, GivesBodies};
 
 use crate::items::{heading_in, know, number_in};
 use crate::signature::{NOWHERE, may_implement};
@@ -16,7 +15,7 @@ use sk_bodies::{enter, make_all, most, value_at};
 use sk_check::{Constant, Heading, Meant, Rule, Typing};
 use sk_prog::{ConstDef, Fun, FunId, ParamDef};
 use sk_tree::{Expr, FunItem, Item};
-use sk_typing::{Env, INT, Names, Scope, copied, fault, numbered};
+use sk_typing::{Env, INT, Listed, Names, Scope, copied, fault, numbered};
 use std::alloc::Global;
 
 /// What is made of the items so far: constants and functions, and the numbers of the constants.
@@ -24,7 +23,7 @@ use std::alloc::Global;
 pub struct Whole {
     pub consts: List<ConstDef>,
     pub funs: List<Fun>,
-    pub known: List<Constant>,
+    pub known: Listed<Constant>,
 }
 
 /// A constant with its number.
@@ -108,7 +107,7 @@ fn const_in(
     alloc: Global,
     bounds: &Bounds,
     top: &Names,
-    earlier: &[Constant],
+    earlier: &Listed<Constant>,
     name: &Name,
     value: &Expr,
     number: u32,
@@ -130,7 +129,7 @@ fn fun_in(
     alloc: Global,
     bounds: &Bounds,
     top: &Names,
-    earlier: &[Constant],
+    earlier: &Listed<Constant>,
     item: &FunItem,
     heading: Heading,
 ) -> Result<Fun, Typing>
@@ -160,9 +159,8 @@ fn make_const(
     requires numbered { IsNumbered top.now }
     ensures { Steps result (bodies_after bounds.now (top_seen top.now) whole.old) (bodies_after bounds.now (top_seen top.now) whole.new) (item.Const name.now value.now) }
 {
-    let number = number_in(alloc, bounds, top, whole.known.as_slice(), value)?;
-    let earlier = whole.known.as_slice();
-    let def = const_in(alloc, bounds, top, earlier, name, value, number)?;
+    let number = number_in(alloc, bounds, top, &whole.known, value)?;
+    let def = const_in(alloc, bounds, top, &whole.known, name, value, number)?;
     know(alloc, &mut whole.known, name, number)?;
     whole.consts.push(def)?;
     Ok(())
@@ -180,15 +178,8 @@ fn make_fun(
     requires numbered { IsNumbered top.now }
     ensures { Steps result (bodies_after bounds.now (top_seen top.now) whole.old) (bodies_after bounds.now (top_seen top.now) whole.new) (item.Fun function.now) }
 {
-    let heading = heading_in(alloc, bounds, top, whole.known.as_slice(), function)?;
-    let fun = fun_in(
-        alloc,
-        bounds,
-        top,
-        whole.known.as_slice(),
-        function,
-        heading,
-    )?;
+    let heading = heading_in(alloc, bounds, top, &whole.known, function)?;
+    let fun = fun_in(alloc, bounds, top, &whole.known, function, heading)?;
     whole.funs.push(fun)?;
     Ok(())
 }
@@ -228,7 +219,7 @@ pub fn bodies_of(
     let mut whole = Whole {
         consts: List::new(alloc),
         funs: List::new(alloc),
-        known: List::new(alloc),
+        known: Listed::new(alloc),
     };
     for item in items {
         make_item(alloc, bounds, top, &mut whole, item)?;

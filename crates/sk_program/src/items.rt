@@ -1,5 +1,5 @@
 //! What stands at the top, with the types of fields and of signatures.
-ghost use Rattle.std.specs.Prelude.{◌≡◌, map, []};
+ghost use Rattle.std.specs.Prelude.{map, []};
 ghost use Rattle.sk_tree.specs.declared.item.Item.TheVariants as item;
 ghost use Rattle.sk_types.specs.Constants.{constant_number};
 ghost use Rattle.sk_check.specs.Envs.{known};
@@ -10,29 +10,28 @@ ghost use Rattle.sk_typing.specs.Leaves.{GivesHeading};
 ghost use Rattle.sk_program.specs.Tops.{typed_after, Steps, Knows, GivesTop};
 
 use crate::signature::{NOWHERE, heading_of, struct_of};
-use sk_base::{Bounds, List, Name};
+use sk_base::{Bounds, Name};
 use sk_check::{Constant, Heading, Rule, Typing};
 use sk_elaborate::constant_fault;
-use sk_prog::StructDef;
 use sk_tree::{Expr, Field, FunItem, Item};
-use sk_typing::{Env, Names, Scope, copied, fault};
+use sk_typing::{Env, Listed, Names, Scope, StructTable, copied, fault};
 use std::alloc::Global;
 
 /// What is typed of the items so far: what stands at the top, and the numbers of the constants.
 #[derive(Drop)]
 pub struct Typed {
     pub names: Names,
-    pub known: List<Constant>,
+    pub known: Listed<Constant>,
 }
 
 fn struct_in(
     alloc: Global,
     bounds: &Bounds,
     top: &Names,
-    earlier: &[Constant],
+    earlier: &Listed<Constant>,
     name: &Name,
     fields: &[Field],
-) -> Result<StructDef, Typing>
+) -> Result<StructTable, Typing>
     requires width { IsWidth bounds.now }
     requires numbered { IsNumbered top.now }
     ensures { Gives result (struct_of (context_in bounds.now (top_seen top.now) (map known earlier.now)) name.now fields.now) }
@@ -51,7 +50,7 @@ pub fn number_in(
     alloc: Global,
     bounds: &Bounds,
     top: &Names,
-    earlier: &[Constant],
+    earlier: &Listed<Constant>,
     value: &Expr,
 ) -> Result<u32, Typing>
     requires width { IsWidth bounds.now }
@@ -76,7 +75,7 @@ pub fn heading_in(
     alloc: Global,
     bounds: &Bounds,
     top: &Names,
-    earlier: &[Constant],
+    earlier: &Listed<Constant>,
     item: &FunItem,
 ) -> Result<Heading, Typing>
     requires width { IsWidth bounds.now }
@@ -96,7 +95,7 @@ pub fn heading_in(
 #[tactic(auto, using(crate::proofs::ItemLaws::known_added))]
 pub fn know(
     alloc: Global,
-    earlier: &mut List<Constant>,
+    earlier: &mut Listed<Constant>,
     name: &Name,
     number: u32,
 ) -> Result<(), Typing>
@@ -120,7 +119,7 @@ fn type_struct(
     requires numbered { IsNumbered top.now }
     ensures { Steps result (typed_after bounds.now (top_seen top.now) typed.old) (typed_after bounds.now (top_seen top.now) typed.new) (item.Struct name.now fields.now) }
 {
-    let def = struct_in(alloc, bounds, top, typed.known.as_slice(), name, fields)?;
+    let def = struct_in(alloc, bounds, top, &typed.known, name, fields)?;
     typed.names.structs.push(def)?;
     Ok(())
 }
@@ -138,7 +137,7 @@ fn type_const(
     requires numbered { IsNumbered top.now }
     ensures { Steps result (typed_after bounds.now (top_seen top.now) typed.old) (typed_after bounds.now (top_seen top.now) typed.new) (item.Const name.now value.now) }
 {
-    let number = number_in(alloc, bounds, top, typed.known.as_slice(), value)?;
+    let number = number_in(alloc, bounds, top, &typed.known, value)?;
     let copy = copied(alloc, name)?;
     know(alloc, &mut typed.known, name, number)?;
     typed.names.consts.push(copy)?;
@@ -157,7 +156,7 @@ fn type_fun(
     requires numbered { IsNumbered top.now }
     ensures { Steps result (typed_after bounds.now (top_seen top.now) typed.old) (typed_after bounds.now (top_seen top.now) typed.new) (item.Fun function.now) }
 {
-    let heading = heading_in(alloc, bounds, top, typed.known.as_slice(), function)?;
+    let heading = heading_in(alloc, bounds, top, &typed.known, function)?;
     typed.names.funs.push(heading)?;
     Ok(())
 }
@@ -197,12 +196,8 @@ pub fn typed_top(
     ensures { GivesTop result (typed_top bounds.now (top_seen top.now) [] items.now) }
 {
     let mut typed = Typed {
-        names: Names {
-            structs: List::new(alloc),
-            consts: List::new(alloc),
-            funs: List::new(alloc),
-        },
-        known: List::new(alloc),
+        names: Names::new(alloc),
+        known: Listed::new(alloc),
     };
     for item in items {
         type_item(alloc, bounds, top, &mut typed, item)?;

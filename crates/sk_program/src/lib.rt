@@ -5,8 +5,7 @@ mod bodies;
 mod items;
 mod meant;
 mod names;
+mod place;
 mod signature;
-#[cfg(test)]
-mod tests;
 
 pub use meant::check;

@@ -11,10 +11,12 @@ ghost use Rattle.sk_check.specs.Whole.{prog_in, items_of, prog_of};
 ghost use Rattle.sk_typing.specs.Envs.{top_seen, IsNumbered};
 ghost use Rattle.sk_typing.specs.Gives.{Gives, IsWidth, IsMemory};
 ghost use Rattle.sk_program.specs.Tops.{prog_named, IsFault};
+ghost use Rattle.sk_program.specs.Places.{IsPlaced};
 
 use crate::bodies::{Whole, bodies_of};
 use crate::items::typed_top;
 use crate::names::{are_distinct, named_top};
+use crate::place::placed;
 use crate::signature::{NOWHERE, is_generator};
 use sk_base::{Bounds, List};
 use sk_bodies::{body_free, is_free};
@@ -22,8 +24,8 @@ use sk_check::{Rule, Typing};
 use sk_plain::{plain, unsteady_step};
 use sk_prog::{ConstDef, FieldDef, Fun, ParamDef, Prog, StructDef};
 use sk_tree::{Item, Tree};
-use sk_typing::{Names, fault};
-use std::alloc::Global;
+use sk_typing::{Listed, Names, StructTable, fault};
+use std::alloc::{AllocError, Global};
 
 #[tactic(auto, using(sk_typing::proofs::Places::split_at))]
 fn has_generator(funs: &[Fun]) -> bool
@@ -133,6 +135,18 @@ fn may_keep_names(prog: &Prog) -> bool
     !has_generator(prog.funs.as_slice()) || names_free(prog)
 }
 
+/// The structs as they stand in a program.
+#[tactic(auto, using(crate::proofs::TopLaws::defs))]
+fn struct_defs(alloc: Global, tables: Listed<StructTable>) -> Result<List<StructDef>, AllocError>
+    ensures { IfOk result (λ defs. defs ≡ tables) }
+{
+    let mut defs = List::new(alloc);
+    for table in tables.into_vec() {
+        defs.push(table.into_def())?;
+    }
+    Ok(defs)
+}
+
 /// The program of these items, where these names stand at the top.
 fn prog_in(alloc: Global, bounds: &Bounds, top: Names, items: &[Item]) -> Result<Prog, Typing>
     requires { IsWidth bounds.now }
@@ -152,6 +166,7 @@ fn prog_in(alloc: Global, bounds: &Bounds, top: Names, items: &[Item]) -> Result
         consts: _,
         funs: _,
     } = top;
+    let structs = struct_defs(alloc, structs)?;
     let prog = Prog {
         structs,
         consts,
@@ -206,6 +221,18 @@ fn prog_of(alloc: Global, tree: &Tree, bounds: &Bounds) -> Result<Prog, Typing>
     }
 }
 
+/// The same, with the place of a fault where that stands in the tree.
+fn prog_placed(alloc: Global, tree: &Tree, bounds: &Bounds) -> Result<Prog, Typing>
+    requires { IsWidth bounds.now }
+    ensures gives { Gives result (prog_of bounds.now tree.now) }
+    ensures place { IfErr result (λ why. IsPlaced tree.now why) }
+{
+    match prog_of(alloc, tree, bounds) {
+        Ok(prog) => Ok(prog),
+        Err(why) => Err(placed(tree, why)),
+    }
+}
+
 /// The program that a tree means. Where the names of the tree are words and no keywords, as those of a tree that is
 /// read are, the program is well-formed: its numbers name what is there. A fault names the rule that is broken, and a span of the tree at which it is, or 0
 /// to 0 where what breaks it has none.
@@ -214,8 +241,9 @@ pub fn check(alloc: Global, tree: &Tree, bounds: &Bounds) -> Result<Prog, Typing
     ensures found { IfOk result (λ prog. Types tree.now bounds.now prog) }
     ensures only { (prog : Prog) → Types tree.now bounds.now prog → MatchResult result (λ made. made ≡ prog) IsMemory }
     ensures fault { IfErr result (λ why. IsFault why → (prog : Prog) → Types tree.now bounds.now prog → ⊥) }
+    ensures place { IfErr result (λ why. IsPlaced tree.now why) }
     ensures fits { IfOk result (λ prog. IsTrue (all_names is_name tree.now) → IsTrue (prog_fits prog)) }
 {
-    let meant = prog_of(alloc, tree, bounds)?;
+    let meant = prog_placed(alloc, tree, bounds)?;
     Ok(meant)
 }

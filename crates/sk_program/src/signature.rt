@@ -1,11 +1,8 @@
 //! Signatures and structs: the types of fields, parameters and results, and what functions may be.
-ghost use Rattle.std.specs.Prelude.{◌≡◌, not, ◌&&◌, map};
+ghost use Rattle.std.specs.Prelude.{◌≡◌, not, ◌&&◌};
 ghost use Rattle.std.specs.List.{list_any, list_all};
-ghost use Rattle.std.specs.Str.{bytes_eq};
-ghost use Rattle.sk_prog.specs.declared.prog.FieldDef.{FieldDef};
 ghost use Rattle.sk_prog.specs.declared.prog.ParamDef.{ParamDef};
 ghost use Rattle.sk_types.specs.Rules.{base_of, holds_references, ty_eq};
-ghost use Rattle.sk_types.specs.Scope.{all_distinct};
 ghost use Rattle.sk_types.specs.Types.{kind_of, any_references, speaks_of_records, may_be, is_generator, same_bool, same_params, same_result, may_implement};
 ghost use Rattle.sk_check.specs.Envs.{signature};
 ghost use Rattle.sk_check.specs.Whole.{any_written, fields_of, params_of, struct_of, heading_of};
@@ -16,10 +13,10 @@ ghost use Rattle.sk_typing.specs.Envs.{context_of, IsEnv};
 use sk_base::{List, Name, Span, at as item_at};
 use sk_bodies::written;
 use sk_check::{Heading, Rule, Typing};
-use sk_prog::{Elem, FieldDef, FunKind as PFunKind, ParamDef, StructDef, Ty};
+use sk_prog::{Elem, FieldDef, FunKind as PFunKind, ParamDef, Ty};
 use sk_tree::{Field, FunItem, FunKind, Param, TyTree};
 use sk_types::ty_eq;
-use sk_typing::{Env, Scope, copied, fault, is_same};
+use sk_typing::{Env, Listed, Scope, StructTable, are_distinct, copied, fault};
 
 /// Items and names have no span.
 pub const NOWHERE: Span = Span { from: 0, to: 0 };
@@ -145,54 +142,6 @@ fn same_result(a: Option<Ty>, b: Option<Ty>) -> bool
     }
 }
 
-#[tactic(auto, using(sk_typing::proofs::Places::split_at))]
-fn field_named(fields: &[FieldDef], name: &Name) -> bool
-    ensures { result ≡ list_any (bytes_eq name.now) (map (λ (d : FieldDef). d.name) fields.now) }
-{
-    for field in fields {
-        if is_same(name, &field.name) {
-            return true;
-        }
-    }
-    false
-}
-
-#[tactic(auto, using(sk_typing::proofs::Places::split_at))]
-fn fields_distinct(fields: &[FieldDef]) -> bool
-    ensures { result ≡ all_distinct (map (λ (d : FieldDef). d.name) fields.now) }
-{
-    for (i, field) in fields.iter().enumerate() {
-        if field_named(&fields[i + 1..], &field.name) {
-            return false;
-        }
-    }
-    true
-}
-
-#[tactic(auto, using(sk_typing::proofs::Places::split_at))]
-fn param_named(params: &[ParamDef], name: &Name) -> bool
-    ensures { result ≡ list_any (bytes_eq name.now) (map (λ (d : ParamDef). d.name) params.now) }
-{
-    for param in params {
-        if is_same(name, &param.name) {
-            return true;
-        }
-    }
-    false
-}
-
-#[tactic(auto, using(sk_typing::proofs::Places::split_at))]
-fn params_distinct(params: &[ParamDef]) -> bool
-    ensures { result ≡ all_distinct (map (λ (d : ParamDef). d.name) params.now) }
-{
-    for (i, param) in params.iter().enumerate() {
-        if param_named(&params[i + 1..], &param.name) {
-            return false;
-        }
-    }
-    true
-}
-
 fn any_written(env: &Env, ty: &Option<TyTree>) -> Result<Option<Ty>, Typing>
     requires { IsEnv env.now }
     ensures { Gives result (any_written (context_of env.now) ty.now) }
@@ -208,12 +157,12 @@ fn any_written(env: &Env, ty: &Option<TyTree>) -> Result<Option<Ty>, Typing>
 }
 
 #[tactic(auto, using(sk_typing::proofs::Follows::steps))]
-fn fields_of(env: &Env, fields: &[Field]) -> Result<List<FieldDef>, Typing>
+fn fields_of(env: &Env, fields: &[Field]) -> Result<Listed<FieldDef>, Typing>
     requires { IsEnv env.now }
     ensures { Gives result (fields_of (context_of env.now) fields.now) }
 {
     let scope = Scope::new(env.alloc);
-    let mut made = List::new(env.alloc);
+    let mut made = Listed::new(env.alloc);
     for field in fields {
         let ty = written(env, &scope, NOWHERE, &field.ty)?;
         let name = copied(env.alloc, &field.name)?;
@@ -242,16 +191,17 @@ fn params_of(env: &Env, params: &[Param]) -> Result<List<ParamDef>, Typing>
 }
 
 /// A struct, with the types of its fields.
-pub fn struct_of(env: &Env, name: &Name, fields: &[Field]) -> Result<StructDef, Typing>
+pub fn struct_of(env: &Env, name: &Name, fields: &[Field]) -> Result<StructTable, Typing>
     requires { IsEnv env.now }
     ensures { Gives result (struct_of (context_of env.now) name.now fields.now) }
 {
     let fields = fields_of(env, fields)?;
-    if !fields_distinct(fields.as_slice()) {
+    let distinct = are_distinct(env.alloc, fields.as_slice())?;
+    if !distinct {
         return Err(fault(Rule::Twice, NOWHERE));
     }
     let name = copied(env.alloc, name)?;
-    Ok(StructDef { name, fields })
+    Ok(StructTable::new(name, fields))
 }
 
 /// What a function is to its callers.
@@ -265,7 +215,8 @@ pub fn heading_of(env: &Env, item: &FunItem) -> Result<Heading, Typing>
     if !may_be(kind, params.as_slice(), returns) {
         return Err(fault(Rule::BadSignature, NOWHERE));
     }
-    if !params_distinct(params.as_slice()) {
+    let distinct = are_distinct(env.alloc, params.as_slice())?;
+    if !distinct {
         return Err(fault(Rule::Twice, NOWHERE));
     }
     let name = copied(env.alloc, &item.name)?;

@@ -1,13 +1,16 @@
 -- How the parts of lists follow one another.
 use Rattle.std.proofs.Common.{◌≡◌, ℕ, zero, suc, ◌+◌, ◌<◌, ◌≤◌, List, [], ◌∷◌, ◌++◌, length, drop, get_or, Option, Some, None, refl, sym, ap, ◌∙◌, append_assoc, add-one, arith}
-use Rattle.std.specs.Prelude.{map, slice_get}
+use Rattle.std.specs.Prelude.{map, slice_get, ℤ, pos, Bool, true, false, if◌then◌else◌}
+use Rattle.std.specs.Str.{bytes_eq}
 use Rattle.std.proofs.lemmas.List.{length-map}
 use Rattle.sk_prog.specs.declared.expr.PExpr.{PExpr}
 use Rattle.sk_prog.specs.declared.prog.ParamDef.{ParamDef}
 use Rattle.sk_types.specs.Rules.{◌>>=◌}
-use Rattle.sk_types.specs.Scope.{Signature}
+use Rattle.sk_types.specs.Scope.{Signature, place_of, next_place}
+use Rattle.sk_types.specs.Constants.{number_known}
 use Rattle.sk_check.specs.declared.env.Heading.{Heading}
-use Rattle.sk_check.specs.Envs.{signature}
+use Rattle.sk_check.specs.declared.env.Constant.{Constant}
+use Rattle.sk_check.specs.Envs.{signature, known}
 use Rattle.sk_check.specs.Making.{Made, makes}
 use Rattle.sk_check.specs.Elaborate.{with_string, Argument, arguments_at}
 use Rattle.sk_typing.proofs.Places.{split_at}
@@ -64,6 +67,29 @@ pub get_signature : (hs : List Heading) (i : ℕ) → slice_get (map signature h
 get_signature [] i = refl
 get_signature (h ∷ hs) zero = refl
 get_signature (h ∷ hs) (suc i) = get_signature hs i
+
+-- the names of functions, as their callers see them
+pub function_names : (hs : List Heading) → map (λ (s : Signature). s.name) (map signature hs) ≡ map (λ (h : Heading). h.name) hs
+function_names [] = refl
+function_names (h ∷ hs) = ap (λ l. h.name ∷ l) (function_names hs)
+
+-- the number of a constant, by its place
+abbrev pub number_in : Option Constant → Option ℤ
+number_in None = None
+number_in (Some c) = Some (pos c.number)
+
+abbrev pub number_at : List Constant → Option ℕ → Option ℤ
+number_at cs None = None
+number_at cs (Some i) = number_in (slice_get cs i)
+
+pub number_placed : (cs : List Constant) (x : List ℕ) → number_known (map known cs) x ≡ number_at cs (place_of (map (λ (c : Constant). c.name) cs) x)
+number_placed [] x = refl
+number_placed (c ∷ cs) x = by (bytes_eq c.name x) (place_of (map (λ (c : Constant). c.name) cs) x) (number_placed cs x)
+  where
+    by : (b : Bool) (o : Option ℕ) → number_known (map known cs) x ≡ number_at cs o → (if b then Some (pos c.number) else number_known (map known cs) x) ≡ number_at (c ∷ cs) (if b then Some 0 else next_place o)
+    by true o h = refl
+    by false None h = h
+    by false (Some i) h = h
 
 pub length_map : {X Y : Type 0} (xs : List X) (f : X → Y) → length (map f xs) ≡ length xs
 length_map xs f = length-map xs f

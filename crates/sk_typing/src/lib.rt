@@ -2,12 +2,18 @@
 #![tactic(auto)]
 
 mod env;
+mod listed;
+mod named;
 mod number;
+mod numbers;
 mod own;
 mod rules;
 mod scope;
 
-pub use env::{Env, Names, field_place, is_same};
+pub use env::{Env, Names};
+pub use listed::{Listed, Named, are_distinct};
+pub use named::StructTable;
+pub use numbers::Numbers;
 pub use own::{is_harness, reference_meant, reference_to, struct_meant};
 pub use rules::{
     BIT, INT, binary_wants, boxed, copied, cut, element_wanted, fault, field_found, firm, hole_at,

@@ -7,9 +7,10 @@ ghost use Rattle.sk_typing.specs.Envs.{context_of, IsEnv};
 ghost use Rattle.sk_check.specs.Parts.{form_part, part, length_of};
 ghost use Rattle.sk_typing.specs.Gives.{IsWidth};
 
-use crate::env::{Env, is_same};
+use crate::env::Env;
+use crate::listed::Listed;
 use crate::scope::Scope;
-use sk_base::{Bounds, Name};
+use sk_base::{Bounds, Name, at};
 use sk_check::Constant;
 use sk_tree::{EForm, Expr, Mark};
 use sk_types::{Place, in_range};
@@ -66,19 +67,20 @@ fn computed(op: Mark, a: i64, b: i64) -> Option<i64>
     }
 }
 
-#[tactic(auto, using(crate::proofs::Places::split_at))]
-fn number_known(constants: &[Constant], name: &Name) -> Option<i64>
+#[tactic(auto, using(crate::proofs::Follows::number_placed))]
+fn number_known(constants: &Listed<Constant>, name: &Name) -> Option<i64>
     ensures { result ≡ number_known (map known constants.now) name.now }
 {
-    for constant in constants {
-        if is_same(&constant.name, name) {
-            return Some(i64::from(constant.number));
-        }
+    match constants.place(name) {
+        None => None,
+        Some(place) => match at(constants.as_slice(), place) {
+            None => None,
+            Some(constant) => Some(i64::from(constant.number)),
+        },
     }
-    None
 }
 
-fn number_named(place: Option<Place>, constants: &[Constant], name: &Name) -> Option<i64>
+fn number_named(place: Option<Place>, constants: &Listed<Constant>, name: &Name) -> Option<i64>
     ensures { result ≡ number_named place (map known constants.now) name.now }
 {
     match place {

@@ -8,11 +8,11 @@ ghost use Rattle.sk_typing.specs.Gives.{Gives, IsWidth};
 ghost use Rattle.sk_check.specs.Envs.{meaning};
 ghost use Rattle.sk_check.specs.Elaborate.{typed, coerced, firm_at, number_at, named_at, null_at, hole_at, pattern_at, may_pass, element_wanted, field_found, viewed, indexed, cut, flip_wants, unary_wants, wants, operands_want, shift_wants, binary_wants};
 
-use crate::env::field_place;
+use crate::named::StructTable;
 use crate::own::{count_of, sliced};
-use sk_base::{Bounds, Boxed, List, Name, Span};
+use sk_base::{Bounds, Boxed, List, Name, Span, at};
 use sk_check::{Found, Meant, Rule, TypeFault, Typing, View, Wants};
-use sk_prog::{BinOp, Elem, PEForm, PExpr, ParamDef, StructDef, Ty, UnOp};
+use sk_prog::{BinOp, Elem, PEForm, PExpr, ParamDef, Ty, UnOp};
 use sk_types::{
     Class, Fit, Own, class_of, element_of, fit_of, flipped, hole_takes, in_range, loose_takes,
     number_takes, operand, result_of, ty_eq,
@@ -253,13 +253,13 @@ pub fn element_wanted(ty: Ty, count: usize) -> Option<Ty>
 }
 
 /// A struct's field, by its name.
-pub fn field_found(def: &StructDef, name: &Name, span: Span) -> Result<Found, Typing>
+pub fn field_found(def: &StructTable, name: &Name, span: Span) -> Result<Found, Typing>
     ensures { Gives result (field_found def.now name.now) }
 {
-    let Some(place) = field_place(def.fields.as_slice(), name) else {
+    let Some(place) = def.field(name) else {
         return Err(fault(Rule::UnknownName, span));
     };
-    let Some(field) = def.fields.get(place) else {
+    let Some(field) = at(def.fields(), place) else {
         return Err(fault(Rule::UnknownName, span));
     };
     let ty = field.ty;

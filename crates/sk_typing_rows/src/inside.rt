@@ -4,7 +4,7 @@ use crate::text::{Outcome, is_breach_at, typed};
 use sk_check::Rule;
 use std::alloc::{AllocError, Global};
 
-const UNKNOWN: [(&[u8], &[u8]); 21] = [
+const UNKNOWN: [(&[u8], &[u8]); 25] = [
     (b"int z = y + 1;", b"y"),
     (b"int z = 1 + (y - 2);", b"y"),
     (b"int z = y[0];", b"y"),
@@ -26,9 +26,16 @@ const UNKNOWN: [(&[u8], &[u8]); 21] = [
     (b"a[y] = 1;", b"y"),
     (b"for (y = 1; b; x++) ;", b"y"),
     (b"int z = (x + y) + v;", b"y"),
+    (b"S z = new S(u = y, u = 1);", b"y"),
+    (b"int z = new S(u = y).z;", b"y"),
+    (
+        b"S z = new S(u = 1, z = 2, u = y);",
+        b"new S(u = 1, z = 2, u = y)",
+    ),
+    (b"int[y] x = 1;", b"y"),
 ];
 
-const OTHER: [(Rule, &[u8], &[u8]); 15] = [
+const OTHER: [(Rule, &[u8], &[u8]); 18] = [
     (Rule::Mismatch, b"int z = v + x + y;", b"v + x"),
     (Rule::Mismatch, b"int z = (b ? v : x) + 1;", b"b ? v : x"),
     (Rule::Mismatch, b"int z = x[0::1][0];", b"x[0::1]"),
@@ -44,6 +51,17 @@ const OTHER: [(Rule, &[u8], &[u8]); 15] = [
     (Rule::LengthRange, b"int z = a[0::4][0];", b"4"),
     (Rule::LengthRange, b"int[64][5] z;", b"5"),
     (Rule::HoleWidth, b"int z = ??(16) + y;", b"??(16)"),
+    (
+        Rule::HoleWidth,
+        b"S z = new S(u = ??(16), u = y);",
+        b"??(16)",
+    ),
+    (
+        Rule::Twice,
+        b"S z = new S(u = 1, u = y);",
+        b"new S(u = 1, u = y)",
+    ),
+    (Rule::LengthRange, b"int[65] x = y;", b"65"),
 ];
 
 const NONE: [&[u8]; 9] = [

@@ -3,7 +3,11 @@
 #![tactic(auto)]
 
 #[cfg(test)]
+mod bodies;
+#[cfg(test)]
 mod examples;
+#[cfg(test)]
+mod expressions;
 #[cfg(test)]
 mod fits;
 #[cfg(test)]
@@ -23,7 +27,11 @@ mod plain_forms;
 #[cfg(test)]
 mod pragmas;
 #[cfg(test)]
+mod programs;
+#[cfg(test)]
 mod rules;
+#[cfg(test)]
+mod scopes;
 #[cfg(test)]
 mod shadows;
 #[cfg(test)]

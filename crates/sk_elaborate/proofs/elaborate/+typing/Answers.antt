@@ -8,7 +8,7 @@ use Rattle.sk_types.specs.Sorts.{struct_meant}
 use Rattle.sk_check.specs.Elaborate.{typed, coerced, arguments_at}
 use Rattle.sk_check.specs.Parts.{arguments}
 use Rattle.sk_typing.specs.Envs.{context_of}
-use Rattle.sk_elaborate.proofs.PartLaws.{argument_made, argument_fails, many_arguments, few_arguments, lost, refused, new_refused, new_made}
+use Rattle.sk_elaborate.proofs.PartLaws.{argument_made, argument_fails, many_arguments, few_arguments, lost, refused, fails_nothing, new_refused, new_made}
 use Rattle.sk_elaborate.proofs.elaborate.+typing.Goals as goal
 
 pub arguments-returns-in_default : goal.arguments-returns-in_default
@@ -34,19 +34,19 @@ arguments-returns-then-es-params t c =
     refused _ _ _ c.fault-then-es-params.ensures (lost _ _ _ c.loop-i.invariant (few_arguments (context_of c.args.env.now) c.args.scope.now c.args.params.now c.args.es.now c.loop-i.i c.loop-i-test.false
     (omega (arith, c.if-es-params.true, c.loop-i.auto.i-end))))
 
-pub made_new-returns-then-not-all_distinct : goal.made_new-returns-then-not-all_distinct
-made_new-returns-then-not-all_distinct t c =
-    refused _ _ _ c.fault-then-not-all_distinct.ensures (new_refused (context_of c.args.env.now) c.args.scope.now c.args.name.now c.args.fields.now c.args.span c.args.ty c.in-Some.s c.in-Some-item_at.def.now
+pub made_new-returns-then-not-distinct : goal.made_new-returns-then-not-distinct
+made_new-returns-then-not-distinct t c =
+    fails_nothing _ _ (new_refused (context_of c.args.env.now) c.args.scope.now c.args.name.now c.args.fields.now c.args.span c.args.ty c.in-Some.s c.in-Some-item_at.def.now
     (ap struct_meant (sym c.meaning.ensures) ∙ sym c.struct_meant.ensures ∙ c.in-Some.is)
     (ap (λ l. slice_get l c.in-Some.s.index) (sym c.as_slice.ensures) ∙ sym c.at.ensures ∙ ap option_copied c.in-Some-item_at.is)
-    (sym c.all_distinct.ensures ∙ c.if-not-all_distinct.true))
+    (sym c.in_ok-distinct.ensures ∙ c.if-not-distinct.true))
 
 pub made_new-returns : goal.made_new-returns
 made_new-returns t c =
     new_made (context_of c.args.env.now) c.args.scope.now c.args.name.now c.args.fields.now c.args.span c.args.ty c.in-Some.s c.in-Some-item_at.def.now c.in_ok-fields.fields
     (ap struct_meant (sym c.meaning.ensures) ∙ sym c.struct_meant.ensures ∙ c.in-Some.is)
     (ap (λ l. slice_get l c.in-Some.s.index) (sym c.as_slice.ensures) ∙ sym c.at.ensures ∙ ap option_copied c.in-Some-item_at.is)
-    (sym c.all_distinct.ensures ∙ c.if-not-all_distinct.false)
+    (sym c.in_ok-distinct.ensures ∙ c.if-not-distinct.false)
     c.in_ok-fields.ensures
     ∙ ap (λ u. coerced (fit_of u c.args.ty) c.args.ty (typed c.args.span u (pform.New c.in-Some.s c.in_ok-fields.fields))) (sym c.reference_to.ensures)
     ∙ c.in_ok-e.ensures

@@ -11,13 +11,13 @@ pub returns-in_err-number : goal.returns-in_err-number
 returns-in_err-number c =
     let p = err_from_is_err_and c.from_residual.result c.from_residual.ensures.1 in
     let w = c.args.whole.now in
-    rw (p.1, p.2) (number_fails c.args.bounds.now (top_seen c.args.top.now) (map known w.known) (bodies_seen w) (bodies_after c.args.bounds.now (top_seen c.args.top.now) w) c.args.name.now c.args.value.now _ (rw c.as_slice.ensures at c.in_err-number.ensures))
+    rw (p.1, p.2) (number_fails c.args.bounds.now (top_seen c.args.top.now) (map known w.known) (bodies_seen w) (bodies_after c.args.bounds.now (top_seen c.args.top.now) w) c.args.name.now c.args.value.now _ c.in_err-number.ensures)
 
 pub returns-in_err-def : goal.returns-in_err-def
 returns-in_err-def c =
     let p = err_from_is_err_and c.from_residual-in_err-def.result c.from_residual-in_err-def.ensures.1 in
     let w = c.args.whole.now in
-    rw (p.1, p.2) (value_fails c.args.bounds.now (top_seen c.args.top.now) (map known w.known) (bodies_seen w) (bodies_after c.args.bounds.now (top_seen c.args.top.now) w) c.args.name.now c.args.value.now c.in_ok-number.number _ (rw c.as_slice.ensures at c.in_ok-number.ensures) (rw c.as_slice-earlier.ensures at c.in_err-def.ensures))
+    rw (p.1, p.2) (value_fails c.args.bounds.now (top_seen c.args.top.now) (map known w.known) (bodies_seen w) (bodies_after c.args.bounds.now (top_seen c.args.top.now) w) c.args.name.now c.args.value.now c.in_ok-number.number _ c.in_ok-number.ensures c.in_err-def.ensures)
 
 pub returns-in_err-know : goal.returns-in_err-know
 returns-in_err-know c =
@@ -30,4 +30,4 @@ returns-in_err-know c =
 pub returns : goal.returns
 returns c =
     let w = c.args.whole.now in
-    body_const_step c.args.bounds.now (top_seen c.args.top.now) (map known w.known) _ w.consts _ w.funs c.args.name.now c.args.value.now c.in_ok-number.number c.in_ok-def.def (rw c.as_slice.ensures at c.in_ok-number.ensures) (rw c.as_slice-earlier.ensures at c.in_ok-def.ensures) c.in_ok-know.ensures c.in_ok-push.ensures.ok
+    body_const_step c.args.bounds.now (top_seen c.args.top.now) (map known w.known) _ w.consts _ w.funs c.args.name.now c.args.value.now c.in_ok-number.number c.in_ok-def.def c.in_ok-number.ensures c.in_ok-def.ensures c.in_ok-know.ensures c.in_ok-push.ensures.ok

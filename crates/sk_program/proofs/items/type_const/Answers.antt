@@ -11,7 +11,7 @@ pub returns-in_err-number : goal.returns-in_err-number
 returns-in_err-number c =
     let p = err_from_is_err_and c.from_residual.result c.from_residual.ensures.1 in
     let t = c.args.typed.now in
-    rw (p.1, p.2) (const_fails c.args.bounds.now (top_seen c.args.top.now) (map known t.known) (top_seen t.names) (typed_after c.args.bounds.now (top_seen c.args.top.now) t) c.args.name.now c.args.value.now _ (rw c.as_slice.ensures at c.in_err-number.ensures))
+    rw (p.1, p.2) (const_fails c.args.bounds.now (top_seen c.args.top.now) (map known t.known) (top_seen t.names) (typed_after c.args.bounds.now (top_seen c.args.top.now) t) c.args.name.now c.args.value.now _ c.in_err-number.ensures)
 
 pub returns-in_err-copy : goal.returns-in_err-copy
 returns-in_err-copy c =
@@ -31,4 +31,4 @@ returns-in_err-know c =
 pub returns : goal.returns
 returns c =
     let t = c.args.typed.now in
-    const_step c.args.bounds.now (top_seen c.args.top.now) (map known t.known) _ t.names.structs t.names.consts t.names.funs _ c.args.name.now c.args.value.now c.in_ok-number.number (rw c.as_slice.ensures at c.in_ok-number.ensures) c.in_ok-know.ensures (pushed t.names.consts _ c.args.name.now c.in_ok-copy.copy c.in_ok-push.ensures.ok c.in_ok-copy.ensures)
+    const_step c.args.bounds.now (top_seen c.args.top.now) (map known t.known) _ t.names.structs t.names.consts t.names.funs _ c.args.name.now c.args.value.now c.in_ok-number.number c.in_ok-number.ensures c.in_ok-know.ensures (pushed t.names.consts _ c.args.name.now c.in_ok-copy.copy c.in_ok-push.ensures.ok c.in_ok-copy.ensures)
