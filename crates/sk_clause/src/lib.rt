@@ -5,8 +5,6 @@ mod clauses;
 mod law;
 mod list;
 mod lit;
-#[cfg(test)]
-mod tests;
 
 pub use clauses::Clauses;
 pub use law::refutation_is_sound;

@@ -8,8 +8,6 @@ mod leaf;
 mod leaves;
 mod nodes;
 mod signed;
-#[cfg(test)]
-mod tests;
 
 pub use growing::{Encoded, Growing, encode};
 pub use leaf::Leaf;

@@ -8,8 +8,6 @@ mod counting;
 mod program;
 mod repeats;
 mod stop;
-#[cfg(test)]
-mod tests;
 mod walker;
 
 pub use program::expand;

@@ -1,1 +1,2 @@
 pub mod Fillable
+pub mod Completable

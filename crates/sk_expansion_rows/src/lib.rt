@@ -2,6 +2,8 @@
 #![tactic(auto)]
 
 #[cfg(test)]
+mod copies;
+#[cfg(test)]
 mod fillings;
 #[cfg(test)]
 mod layouts;
@@ -10,6 +12,12 @@ mod limits;
 #[cfg(test)]
 mod measures;
 #[cfg(test)]
+mod sites;
+#[cfg(test)]
+mod sizes;
+#[cfg(test)]
 mod spans;
 #[cfg(test)]
 mod text;
+#[cfg(test)]
+mod trials;

@@ -13,11 +13,7 @@ mod key;
 mod product;
 mod quotient;
 mod shared;
-#[cfg(test)]
-mod shared_tests;
 mod sharing;
-#[cfg(test)]
-mod tests;
 mod words;
 
 pub use bit::Bit;

@@ -8,6 +8,3 @@ mod spelling;
 
 pub use fault::LexFault;
 pub use lexer::tokens;
-
-#[cfg(test)]
-mod tests;

@@ -6,8 +6,6 @@ mod checker;
 mod codes;
 mod log;
 mod look;
-#[cfg(test)]
-mod tests;
 mod trail;
 mod values;
 mod watches;

@@ -12,8 +12,6 @@ mod round;
 mod search;
 mod settle;
 mod solver;
-#[cfg(test)]
-mod tests;
 mod trail;
 mod values;
 mod watches;

@@ -6,8 +6,6 @@ mod listed;
 mod lister;
 mod listing;
 mod sizes;
-#[cfg(test)]
-mod tests;
 
 pub use fault::SitesFault;
 pub use listing::sites_of;

@@ -11,8 +11,6 @@ mod count;
 mod entry;
 mod fault;
 mod tally;
-#[cfg(test)]
-mod tests;
 mod walk;
 
 pub use answer::Sizes;

@@ -16,6 +16,3 @@ pub use copy::{copy_kind, copy_token};
 pub use fault::PatternFault;
 pub use item::spell;
 pub use string::strings;
-
-#[cfg(test)]
-mod tests;

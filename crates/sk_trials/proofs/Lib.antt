@@ -3,4 +3,3 @@ pub mod Division
 pub mod Numbering
 pub mod TryLaws
 pub mod SearchLaws
-pub mod Completable

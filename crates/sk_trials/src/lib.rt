@@ -7,8 +7,6 @@ mod digits;
 mod input;
 mod same;
 mod search;
-#[cfg(test)]
-mod tests;
 mod trial;
 
 pub use completion::Completion;

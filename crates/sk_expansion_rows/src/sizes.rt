@@ -1,8 +1,8 @@
 //! Sizes of small programs, worked out by hand.
-use crate::{SizeFault, sizes};
 use sk_base::{Bounds, Boxed, List, Name, Span};
 use sk_model::Expanded;
 use sk_prog::{Fun, FunId, FunKind, PEForm, PExpr, PForm, PStmt, Prog, StructId};
+use sk_sizes::{SizeFault, sizes};
 use std::alloc::{AllocError, Global};
 use std::test::Fail;
 

@@ -1,4 +1,4 @@
-use crate::{ClauseList, Clauses, Lit};
+use sk_clause::{ClauseList, Clauses, Lit};
 use std::test::Fail;
 
 const A: Lit = Lit { var: 0, neg: false };

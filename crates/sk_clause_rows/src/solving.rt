@@ -1,7 +1,7 @@
 ghost use Rattle.std.specs.Prelude.{◌≡◌, ◌≤◌, OnOk};
 
-use crate::{Answer, Solver};
 use sk_clause::{ClauseList, Lit};
+use sk_sat::{Answer, Solver};
 use std::alloc::{AllocError, Global};
 use std::test::Fail;
 

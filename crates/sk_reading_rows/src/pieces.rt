@@ -1,8 +1,8 @@
 //! Texts and their tokens, by hand.
 ghost use Rattle.std.specs.Prelude.{◌≤◌, length};
 
-use crate::{LexFault, tokens};
 use sk_base::push_number;
+use sk_lexer::{LexFault, tokens};
 use sk_tree::{Kind, Token};
 use std::alloc::{AllocError, Global};
 

@@ -1,6 +1,6 @@
 //! Strings and spellings of small patterns and trees, by hand.
-use crate::{PatternFault, spell, strings};
 use sk_base::{Boxed, List, Name, Span, push_number};
+use sk_spell::{PatternFault, spell, strings};
 use sk_tree::{
     EForm, Expr, Form, FunItem, FunKind, Item, Key, Kind, Mark, Pattern, StepKind, Stmt, Token,
     Tree,

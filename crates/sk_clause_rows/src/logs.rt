@@ -1,7 +1,7 @@
 ghost use Rattle.std.specs.Prelude.{◌≡◌, IfOk};
 
-use crate::{each_follows, refutes};
 use sk_clause::{ClauseList, Clauses, Lit, Log};
+use sk_rup::{each_follows, refutes};
 use std::alloc::{AllocError, Global};
 use std::test::Fail;
 

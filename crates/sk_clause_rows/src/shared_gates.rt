@@ -3,8 +3,8 @@
 ghost use Rattle.std.specs.Prelude.{IsTrue, ◌≤◌};
 ghost use Rattle.sk_gates.specs.Bits.{reach};
 
-use crate::{Bit, SharedGates};
 use sk_clause::{Clauses, Lit};
+use sk_gates::{Bit, SharedGates};
 use std::alloc::AllocError;
 use std::process::Abort;
 use std::test::Fail;

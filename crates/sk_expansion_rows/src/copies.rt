@@ -1,6 +1,6 @@
 //! Expansions of small programs, worked out by hand.
-use crate::{SizeFault, expand};
 use sk_base::{Bounds, List, Name, Span, at};
+use sk_expand::{SizeFault, expand};
 use sk_prog::{Elem, Fun, FunId, FunKind, PEForm, PExpr, PForm, PStmt, Prog, Ty};
 use std::alloc::{AllocError, Global};
 

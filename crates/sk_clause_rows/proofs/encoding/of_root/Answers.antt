@@ -1,5 +1,5 @@
 use Rattle.std.proofs.Common.{[], refl}
-use Rattle.sk_cnf.proofs.tests.of_root.Goals as goal
+use Rattle.sk_clause_rows.proofs.encoding.of_root.Goals as goal
 
 pub require-requires-clause-begun : goal.require-requires-clause-begun
 require-requires-clause-begun g c =

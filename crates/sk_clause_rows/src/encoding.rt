@@ -6,9 +6,9 @@ ghost use Rattle.sk_cnf.specs.Standing.{Stands};
 ghost use Rattle.sk_base.specs.Word.{IsWord};
 ghost use Rattle.sk_dag.specs.Graph.{HasBool, HasWord, HasCost, MayFollow};
 
-use crate::{Encoded, Growing, Leaf, are_distinct, encode};
 use sk_base::{List, wrap};
 use sk_clause::Lit;
+use sk_cnf::{Encoded, Growing, Leaf, are_distinct, encode};
 use sk_dag::{BoolId, CostId, Dag, Node, WordId};
 use std::alloc::{AllocError, Global};
 use std::process::Abort;

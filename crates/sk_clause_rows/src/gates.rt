@@ -2,12 +2,12 @@ ghost use Rattle.std.specs.Prelude.{◌≡◌, ℕ, ◌≤◌, ◌<◌, length, 
 ghost use Rattle.sk_clause.specs.Problem.{IsWithin};
 ghost use Rattle.sk_gates.specs.Bits.{AreOver, reach};
 
-use crate::{
+use sk_base::List;
+use sk_clause::{Clauses, Lit};
+use sk_gates::{
     Bit, SharedGates, add_bits, adder, and, div_bits, divider, less, mul_bits, multiplier, mux,
     mux_each, padded, xor,
 };
-use sk_base::List;
-use sk_clause::{Clauses, Lit};
 use std::alloc::{AllocError, Global};
 use std::test::Fail;
 

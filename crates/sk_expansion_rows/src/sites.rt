@@ -1,7 +1,7 @@
 //! The sites of a small function, worked out by hand.
-use crate::{SitesFault, sites_of};
 use sk_base::{Bounds, List, Name, Span};
 use sk_prog::{Elem, Fun, FunKind, PEForm, PExpr, PForm, PStmt, Ty};
+use sk_sites::{SitesFault, sites_of};
 use std::alloc::{AllocError, Global};
 
 /// An assertion of a hole with this type.

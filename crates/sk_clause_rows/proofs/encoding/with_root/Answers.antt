@@ -1,5 +1,5 @@
 use Rattle.sk_dag.proofs.EvalLemmas.{Grows-refl}
-use Rattle.sk_cnf.proofs.tests.with_root.Goals as goal
+use Rattle.sk_clause_rows.proofs.encoding.with_root.Goals as goal
 
 pub require-requires-clause-begun : goal.require-requires-clause-begun
 require-requires-clause-begun g c =

@@ -1,9 +1,9 @@
 //! Small sketches, worked out by hand.
-use crate::{Completion, complete, is_small};
 use sk_base::{Bounds, Boxed, List, Name, Span};
 use sk_model::{Expanded, Site};
 use sk_prog::{BinOp, Elem, Fun, FunId, FunKind, PEForm, PExpr, PForm, PStmt, ParamDef, Prog, Ty};
 use sk_sites::sites_of;
+use sk_trials::{Completion, complete, is_small};
 use std::alloc::{AllocError, Global};
 
 const NOWHERE: Span = Span { from: 0, to: 0 };
