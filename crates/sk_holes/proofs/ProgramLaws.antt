@@ -19,7 +19,7 @@ use Rattle.sk_holes.specs.declared.fault.FillFault.{FillFault}
 use Rattle.sk_holes.specs.declared.fault.FillFault.TheVariants.{WrongLength, OutOfRange, Memory}
 use Rattle.sk_holes.specs.Range.{Tests, IsRefused, IsFirstOut, IsWrongLengthOrMemory, IsOutOrMemory, first_out}
 use Rattle.sk_holes.proofs.RangeLaws.{none_is_out}
-use Rattle.sk_holes.specs.Ranks.{ranks_from, count_true}
+use Rattle.sk_copy.specs.Ranks.{ranks_from, count_true}
 use Rattle.sk_holes.specs.Table.{numbered}
 use Rattle.sk_standing.specs.declared.met.Paid.{Paid}
 use Rattle.sk_standing.specs.Met.{payment}

@@ -10,13 +10,11 @@ ghost use Rattle.sk_holes.specs.Whole.{filled_by};
 ghost use Rattle.sk_holes.specs.Needs.{HasItsSites, are_narrow, are_numbers};
 ghost use Rattle.sk_holes.specs.Range.{IsRefused, IsFirstOut, IsWrongLengthOrMemory, IsOutOrMemory};
 
-use crate::copy::{copy_consts, copy_name, copy_params, copy_structs};
 use crate::fault::FillFault;
 use crate::filler::Filler;
 use crate::range::test_range;
-use crate::ranks::number_functions;
-use crate::slots::slots_needed;
 use sk_base::List;
+use sk_copy::{copy_consts, copy_name, copy_params, copy_structs, number_functions, slots_needed};
 use sk_model::{Choice, Expanded};
 use sk_prog::{Elem, Fun, FunKind, PEForm, PExpr, PForm, PStmt, Prog, Ty};
 use sk_standing::{Paid, Stood, Walker, what_stands};
