@@ -1,0 +1,10 @@
+pub mod Matching
+pub mod Keeping
+pub mod Does
+pub mod Exprs
+pub mod Stmts
+pub mod Funs
+pub mod Slots
+pub mod Twins
+pub mod Ready
+pub mod Whole

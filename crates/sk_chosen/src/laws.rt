@@ -1,0 +1,13 @@
+//! Laws of runs under a choice.
+ghost use Rattle.sk_chosen.specs.Running.{RunsUnderChoices, OrdinaryRunsUnderChoices};
+
+/// Under a choice in range a function of an expansion that stands does what it does in the filling, where it has a
+/// number of its own.
+pub fn runs_under_choices()
+    ensures { RunsUnderChoices }
+{}
+
+/// So an ordinary function does what it does in the filling, under its own number.
+pub fn ordinary_runs_under_choices()
+    ensures { OrdinaryRunsUnderChoices }
+{}

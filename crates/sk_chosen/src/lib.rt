@@ -1,0 +1,6 @@
+//! That what a function does under a choice is what it does in the filling: laws alone, with nothing to run.
+#![tactic(auto)]
+
+mod laws;
+
+pub use laws::{ordinary_runs_under_choices, runs_under_choices};
