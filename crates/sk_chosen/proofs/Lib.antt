@@ -8,3 +8,5 @@ pub mod Slots
 pub mod Twins
 pub mod Ready
 pub mod Whole
+pub mod Obliged
+pub mod Meeting

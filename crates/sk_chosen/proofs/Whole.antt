@@ -44,7 +44,7 @@ kept_runs bounds prog choice f args h stands =
 pub runs_under_choices : RunsUnderChoices
 runs_under_choices bounds prog choice f args h stands = kept_runs bounds prog choice f args h stands.stands
 
-some_at : (fs : List Fun) (n : ℕ) → n < length fs → (f : Fun) × (slice_get fs n ≡ Some f)
+pub some_at : (fs : List Fun) (n : ℕ) → n < length fs → (f : Fun) × (slice_get fs n ≡ Some f)
 some_at [] n h = absurd (omega (arith, h))
 some_at (f ∷ fs) zero h = (f, refl)
 some_at (f ∷ fs) (suc n) h = some_at fs n (omega (arith, h))

@@ -3,4 +3,4 @@
 
 mod laws;
 
-pub use laws::{ordinary_runs_under_choices, runs_under_choices};
+pub use laws::{choices_meet_as_fillings, ordinary_runs_under_choices, runs_under_choices};
