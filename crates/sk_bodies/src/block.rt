@@ -5,7 +5,9 @@ ghost use Rattle.sk_check.specs.Making.{inside, any_inside, block, make_form, ma
 ghost use Rattle.sk_typing.specs.Envs.{context_of, IsEnv};
 ghost use Rattle.sk_typing.specs.Leaves.{Leaves};
 
-use crate::single::{alone, assign, call_of, count_at, declare_one, may_reorder, returned};
+use crate::single::{
+    alone, assign, body_fault, call_of, count_at, declare_one, may_reorder, returned,
+};
 use crate::target::value_at;
 use sk_base::{Boxed, List, Span};
 use sk_check::{Rule, Typing};
@@ -109,6 +111,7 @@ fn make(
 }
 
 #[cycle(making)]
+#[tactic(auto, using(sk_elaborate::proofs::PartLaws::fails_nothing))]
 fn make_while(
     env: &Env,
     returns: Option<Ty>,
@@ -121,8 +124,15 @@ fn make_while(
     ensures { Leaves result scope.new (make_form (context_of env.now) returns (form.While cond.now body.now) from scope.old) }
 {
     let cond = value_at(env, scope, BIT, cond)?;
-    let body = inside(env, returns, scope, from, body)?;
-    let body = Boxed::new(env.alloc, body)?;
+    let count = scope.len();
+    let made = match inside(env, returns, scope, from, body) {
+        Ok(made) => made,
+        Err(Typing::Memory) => return Err(Typing::Memory),
+        Err(Typing::Fault(why)) => {
+            return Err(body_fault(env, scope, count, body, Typing::Fault(why)));
+        }
+    };
+    let body = Boxed::new(env.alloc, made)?;
     Ok(PForm::While { cond, body })
 }
 

@@ -17,7 +17,7 @@ use sk_base::{List, Name, Span};
 use sk_check::{Called, Rule, Typing};
 use sk_elaborate::{at, called, constant_fault};
 use sk_prog::{Elem, PEForm, PExpr, PForm, PStmt, Ty};
-use sk_tree::{Base, Declared, EForm, Expr, TyTree};
+use sk_tree::{Base, Declared, EForm, Expr, Form, Stmt, TyTree};
 use sk_types::{Variable, is_taken};
 use sk_typing::{Env, INT, Scope, copied, fault, numbered, struct_meant, typed};
 use std::alloc::Global;
@@ -336,6 +336,37 @@ pub fn assign(env: &Env, scope: &Scope, target: &Expr, value: &Expr) -> Result<P
     };
     let value = value_at(env, scope, ty, value)?;
     Ok(PForm::Assign { target, value })
+}
+
+/// The first fault of an assignment that stands before the first statement of its block in the text, as the step of a
+/// `for` does.
+fn next_fault(env: &Env, scope: &Scope, stmts: &[Stmt]) -> Option<Typing>
+    requires { IsEnv env.now }
+{
+    let first = stmts.first()?;
+    for stmt in stmts {
+        if stmt.span.from < first.span.from {
+            if let Form::Assign { target, value } = &stmt.form {
+                let found = assign(env, scope, target, value).err();
+                if found.is_some() {
+                    return found;
+                }
+            }
+        }
+    }
+    None
+}
+
+/// What is wrong with the body of a loop in which a fault was found, where so many variables are in scope before it: a
+/// fault of what stands before it in the text, else that.
+pub fn body_fault(env: &Env, scope: &mut Scope, count: usize, body: &Stmt, why: Typing) -> Typing
+    requires { IsEnv env.now }
+{
+    scope.leave(count);
+    match &body.form {
+        Form::Block(stmts) => next_fault(env, scope, stmts.as_slice()).unwrap_or(why),
+        _ => why,
+    }
 }
 
 /// A `return` of a function with this result.

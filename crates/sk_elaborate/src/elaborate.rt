@@ -280,14 +280,32 @@ fn member(
     Ok(e)
 }
 
+/// What is wrong with braces that do not make what is wanted: what is found in the elements that it has room for, else
+/// that.
 #[cycle(typing)]
-#[tactic(auto, using(sk_typing::proofs::Follows::length_map))]
+fn braces_fault(env: &Env, scope: &Scope, span: Span, es: &[Expr], ty: Ty) -> Typing
+    requires { IsEnv env.now }
+{
+    let why = fault(Rule::Mismatch, span);
+    for (i, e) in es.iter().enumerate() {
+        let Some(element) = element_wanted(ty, i + 1) else {
+            return why;
+        };
+        if let Err(found) = at(env, scope, element, e) {
+            return found;
+        }
+    }
+    why
+}
+
+#[cycle(typing)]
+#[tactic(auto, using(sk_typing::proofs::Follows::length_map, crate::proofs::PartLaws::fails_nothing))]
 fn braces(env: &Env, scope: &Scope, span: Span, es: &[Expr], ty: Ty) -> Result<PExpr, Typing>
     requires { IsEnv env.now }
     ensures { Gives result ((form_part (context_of env.now) scope.now (eform.Braces es.now)).at span ty) }
 {
     let Some(element) = element_wanted(ty, es.len()) else {
-        return Err(fault(Rule::Mismatch, span));
+        return Err(braces_fault(env, scope, span, es, ty));
     };
     let es = all(env, scope, element, es)?;
     Ok(typed(span, ty, PEForm::Braces(es)))
@@ -308,8 +326,56 @@ pub fn own_fault(env: &Env, scope: &Scope, e: &Expr) -> Option<Typing>
             cond.or(then).or(other).or(unjoined(own, e.span))
         }
         (Own::Loose, EForm::Hole(_)) | (Own::Wrong, _) => at(env, scope, INT, e).err(),
-        (Own::Loose, _) => None,
+        (Own::Loose, form) => loose_fault(env, scope, e.span, form),
     }
+}
+
+/// The first fault of a form that takes the type of its place, where no type is wanted.
+#[cycle(typing)]
+fn loose_fault(env: &Env, scope: &Scope, span: Span, form: &EForm) -> Option<Typing>
+    requires { IsEnv env.now }
+{
+    match form {
+        EForm::Pattern {
+            pattern: _,
+            strings: es,
+        } => pattern_fault(env, scope, span, es.as_slice()),
+        EForm::Braces(es) => first_fault(env, scope, es.as_slice()),
+        EForm::Unary { op: _, of } => own_fault(env, scope, of.get()),
+        EForm::Binary { op: _, left, right } => {
+            let in_left = own_fault(env, scope, left.get());
+            let in_right = own_fault(env, scope, right.get());
+            in_left.or(in_right)
+        }
+        _ => None,
+    }
+}
+
+/// That no string of a pattern is kept at any type, where each has a fault by itself.
+#[cycle(typing)]
+fn pattern_fault(env: &Env, scope: &Scope, span: Span, es: &[Expr]) -> Option<Typing>
+    requires { IsEnv env.now }
+{
+    for e in es {
+        if own_fault(env, scope, e).is_none() {
+            return None;
+        }
+    }
+    Some(fault(Rule::NoAlternative, span))
+}
+
+/// The first fault of expressions of which no type is wanted.
+#[cycle(typing)]
+fn first_fault(env: &Env, scope: &Scope, es: &[Expr]) -> Option<Typing>
+    requires { IsEnv env.now }
+{
+    for e in es {
+        let found = own_fault(env, scope, e);
+        if found.is_some() {
+            return found;
+        }
+    }
+    None
 }
 
 /// What is wrong with a slice: what is found in its base, else in what it begins at, else `why`.

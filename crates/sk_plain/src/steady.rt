@@ -78,7 +78,7 @@ fn here_unless(is_steady: bool, span: Span) -> Option<Span>
 fn unsteady(stmt: &Stmt) -> Option<Span>
     ensures { is_clear result ≡ stmt_steps stmt.now }
 {
-    form_unsteady(stmt.span, &stmt.form)
+    form_unsteady(&stmt.form)
 }
 
 #[cycle(steps)]
@@ -105,7 +105,7 @@ fn any_unsteady(stmt: &Option<Boxed<Stmt>>) -> Option<Span>
 }
 
 #[cycle(steps)]
-fn form_unsteady(span: Span, form: &Form) -> Option<Span>
+fn form_unsteady(form: &Form) -> Option<Span>
     ensures { is_clear result ≡ form_has_steps form.now }
 {
     match form {
@@ -113,7 +113,7 @@ fn form_unsteady(span: Span, form: &Form) -> Option<Span>
             kind: _,
             target,
             by: _,
-        } => here_unless(is_steady(target), span),
+        } => here_unless(is_steady(target), target.span),
         Form::Block(stmts) | Form::Reorder(stmts) => first_unsteady(stmts.as_slice()),
         Form::If {
             cond: _,
@@ -163,7 +163,7 @@ fn item_unsteady(item: &Item) -> Option<Span>
     }
 }
 
-/// The span of the first step whose target holds a call, a hole or a pattern. There is none exactly where each step
+/// The span of the first target of a step that holds a call, a hole or a pattern. There is none exactly where each step
 /// has a target that may be evaluated twice.
 #[tactic(auto, using(crate::proofs::Places::split_at))]
 pub fn unsteady_step(tree: &Tree) -> Option<Span>

@@ -7,5 +7,6 @@ mod meant;
 mod names;
 mod place;
 mod signature;
+mod steps;
 
 pub use meant::check;

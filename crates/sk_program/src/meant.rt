@@ -1,5 +1,5 @@
 //! The program that a tree means.
-ghost use Rattle.std.specs.Prelude.{◌≡◌, not, ◌&&◌, ◌||◌, ◌↔◌, IsTrue, IfOk, IfErr, MatchResult};
+ghost use Rattle.std.specs.Prelude.{◌≡◌, not, ◌&&◌, ◌||◌, IsTrue, IfOk, IfErr, MatchResult};
 ghost use Rattle.std.specs.List.{list_any, list_all};
 ghost use Rattle.sk_tree.specs.Names.{all_names};
 ghost use Rattle.sk_prog.specs.Fits.{is_name, prog_fits};
@@ -15,9 +15,10 @@ ghost use Rattle.sk_program.specs.Places.{IsPlaced};
 
 use crate::bodies::{Whole, bodies_of};
 use crate::items::typed_top;
-use crate::names::{are_distinct, named_top};
+use crate::names::{are_distinct, is_numbered, named_top};
 use crate::place::placed;
 use crate::signature::{NOWHERE, is_generator};
+use crate::steps::step_fault;
 use sk_base::{Bounds, List};
 use sk_bodies::{body_free, is_free};
 use sk_check::{Rule, Typing};
@@ -120,14 +121,6 @@ fn names_free(prog: &Prog) -> bool
         && (consts_free(prog.consts.as_slice()) && funs_free(prog.funs.as_slice()))
 }
 
-/// Whether the numbers of structs, constants and functions fit into a program. More than that is want of memory.
-fn is_numbered(names: &Names) -> bool
-    ensures { IsTrue result ↔ IsNumbered names.now }
-{
-    let most = u32::MAX as usize;
-    names.structs.len() <= most && (names.consts.len() <= most && names.funs.len() <= most)
-}
-
 /// Whether names may end as those of copies do, which they may where no function is a generator, or none does.
 fn may_keep_names(prog: &Prog) -> bool
     ensures { result ≡ (not (has_generator prog.now) || names_free prog.now) }
@@ -212,7 +205,7 @@ fn prog_of(alloc: Global, tree: &Tree, bounds: &Bounds) -> Result<Prog, Typing>
     ensures { Gives result (prog_of bounds.now tree.now) }
 {
     match unsteady_step(tree) {
-        Some(span) => Err(fault(Rule::NotTarget, span)),
+        Some(target) => Err(step_fault(alloc, tree, bounds, target)),
         None => {
             let plain = plain(alloc, tree)?;
             let prog = items_of(alloc, bounds, plain.items.as_slice())?;

@@ -1,8 +1,8 @@
 //! What stands at the top, from the names alone.
-ghost use Rattle.std.specs.Prelude.{◌≡◌, [], ◌∷◌, ◌++◌, map, OnOk, IfOk};
+ghost use Rattle.std.specs.Prelude.{◌≡◌, [], ◌∷◌, ◌++◌, map, IsTrue, ◌↔◌, OnOk, IfOk};
 ghost use Rattle.sk_types.specs.Scope.{all_distinct, top_names};
 ghost use Rattle.sk_check.specs.Whole.{named_top};
-ghost use Rattle.sk_typing.specs.Envs.{top_seen};
+ghost use Rattle.sk_typing.specs.Envs.{top_seen, IsNumbered};
 ghost use Rattle.sk_program.specs.Tops.{joined};
 
 use crate::signature::kind_of;
@@ -93,4 +93,12 @@ pub fn are_distinct(alloc: Global, names: &Names) -> Result<bool, AllocError>
     let all = top_names(alloc, names)?;
     let distinct = all_distinct(alloc, all.as_slice())?;
     Ok(distinct)
+}
+
+/// Whether the numbers of structs, constants and functions fit into a program. More than that is want of memory.
+pub fn is_numbered(names: &Names) -> bool
+    ensures { IsTrue result ↔ IsNumbered names.now }
+{
+    let most = u32::MAX as usize;
+    names.structs.len() <= most && (names.consts.len() <= most && names.funs.len() <= most)
 }

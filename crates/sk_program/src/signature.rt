@@ -16,7 +16,9 @@ use sk_check::{Heading, Rule, Typing};
 use sk_prog::{Elem, FieldDef, FunKind as PFunKind, ParamDef, Ty};
 use sk_tree::{Field, FunItem, FunKind, Param, TyTree};
 use sk_types::ty_eq;
-use sk_typing::{Env, Listed, Scope, StructTable, are_distinct, copied, fault};
+use sk_typing::{
+    Env, Listed, Numbers, Scope, StructTable, are_distinct, copied, fault, is_harness,
+};
 
 /// Items and names have no span.
 pub const NOWHERE: Span = Span { from: 0, to: 0 };
@@ -190,12 +192,76 @@ fn params_of(env: &Env, params: &[Param]) -> Result<List<ParamDef>, Typing>
     Ok(made)
 }
 
+/// One more name, where these were met before it.
+fn meet(met: &mut Numbers, name: &Name) -> Result<(), Typing> {
+    if met.get(name).is_some() {
+        return Err(fault(Rule::Twice, NOWHERE));
+    }
+    met.put(name, 0)?;
+    Ok(())
+}
+
+/// The first fault of fields: one has no type, or the name of an earlier one.
+fn fields_judged(env: &Env, fields: &[Field]) -> Result<(), Typing>
+    requires { IsEnv env.now }
+{
+    let scope = Scope::new(env.alloc);
+    let mut met = Numbers::new(env.alloc);
+    for field in fields {
+        written(env, &scope, NOWHERE, &field.ty)?;
+        meet(&mut met, &field.name)?;
+    }
+    Ok(())
+}
+
+/// The first fault of a signature: what it gives back or takes may not stand there, or a parameter has the name of an
+/// earlier one.
+fn signature_judged(env: &Env, item: &FunItem) -> Result<(), Typing>
+    requires { IsEnv env.now }
+{
+    let may_not = fault(Rule::BadSignature, NOWHERE);
+    let of_harness = is_harness(kind_of(item.kind));
+    let returns = any_written(env, &item.result)?;
+    if of_harness && any_references(returns) {
+        return Err(may_not);
+    }
+    let scope = Scope::new(env.alloc);
+    let mut met = Numbers::new(env.alloc);
+    for param in item.params.as_slice() {
+        if of_harness && param.by_ref {
+            return Err(may_not);
+        }
+        let ty = written(env, &scope, NOWHERE, &param.ty)?;
+        if of_harness && holds_references(ty) {
+            return Err(may_not);
+        }
+        meet(&mut met, &param.name)?;
+    }
+    Ok(())
+}
+
+/// The types of fields, where all have one.
+#[tactic(auto, using(sk_elaborate::proofs::PartLaws::fails_nothing))]
+fn fields_typed(env: &Env, fields: &[Field]) -> Result<Listed<FieldDef>, Typing>
+    requires { IsEnv env.now }
+    ensures { Gives result (fields_of (context_of env.now) fields.now) }
+{
+    match fields_of(env, fields) {
+        Ok(made) => Ok(made),
+        Err(Typing::Memory) => Err(Typing::Memory),
+        Err(Typing::Fault(why)) => {
+            let why = Typing::Fault(why);
+            Err(fields_judged(env, fields).err().unwrap_or(why))
+        }
+    }
+}
+
 /// A struct, with the types of its fields.
 pub fn struct_of(env: &Env, name: &Name, fields: &[Field]) -> Result<StructTable, Typing>
     requires { IsEnv env.now }
     ensures { Gives result (struct_of (context_of env.now) name.now fields.now) }
 {
-    let fields = fields_of(env, fields)?;
+    let fields = fields_typed(env, fields)?;
     let distinct = are_distinct(env.alloc, fields.as_slice())?;
     if !distinct {
         return Err(fault(Rule::Twice, NOWHERE));
@@ -204,8 +270,8 @@ pub fn struct_of(env: &Env, name: &Name, fields: &[Field]) -> Result<StructTable
     Ok(StructTable::new(name, fields))
 }
 
-/// What a function is to its callers.
-pub fn heading_of(env: &Env, item: &FunItem) -> Result<Heading, Typing>
+/// What a function is to its callers, where its signature has no fault.
+fn heading_typed(env: &Env, item: &FunItem) -> Result<Heading, Typing>
     requires { IsEnv env.now }
     ensures { GivesHeading result (heading_of (context_of env.now) item.now) }
 {
@@ -226,6 +292,21 @@ pub fn heading_of(env: &Env, item: &FunItem) -> Result<Heading, Typing>
         result: returns,
         params,
     })
+}
+
+/// What a function is to its callers.
+pub fn heading_of(env: &Env, item: &FunItem) -> Result<Heading, Typing>
+    requires { IsEnv env.now }
+    ensures { GivesHeading result (heading_of (context_of env.now) item.now) }
+{
+    match heading_typed(env, item) {
+        Ok(heading) => Ok(heading),
+        Err(Typing::Memory) => Err(Typing::Memory),
+        Err(Typing::Fault(why)) => {
+            let why = Typing::Fault(why);
+            Err(signature_judged(env, item).err().unwrap_or(why))
+        }
+    }
 }
 
 /// Whether the first may implement the second.

@@ -4,7 +4,13 @@ use crate::text::{Outcome, is_breach_at, typed};
 use sk_check::Rule;
 use std::alloc::{AllocError, Global};
 
-const UNKNOWN: [(&[u8], &[u8]); 25] = [
+// A statement, and the part of it in which a name is unknown.
+type Unknown = (&'static [u8], &'static [u8]);
+
+// A rule, a statement or a text that breaks it, and the part that does.
+type Broken = (Rule, &'static [u8], &'static [u8]);
+
+const UNKNOWN: &[Unknown] = &[
     (b"int z = y + 1;", b"y"),
     (b"int z = 1 + (y - 2);", b"y"),
     (b"int z = y[0];", b"y"),
@@ -33,9 +39,18 @@ const UNKNOWN: [(&[u8], &[u8]); 25] = [
         b"new S(u = 1, z = 2, u = y)",
     ),
     (b"int[y] x = 1;", b"y"),
+    (b"int[2] z = {y, 1, 2};", b"y"),
+    (b"int[2] z = {1, y + 1, 2, u};", b"y"),
+    (b"int[2] z = {1, y};", b"y"),
+    (b"for (x = 1; b; y++) u = 1;", b"y"),
+    (b"for (x = 1; b; x++) { u = 1; }", b"u"),
+    (b"for (x = 1; u; y++) ;", b"u"),
+    (b"for (x = 1; b; x += y) for (x = 1; b; u++) ;", b"y"),
+    (b"y = 1; a[??]++;", b"y"),
+    (b"a[y + ??] += u;", b"y"),
 ];
 
-const OTHER: [(Rule, &[u8], &[u8]); 18] = [
+const OTHER: &[Broken] = &[
     (Rule::Mismatch, b"int z = v + x + y;", b"v + x"),
     (Rule::Mismatch, b"int z = (b ? v : x) + 1;", b"b ? v : x"),
     (Rule::Mismatch, b"int z = x[0::1][0];", b"x[0::1]"),
@@ -62,9 +77,79 @@ const OTHER: [(Rule, &[u8], &[u8]); 18] = [
         b"new S(u = 1, u = y)",
     ),
     (Rule::LengthRange, b"int[65] x = y;", b"65"),
+    (Rule::Mismatch, b"int[2] z = {1, 2, y};", b"{1, 2, y}"),
+    (Rule::Mismatch, b"int z = {y, 1};", b"{y, 1}"),
+    (Rule::Mismatch, b"int[2] z = {1, v, 2};", b"v"),
+    (Rule::NotTarget, b"a[??]++; y = 1;", b"a[??]"),
+    (Rule::NotTarget, b"a[??] += y;", b"a[??]"),
+    (Rule::NotTarget, b"for (x = 1; b; --a[??]) y = 1;", b"a[??]"),
+    (Rule::NotTarget, b"++w[??];", b"w[??]"),
+    (Rule::NotTarget, b"w[??]++;", b"w[??]"),
+    (Rule::Mismatch, b"a[v]++; a[??]++;", b"v"),
+    (Rule::HoleWidth, b"int z = -??(16) + 40000 + v;", b"??(16)"),
 ];
 
-const NONE: [&[u8]; 9] = [
+// Whole texts; what is no expression and no statement has no place.
+const WHOLE: &[Broken] = &[
+    (Rule::Twice, b"struct S { int u; int u; T v; }", b""),
+    (Rule::UnknownName, b"struct S { T v; int u; int u; }", b""),
+    (Rule::NotConstant, b"struct S { int[??] u; int u; }", b"??"),
+    (Rule::Twice, b"void f(int u, bit u, int[y] v) {}", b""),
+    (Rule::UnknownName, b"void f(int[y] u, bit u) {}", b"y"),
+    (
+        Rule::Twice,
+        b"harness void f(int u, bit u, ref int v) {}",
+        b"",
+    ),
+    (
+        Rule::BadSignature,
+        b"harness void f(ref int u, bit u) {}",
+        b"",
+    ),
+    (
+        Rule::BadSignature,
+        b"struct S {} harness S f(int u, T v) {}",
+        b"",
+    ),
+    (
+        Rule::BadSignature,
+        b"struct S {} harness void f(S u, T v) {}",
+        b"",
+    ),
+    (Rule::UnknownName, b"harness T f(ref int u) {}", b""),
+    (
+        Rule::Twice,
+        b"void f() { int[2] a; a[??]++; } int N = 1; int N = 2;",
+        b"",
+    ),
+    (
+        Rule::UnknownName,
+        b"void f() { int[2] a; a[??]++; } void g(T u) {}",
+        b"",
+    ),
+    (
+        Rule::NotTarget,
+        b"void f() { int[2] a; a[??]++; } void g() implements h {}",
+        b"a[??]",
+    ),
+    (
+        Rule::UnknownName,
+        b"void g() implements h {} void f() { int[2] a; a[??]++; }",
+        b"",
+    ),
+    (
+        Rule::NotTarget,
+        b"void f() { int[2] a; a[??]++; } void g() { y = 1; }",
+        b"a[??]",
+    ),
+    (
+        Rule::UnknownName,
+        b"void g() { y = 1; } void f() { int[2] a; a[??]++; }",
+        b"y",
+    ),
+];
+
+const NONE: [&[u8]; 12] = [
     b"int z = x + 1;",
     b"bit z = x == x;",
     b"int z = p.u + 1;",
@@ -74,6 +159,9 @@ const NONE: [&[u8]; 9] = [
     b"a[0] = 1;",
     b"for (x = 1; b; x++) ;",
     b"for (int y = 1; b; y++) x += y;",
+    b"int[2] z = {1, x};",
+    b"a[x]++;",
+    b"++a[x + 1];",
 ];
 
 // Whether the statement breaks the rule at this part of it.
@@ -83,22 +171,43 @@ fn breaks(alloc: Global, rule: Rule, statement: &[u8], part: &[u8]) -> Result<bo
     Ok(is_breach_at(found, rule, text.as_slice(), part))
 }
 
+// The tables, apart from the tests, so that the proofs of those do not see their rows.
+fn unknown() -> &'static [Unknown] {
+    UNKNOWN
+}
+
+fn other() -> &'static [Broken] {
+    OTHER
+}
+
+fn whole() -> &'static [Broken] {
+    WHOLE
+}
+
+#[test]
+fn the_first_unknown_name_is_named(rt: HostRuntime) -> Result<(), AllocError> {
+    for row in unknown() {
+        let is_named = breaks(rt.alloc(), Rule::UnknownName, row.0, row.1)?;
+        assert!(rt; is_named, "{:?}", row.0);
+    }
+    Ok(())
+}
+
 #[test]
 fn the_first_fault_is_named(rt: HostRuntime) -> Result<(), AllocError> {
-    let mut wrong = Vec::new(rt.alloc());
-    for row in 0..UNKNOWN.len() {
-        let (statement, part) = UNKNOWN[row];
-        if !breaks(rt.alloc(), Rule::UnknownName, statement, part)? {
-            wrong.push(row)?;
-        }
+    for row in other() {
+        let is_named = breaks(rt.alloc(), row.0, row.1, row.2)?;
+        assert!(rt; is_named, "{:?}", row.1);
     }
-    for row in 0..OTHER.len() {
-        let (rule, statement, part) = OTHER[row];
-        if !breaks(rt.alloc(), rule, statement, part)? {
-            wrong.push(UNKNOWN.len() + row)?;
-        }
+    Ok(())
+}
+
+#[test]
+fn the_first_fault_of_a_text_is_named(rt: HostRuntime) -> Result<(), AllocError> {
+    for row in whole() {
+        let found = typed(rt.alloc(), row.1)?;
+        assert!(rt; is_breach_at(found, row.0, row.1, row.2), "{:?}", row.1);
     }
-    assert_eq!(rt; wrong.as_slice(), [].as_slice());
     Ok(())
 }
 

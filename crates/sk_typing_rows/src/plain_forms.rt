@@ -4,17 +4,19 @@ use sk_plain::{copy_name, plain, unsteady_step};
 use sk_tree::{EForm, Expr, Form, FunItem, FunKind, Item, StepKind, Stmt, Tree};
 use std::alloc::{AllocError, Global};
 
-const PLACE: Span = Span { from: 11, to: 14 };
+const STEP: Span = Span { from: 11, to: 14 };
+
+const TARGET: Span = Span { from: 11, to: 12 };
 
 // `void f() { i++; }`, with the target of the step as it is given
 fn tree(alloc: Global, target: EForm) -> Result<Tree, AllocError> {
     let mut body = List::new(alloc);
     body.push(Stmt {
-        span: PLACE,
+        span: STEP,
         form: Form::Step {
             kind: StepKind::PostInc,
             target: Expr {
-                span: PLACE,
+                span: TARGET,
                 form: target,
             },
             by: None,
@@ -62,9 +64,9 @@ fn a_step_is_an_assignment(rt: HostRuntime) -> Result<(), AllocError> {
 }
 
 #[test]
-fn a_step_of_a_hole_is_refused(rt: HostRuntime) -> Result<(), AllocError> {
+fn a_step_of_a_hole_is_refused_at_its_target(rt: HostRuntime) -> Result<(), AllocError> {
     let whole = tree(rt.alloc(), EForm::Hole(None))?;
-    assert!(rt; unsteady_step(&whole) == Some(PLACE));
+    assert!(rt; unsteady_step(&whole) == Some(TARGET));
     Ok(())
 }
 

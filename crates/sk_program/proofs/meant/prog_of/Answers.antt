@@ -1,12 +1,12 @@
 use Rattle.std.proofs.Common.{sym, ap, ◌∙◌}
 use Rattle.std.proofs.lemmas.Result.{err_from_is_err_and}
 use Rattle.sk_plain.specs.Steady.{is_clear}
-use Rattle.sk_program.proofs.SignatureLaws.{refused}
+use Rattle.sk_elaborate.proofs.PartLaws.{fails_nothing}
 use Rattle.sk_program.proofs.WholeLaws.{tree_refused, tree_plain, fails_as}
 use Rattle.sk_program.proofs.meant.prog_of.Goals as goal
 
 pub returns-in-Some : goal.returns-in-Some
-returns-in-Some c = refused _ _ _ c.fault.ensures (tree_refused c.args.bounds.now c.args.tree.now (sym c.unsteady_step.ensures ∙ ap is_clear c.in-Some.is))
+returns-in-Some c = fails_nothing _ _ (tree_refused c.args.bounds.now c.args.tree.now (sym c.unsteady_step.ensures ∙ ap is_clear c.in-Some.is))
 
 pub returns-in_err-prog-in-None : goal.returns-in_err-prog-in-None
 returns-in_err-prog-in-None c =

@@ -1,7 +1,7 @@
 use Rattle.std.proofs.Common.{sym, ◌∙◌}
 use Rattle.sk_typing.specs.Envs.{context_of}
 use Rattle.sk_program.proofs.SignatureLaws.{heading_made, not_distinct, refused}
-use Rattle.sk_program.proofs.signature.heading_of.Goals as goal
+use Rattle.sk_program.proofs.signature.heading_typed.Goals as goal
 
 pub returns-then-not-distinct : goal.returns-then-not-distinct
 returns-then-not-distinct c =
