@@ -5,11 +5,21 @@ use crate::lines::first_line;
 use crate::sections::{Section, ends_block, first_section, lines_before_mark};
 use std::alloc::{AllocError, Global};
 
+/// What the nearest lines `words`, `before` and `behind` above a row in one line say of it. A line `words` says that
+/// nothing stands before and behind the text.
+#[derive(Debug, Clone, Copy, PartialEq, Eq)]
+pub struct Around<'a> {
+    /// What is done with the text.
+    pub words: &'a [u8],
+    pub before: &'a [u8],
+    pub behind: &'a [u8],
+}
+
 /// A row in one line.
 #[derive(Debug, Clone, Copy, PartialEq, Eq)]
 pub struct LineRow<'a> {
-    /// The words of the nearest line `words` above it.
-    pub words: &'a [u8],
+    pub around: Around<'a>,
+    /// The text as it stands in the row.
     pub text: &'a [u8],
     /// What stands behind the last ` => `.
     pub wanted: &'a [u8],
@@ -36,6 +46,16 @@ pub enum Row<'a> {
     Unreadable(&'a [u8]),
 }
 
+impl LineRow<'_> {
+    /// The whole text, with what stands before and behind it.
+    pub fn whole(&self, alloc: Global) -> Result<Vec<u8>, AllocError> {
+        let mut text = Vec::from_slice(alloc, self.around.before)?;
+        text.extend_from_slice(self.text)?;
+        text.extend_from_slice(self.around.behind)?;
+        Ok(text)
+    }
+}
+
 // A row, and the bytes behind it.
 #[derive(Clone, Copy)]
 struct FirstRow<'a> {
@@ -44,12 +64,12 @@ struct FirstRow<'a> {
 }
 
 // The row that one line is.
-fn line_row<'a>(words: &'a [u8], line: &'a [u8]) -> Row<'a> {
+fn line_row<'a>(around: Around<'a>, line: &'a [u8]) -> Row<'a> {
     for at in (0..line.len()).rev() {
         let (text, behind) = line.split_at(at);
         if let Some(wanted) = behind.strip_prefix(b" => ") {
             return Row::Line(LineRow {
-                words,
+                around,
                 text,
                 wanted,
             });
@@ -100,11 +120,11 @@ fn block_row<'a>(title: &'a [u8], lines: &'a [u8]) -> Row<'a> {
 }
 
 // The row whose first line this is, and the bytes behind the row.
-fn first_row<'a>(words: &'a [u8], line: &'a [u8], rest: &'a [u8]) -> FirstRow<'a>
+fn first_row<'a>(around: Around<'a>, line: &'a [u8], rest: &'a [u8]) -> FirstRow<'a>
     ensures shorter { length result.rest.now ≤ length rest.now }
 {
     let Some(title) = line.strip_prefix(b"=== ") else {
-        let row = line_row(words, line);
+        let row = line_row(around, line);
         return FirstRow { row, rest };
     };
     let (lines, rest) = rest.split_at(block_length(rest));
@@ -112,10 +132,30 @@ fn first_row<'a>(words: &'a [u8], line: &'a [u8], rest: &'a [u8]) -> FirstRow<'a
     FirstRow { row, rest }
 }
 
+// What a line says of the rows behind it, if it is one that says this.
+fn around_of<'a>(around: Around<'a>, line: &'a [u8]) -> Option<Around<'a>> {
+    if let Some(words) = line.strip_prefix(b"words ") {
+        return Some(Around {
+            words,
+            before: b"",
+            behind: b"",
+        });
+    }
+    if let Some(before) = line.strip_prefix(b"before ") {
+        return Some(Around { before, ..around });
+    }
+    let behind = line.strip_prefix(b"behind ")?;
+    Some(Around { behind, ..around })
+}
+
 /// The rows of a file, in order.
 pub fn read_rows<'a>(alloc: Global, bytes: &'a [u8]) -> Result<Vec<Row<'a>>, AllocError> {
     let mut rows = Vec::new(alloc);
-    let mut words: &'a [u8] = b"";
+    let mut around = Around {
+        words: b"",
+        before: b"",
+        behind: b"",
+    };
     let mut rest = bytes;
     while let Some(first) = first_line(rest) {
         rest = first.rest;
@@ -123,11 +163,11 @@ pub fn read_rows<'a>(alloc: Global, bytes: &'a [u8]) -> Result<Vec<Row<'a>>, All
         if line.is_empty() || line.starts_with(b"#") {
             continue;
         }
-        if let Some(found) = line.strip_prefix(b"words ") {
-            words = found;
+        if let Some(found) = around_of(around, line) {
+            around = found;
             continue;
         }
-        let found = first_row(words, line, rest);
+        let found = first_row(around, line, rest);
         rest = found.rest;
         rows.push(found.row)?;
     }
