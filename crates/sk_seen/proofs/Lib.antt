@@ -1,2 +1,4 @@
 pub mod Parts
 pub mod Values
+pub mod Grown
+pub mod Records
