@@ -5,3 +5,5 @@ pub mod Records
 pub mod Heaps
 pub mod Allocs
 pub mod Fields
+pub mod Writes
+pub mod Equals
