@@ -1,11 +1,9 @@
 -- What an allocation under a guard does to the records of a heap.
 use Rattle.std.proofs.lemmas.Option.{none-some, same_Some}
-use Rattle.std.proofs.Common.{◌≡◌, ℕ, zero, suc, ◌≤◌, Bool, true, false, List, [], ◌∷◌, ◌++◌, map, length, IsTrue, Option, Some, None, slice_get, refl, sym, ap, subst, ◌∙◌, arith, ◌⊎◌, inl, inr, ⊎_elim, if◌then◌else◌}
+use Rattle.std.proofs.Common.{◌≡◌, ℕ, zero, suc, Bool, true, false, List, [], ◌∷◌, ◌++◌, map, length, Some, None, slice_get, refl, sym, ap, subst, ◌∙◌, arith, ◌⊎◌, inl, inr, ⊎_elim, if◌then◌else◌}
 use Rattle.sk_dag.specs.declared.env.Env.{Env}
 use Rattle.sk_dag.specs.declared.node.BoolId.{BoolId}
-use Rattle.sk_dag.specs.declared.shape.Seen.{Seen}
 use Rattle.sk_dag.specs.declared.shape.Seen.TheVariants as seen
-use Rattle.sk_dag.specs.declared.shape.Shape.{Shape}
 use Rattle.sk_dag.specs.declared.shape.Shape.TheVariants as shape
 use Rattle.sk_dag.specs.declared.shape.Targets.{Targets}
 use Rattle.sk_dag.specs.Graph.{Graph, Grows}
@@ -15,15 +13,14 @@ use Rattle.sk_arr.specs.Answers.{shapes_value}
 use Rattle.sk_arr.proofs.Values.{value_reference}
 use Rattle.sk_prog.specs.declared.ids.StructId.{StructId}
 use Rattle.sk_prog.specs.declared.prog.Prog.{Prog}
-use Rattle.sk_prog.specs.declared.value.Value.{Value}
 use Rattle.sk_prog.specs.declared.value.Value.TheVariants as value
 use Rattle.sk_model.specs.Heap.{zeros_of}
 use Rattle.sk_heap.specs.declared.slot.Slot.{Slot}
-use Rattle.sk_heap.specs.Types.{form_of, field_types}
-use Rattle.sk_heap.specs.Answers.{guard_of, IsAllocated}
+use Rattle.sk_heap.specs.Types.{field_types}
+use Rattle.sk_heap.specs.Answers.{IsAllocated}
 use Rattle.sk_heap.proofs.Heaps.{get_last}
 use Rattle.sk_seen.specs.Values.{place_of, holds_in, value_of, value_in, IsLive, AllLive, ShapeLive}
-use Rattle.sk_seen.specs.Heaps.{records_of, record_in, heap_value, HeapLive, HeapGrows}
+use Rattle.sk_seen.specs.Heaps.{record_in, heap_value, HeapLive, HeapGrows}
 use Rattle.sk_seen.proofs.Parts.{of_slot, live_slot, live_null}
 use Rattle.sk_seen.proofs.Grown.{HeapGrows-push, holds_at, place_same, all_live_grows}
 use Rattle.sk_seen.proofs.Records.{records_push, place_length}
@@ -61,9 +58,9 @@ module _ {g : Graph} {prog : Prog} {guard : BoolId} {s : StructId} {old new : Li
     allocated_heap live holds =
         ap (heap_value h e) is.pushed ∙ pushed live true holds
         ∙ ap (λ l. heap_value h e old ++ l ∷ []) (
-            values_are h e longer is.slot.fields
-            ∙ ap (map (value_of (place_of (holds_in h e longer)))) (is.zeros h more e)
-            ∙ zeros_are (place_of (holds_in h e longer)) prog s)
+        values_are h e longer is.slot.fields
+        ∙ ap (map (value_of (place_of (holds_in h e longer)))) (is.zeros h more e)
+        ∙ zeros_are (place_of (holds_in h e longer)) prog s)
 
     -- where the guard does not hold there is no new record
     pub unallocated_heap : HeapLive h e old → bool_value h e guard ≡ false → heap_value h e new ≡ heap_value h e old
@@ -95,6 +92,6 @@ module _ {g : Graph} {prog : Prog} {guard : BoolId} {s : StructId} {old new : Li
       each = λ n slot at holds. ⊎_elim
           (λ front. all_live_grows h e (HeapGrows-push old is.slot) (shapes_value h e slot.fields) (live.each n slot front holds))
           (λ last. subst (λ x. AllLive (holds_in h e longer) (shapes_value h e x.fields)) last
-              (subst (AllLive (holds_in h e longer)) (sym (is.zeros h more e)) (forms_live (holds_in h e longer) (field_types prog s))))
+          (subst (AllLive (holds_in h e longer)) (sym (is.zeros h more e)) (forms_live (holds_in h e longer) (field_types prog s))))
           (front_or_last old is.slot slot n at);
     }

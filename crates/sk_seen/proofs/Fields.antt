@@ -1,7 +1,7 @@
 -- What reads and writes of fields are to the records of a heap.
 use Rattle.std.proofs.lemmas.Bool.{eqb-true, eq-eqb}
 use Rattle.std.proofs.lemmas.Option.{none-some, same_Some, slice_get_within, get_or_from_slice_get, slice_get-map}
-use Rattle.std.proofs.Common.{◌≡◌, ◌≢◌, ℕ, zero, suc, ◌<◌, ◌==◌, ◌&&◌, Bool, true, false, true≢false, is_none, List, [], ◌∷◌, map, length, IsTrue, Option, Some, None, option_map, slice_get, slice_set, slice_index_or, All, refl, sym, ap, subst, ◌∙◌, arith, if◌then◌else◌}
+use Rattle.std.proofs.Common.{◌≡◌, ℕ, zero, suc, ◌==◌, ◌&&◌, Bool, true, false, true≢false, is_none, List, [], ◌∷◌, map, IsTrue, Option, Some, None, option_map, slice_get, slice_set, slice_index_or, refl, sym, ap, subst, ◌∙◌, if◌then◌else◌}
 use Rattle.sk_base.specs.declared.span.Span.{Span}
 use Rattle.sk_dag.specs.declared.env.Env.{Env}
 use Rattle.sk_dag.specs.declared.node.BoolId.{BoolId}
@@ -11,21 +11,21 @@ use Rattle.sk_dag.specs.declared.shape.Shape.{Shape}
 use Rattle.sk_dag.specs.declared.shape.Shape.TheVariants as shape
 use Rattle.sk_dag.specs.declared.shape.Targets.{Targets}
 use Rattle.sk_dag.specs.Graph.{Graph, Grows}
-use Rattle.sk_dag.specs.Eval.{bool_value, Keeps}
-use Rattle.sk_dag.specs.EvalShape.{shape_value, held_slot}
+use Rattle.sk_dag.specs.Eval.{bool_value}
+use Rattle.sk_dag.specs.EvalShape.{shape_value}
 use Rattle.sk_arr.specs.Answers.{shapes_value}
-use Rattle.sk_arr.proofs.Values.{value_reference, length_map}
+use Rattle.sk_arr.proofs.Values.{value_reference}
 use Rattle.sk_prog.specs.declared.ids.StructId.{StructId}
 use Rattle.sk_prog.specs.declared.prog.Prog.{Prog}
 use Rattle.sk_prog.specs.declared.value.Value.{Value}
 use Rattle.sk_prog.specs.declared.value.Value.TheVariants as value
-use Rattle.sk_model.specs.Step.{State, Step, Goes, Fails}
-use Rattle.sk_model.specs.Heap.{record_at, blank, read_field, write_field}
+use Rattle.sk_model.specs.Step.{State, Goes, Fails}
+use Rattle.sk_model.specs.Heap.{record_at, blank, read_field}
 use Rattle.sk_heap.specs.declared.slot.Slot.{Slot}
-use Rattle.sk_heap.specs.Fields.{field_at, field_in, field_value}
-use Rattle.sk_heap.specs.Answers.{guard_of, struct_of, slot_of, is_at, is_written, IsFieldRead, IsFieldWritten, MayWrite}
-use Rattle.sk_heap.proofs.Heaps.{mapped_at, field_typed, type_there, targets_of}
-use Rattle.sk_seen.specs.Values.{place_of, guard_holds, holds_in, value_of, value_in, values_in, IsLive, AllLive, ShapeLive}
+use Rattle.sk_heap.specs.Fields.{field_in, field_value}
+use Rattle.sk_heap.specs.Answers.{guard_of, slot_of, is_at, is_written, IsFieldRead, IsFieldWritten}
+use Rattle.sk_heap.proofs.Heaps.{mapped_at}
+use Rattle.sk_seen.specs.Values.{place_of, guard_holds, holds_in, value_of, value_in, IsLive, ShapeLive}
 use Rattle.sk_seen.specs.Heaps.{records_of, record_in, heap_value, HeapLive, HeapGrows}
 use Rattle.sk_seen.proofs.Parts.{of_null, of_slot, slot_live}
 use Rattle.sk_seen.proofs.Grown.{HeapGrows-same, holds_at, mapped_from}
@@ -102,7 +102,7 @@ pub record_is : (h : Graph) (e : Env) (heap : List Slot) (n : ℕ) (slot : Slot)
 record_is h e heap n slot st is at holds =
     ap (λ l. slice_index_or l (place_of (holds_in h e heap) n) []) is
     ∙ index_is (heap_value h e heap) (place_of (holds_in h e heap) n) (record_in h e heap slot) []
-        (record_at_place h e (record_in h e heap) heap n slot at (sym (holds_at h e heap n slot at) ∙ holds))
+    (record_at_place h e (record_in h e heap) heap n slot at (sym (holds_at h e heap n slot at) ∙ holds))
 
 -- ---- reads
 
@@ -123,7 +123,7 @@ module _ {g : Graph} {heap : List Slot} {prog : Prog} {s : StructId} {target : T
       ap (λ v. read_field span field v st) (at_place h e heap target n.0 n.1)
       ∙ ap (λ l. Goes (slice_index_or l field blank) st) (record_is h e heap n.0 found.0 st same at (slot_holds h e heap target n.0 n.1 live) ∙ values_are h e heap found.0.fields)
       ∙ ap (λ v. Goes v st) (index_is (map (value_of (place_of H)) (shapes_value h e found.0.fields)) field (value_in h e heap r) blank
-          (mapped_at (value_of (place_of H)) (shapes_value h e found.0.fields) field (shape_value h e r) found.2))
+      (mapped_at (value_of (place_of H)) (shapes_value h e found.0.fields) field (shape_value h e r) found.2))
 
   -- which is live, where the heap is
   pub read_live : HeapLive h e heap → ShapeLive h e heap (shape.Reference target) → bool_value h e null ≡ false → ShapeLive h e heap r
@@ -132,7 +132,7 @@ module _ {g : Graph} {heap : List Slot} {prog : Prog} {s : StructId} {target : T
       let found = field_of_slot h e heap n.0 field (shape_value h e r) (is.value h more e n.0 n.1) in
       let all = heap_live.each n.0 found.0 found.1 (sym (holds_at h e heap n.0 found.0 found.1) ∙ slot_holds h e heap target n.0 n.1 live) in
       subst (IsLive H) (index_is (shapes_value h e found.0.fields) field (shape_value h e r) (shape_value h e r) found.2)
-          (all.each field (shape_value h e r) (slice_get_within (shapes_value h e found.0.fields) field (shape_value h e r) found.2))
+      (all.each field (shape_value h e r) (slice_get_within (shapes_value h e found.0.fields) field (shape_value h e r) found.2))
 
 -- ---- writes
 
@@ -216,5 +216,5 @@ module _ {g : Graph} {guard : BoolId} {target : Targets} {field : ℕ} {value : 
       set_heap holds =
           new_heap
           ∙ records_set h e (record_in h e old) old new n slot after.0 (slice_set (record_in h e old slot) field (value_in h e old value)) is.guards at after.1
-              (sym (holds_at h e old n slot at) ∙ holds) record_set
-              (λ m s s' p p' q differ. same_record m s s' p p' (λ k. is_there m k ∙ ap (λ b. b && (k == field)) (not_equal n m differ)))
+          (sym (holds_at h e old n slot at) ∙ holds) record_set
+          (λ m s s' p p' q differ. same_record m s s' p p' (λ k. is_there m k ∙ ap (λ b. b && (k == field)) (not_equal n m differ)))

@@ -1,7 +1,7 @@
 -- Heaps that grow: old slots hold where they held, and what was live stays live and is worth the same.
 use Rattle.std.proofs.lemmas.Bool.{ltb-true, lt-ltb}
-use Rattle.std.proofs.lemmas.Option.{none-some, same_Some, slice_get_within, slice_get-map}
-use Rattle.std.proofs.Common.{◌≡◌, ℕ, zero, suc, ◌<◌, ◌≤◌, Bool, true, false, true≢false, nat_lt, List, [], ◌∷◌, ◌++◌, map, length, All, IsTrue, Option, Some, None, slice_get, option_map, refl, sym, ap, subst, ◌∙◌, arith}
+use Rattle.std.proofs.lemmas.Option.{none-some, same_Some, slice_get_within}
+use Rattle.std.proofs.Common.{◌≡◌, ℕ, zero, suc, ◌<◌, ◌≤◌, true≢false, List, [], ◌∷◌, ◌++◌, map, length, IsTrue, Option, Some, None, slice_get, refl, sym, ap, ◌∙◌, arith}
 use Rattle.sk_dag.specs.declared.env.Env.{Env}
 use Rattle.sk_dag.specs.declared.node.BoolId.{BoolId}
 use Rattle.sk_dag.specs.declared.shape.Seen.{Seen}
@@ -10,13 +10,11 @@ use Rattle.sk_dag.specs.Graph.{Graph}
 use Rattle.sk_dag.specs.Eval.{bool_value}
 use Rattle.sk_dag.specs.EvalShape.{shape_value}
 use Rattle.sk_arr.proofs.Values.{length_map}
-use Rattle.sk_prog.specs.declared.ids.StructId.{StructId}
 use Rattle.sk_heap.specs.declared.slot.Slot.{Slot}
-use Rattle.sk_heap.specs.Heaps.{is_of}
 use Rattle.sk_heap.specs.Answers.{guard_of, struct_of}
 use Rattle.sk_heap.proofs.Heaps.{StaysOf, SlotsPass-more, get_front, of_there, there_of, mapped_at}
 use Rattle.sk_seen.specs.Values.{place_of, guard_holds, holds_in, value_of, value_in, values_in, IsLive, AllLive, ShapeLive}
-use Rattle.sk_seen.specs.Heaps.{HeapGrows, IsWithin, AllWithin}
+use Rattle.sk_seen.specs.Heaps.{HeapGrows, IsWithin}
 use Rattle.sk_seen.proofs.Parts.{live_head, live_tail}
 use Rattle.sk_seen.proofs.Values.{place_agrees, live_more, value_agrees}
 

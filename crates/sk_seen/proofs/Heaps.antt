@@ -1,6 +1,5 @@
 -- The records of a heap and the values of its slots, in other words; and zeros.
-use Rattle.std.proofs.lemmas.Option.{none-some, same_Some}
-use Rattle.std.proofs.Common.{◌≡◌, ℕ, zero, suc, Bool, true, false, List, [], ◌∷◌, ◌++◌, map, length, replicate, Option, Some, None, slice_get, slice_set, refl, sym, ap, subst, ◌∙◌, if◌then◌else◌}
+use Rattle.std.proofs.Common.{◌≡◌, ℕ, zero, suc, Bool, true, false, List, [], ◌∷◌, map, replicate, Option, Some, None, slice_get, refl, ap, ◌∙◌, if◌then◌else◌}
 use Rattle.sk_dag.specs.declared.env.Env.{Env}
 use Rattle.sk_dag.specs.declared.node.BoolId.{BoolId}
 use Rattle.sk_dag.specs.declared.shape.Seen.{Seen}
@@ -8,7 +7,6 @@ use Rattle.sk_dag.specs.declared.shape.Seen.TheVariants as seen
 use Rattle.sk_dag.specs.declared.shape.Shape.{Shape}
 use Rattle.sk_dag.specs.Graph.{Graph}
 use Rattle.sk_dag.specs.Eval.{bool_value}
-use Rattle.sk_dag.specs.EvalShape.{shape_value}
 use Rattle.sk_arr.specs.Answers.{shapes_value}
 use Rattle.sk_prog.specs.declared.ids.StructId.{StructId}
 use Rattle.sk_prog.specs.declared.ty.Elem.{Elem}
@@ -18,7 +16,6 @@ use Rattle.sk_prog.specs.declared.ty.Ty.TheVariants as ty
 use Rattle.sk_prog.specs.declared.prog.FieldDef.{FieldDef}
 use Rattle.sk_prog.specs.declared.prog.StructDef.{StructDef}
 use Rattle.sk_prog.specs.declared.prog.Prog.{Prog}
-use Rattle.sk_prog.specs.declared.value.Value.{Value}
 use Rattle.sk_prog.specs.declared.value.Value.TheVariants as value
 use Rattle.sk_model.specs.Values.{zero_of_elem, zero_of}
 use Rattle.sk_model.specs.Heap.{zeros_of}

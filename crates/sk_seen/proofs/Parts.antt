@@ -4,8 +4,8 @@ use Rattle.std.proofs.lemmas.List.Elements.{All-nil, All-cons, All-head, All-tai
 use Rattle.sk_dag.specs.declared.shape.Seen.{Seen}
 use Rattle.sk_dag.specs.declared.shape.Seen.TheVariants as seen
 use Rattle.sk_dag.specs.declared.shape.Seen.TheOpen as F
-use Rattle.sk_dag.specs.declared.shape.Seen.TheViews.{roll-Seen, outs-Bit, outs-Int, outs-Slot, outs-Array}
-use Rattle.sk_dag.specs.declared.shape.Seen.TheFolds.{fold-Seen, fold-roll-Seen, ind-Seen, map-Seen, every-Seen, every_here-Seen, every_held-Seen, every_made-Seen}
+use Rattle.sk_dag.specs.declared.shape.Seen.TheViews.{roll-Seen, outs-Slot, outs-Array}
+use Rattle.sk_dag.specs.declared.shape.Seen.TheFolds.{fold-roll-Seen, ind-Seen, map-Seen, every-Seen, every_here-Seen, every_held-Seen, every_made-Seen}
 use Rattle.sk_prog.specs.declared.value.Value.{Value}
 use Rattle.sk_prog.specs.declared.value.Value.TheVariants as value
 use Rattle.sk_seen.specs.Values.{value_step, value_of, PartLive, IsLive, AllLive}

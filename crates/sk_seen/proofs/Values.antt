@@ -1,12 +1,12 @@
 -- Places of slots, and the values of what is live.
-use Rattle.std.proofs.Common.{◌≡◌, ℕ, zero, suc, ◌<◌, ◌≤◌, Bool, true, false, true≢false, List, [], ◌∷◌, map, All, IsTrue, Option, Some, None, refl, sym, ap, subst, ◌∙◌, arith, ◌⊎◌, inl, inr, ⊎_elim, if◌then◌else◌}
+use Rattle.std.proofs.Common.{◌≡◌, ℕ, zero, suc, ◌<◌, ◌≤◌, Bool, true, false, List, [], ◌∷◌, map, All, IsTrue, Option, Some, None, refl, sym, ap, subst, ◌∙◌, arith, ◌⊎◌, inl, inr, ⊎_elim, if◌then◌else◌}
 use Rattle.std.proofs.lemmas.List.Elements.{All-head, All-tail}
 use Rattle.sk_dag.specs.declared.shape.Seen.{Seen}
 use Rattle.sk_dag.specs.declared.shape.Seen.TheVariants as seen
 use Rattle.sk_prog.specs.declared.value.Value.{Value}
 use Rattle.sk_prog.specs.declared.value.Value.TheVariants as value
 use Rattle.sk_seen.specs.Values.{place_of, value_of, IsLive, AllLive}
-use Rattle.sk_seen.proofs.Parts.{seen_law, of_bit, of_int, of_null, of_slot, of_array, live_bit, live_int, live_null, live_slot, slot_live, live_array, array_live, live_nil, live_cons, live_head, live_tail}
+use Rattle.sk_seen.proofs.Parts.{seen_law, of_bit, of_int, of_null, of_slot, of_array, live_bit, live_int, live_null, live_slot, slot_live, live_array, array_live, live_head, live_tail}
 
 -- ---- places
 

@@ -1,13 +1,11 @@
 -- A write of a field under a guard is a write of the run, where the guard holds, and nothing where it does not.
-use Rattle.std.proofs.lemmas.Bool.{eqb-true, and_parts}
 use Rattle.std.proofs.lemmas.Option.{none-some, same_Some, slice_get_within, slice_get-get_or, get_or_from_slice_get}
 use Rattle.std.proofs.lemmas.List.Elements.{All-head, All-tail}
-use Rattle.std.proofs.Common.{◌≡◌, ℕ, zero, suc, ◌<◌, ◌==◌, ◌&&◌, Bool, true, false, true≢false, is_none, List, [], ◌∷◌, map, length, get_or, IsTrue, Option, Some, None, slice_get, slice_set, All, refl, sym, ap, subst, ◌∙◌, arith, if◌then◌else◌}
+use Rattle.std.proofs.Common.{◌≡◌, ℕ, ◌==◌, ◌&&◌, Bool, true, false, true≢false, is_none, List, [], ◌∷◌, get_or, IsTrue, Option, Some, None, slice_get, slice_set, All, refl, sym, ap, subst, ◌∙◌, if◌then◌else◌}
 use Rattle.sk_base.specs.declared.span.Span.{Span}
 use Rattle.sk_dag.specs.declared.env.Env.{Env}
 use Rattle.sk_dag.specs.declared.node.BoolId.{BoolId}
 use Rattle.sk_dag.specs.declared.shape.Seen.{Seen}
-use Rattle.sk_dag.specs.declared.shape.Seen.TheVariants as seen
 use Rattle.sk_dag.specs.declared.shape.Shape.{Shape}
 use Rattle.sk_dag.specs.declared.shape.Shape.TheVariants as shape
 use Rattle.sk_dag.specs.declared.shape.Targets.{Targets}
@@ -19,18 +17,17 @@ use Rattle.sk_arr.specs.Answers.{shapes_value}
 use Rattle.sk_prog.specs.declared.ids.StructId.{StructId}
 use Rattle.sk_prog.specs.declared.prog.Prog.{Prog}
 use Rattle.sk_prog.specs.declared.value.Value.{Value}
-use Rattle.sk_prog.specs.declared.value.Value.TheVariants as value
-use Rattle.sk_model.specs.Step.{State, Step, Goes, Fails}
-use Rattle.sk_model.specs.Heap.{record_at, write_field}
+use Rattle.sk_model.specs.Step.{State, Goes, Fails}
+use Rattle.sk_model.specs.Heap.{write_field}
 use Rattle.sk_heap.specs.declared.slot.Slot.{Slot}
-use Rattle.sk_heap.specs.Fields.{field_at, field_in, field_value}
+use Rattle.sk_heap.specs.Fields.{field_in, field_value}
 use Rattle.sk_heap.specs.Heaps.{is_of}
 use Rattle.sk_heap.specs.Answers.{guard_of, slot_of, is_at, is_written, IsNull, IsFieldWritten, MayWrite}
 use Rattle.sk_heap.proofs.Heaps.{mapped_at, of_there, field_typed, type_there, targets_of}
 use Rattle.sk_seen.specs.Values.{place_of, holds_in, value_in, IsLive, AllLive, ShapeLive}
 use Rattle.sk_seen.specs.Heaps.{record_in, heap_value, HeapLive}
-use Rattle.sk_seen.proofs.Grown.{holds_at, mapped_from, live_grows}
-use Rattle.sk_seen.proofs.Fields.{field_of_slot, value_of_slot, at_slot, at_null, at_place, slot_holds, record_is, written_grows, unwritten_heap, unwritten_null, set_heap}
+use Rattle.sk_seen.proofs.Grown.{mapped_from, live_grows}
+use Rattle.sk_seen.proofs.Fields.{value_of_slot, at_slot, at_null, at_place, slot_holds, record_is, written_grows, unwritten_null, set_heap}
 
 -- the slot of a reference passes a test that each target passes
 pub held_passes : (g : Graph) (e : Env) (test : ℕ → Bool) (targets : List (ℕ × BoolId)) (n : ℕ) → AllPass test targets → held_slot g e targets ≡ Some n → IsTrue (test n)
@@ -71,9 +68,9 @@ module _ {g0 g : Graph} {prog : Prog} {s : StructId} {guard null : BoolId} {targ
       let holds = slot_holds h e old target n.0 n.1 live in
       ap (λ r. write_field span field (value_in h e old value) r st) (at_place h e old target n.0 n.1)
       ∙ ap (λ l. Goes tt (record st { heap = l })) (
-          ap (λ r. slice_set st.heap (place_of (holds_in h e old) n.0) (slice_set r field (value_in h e old value))) (record_is h e old n.0 slot.0 st same slot.1 holds)
-          ∙ ap (λ l. slice_set l (place_of (holds_in h e old) n.0) (slice_set (record_in h e old slot.0) field (value_in h e old value))) same
-          ∙ sym (set_heap is more e n.0 slot.0 typed.0 n.1 slot.1 there holding holds))
+      ap (λ r. slice_set st.heap (place_of (holds_in h e old) n.0) (slice_set r field (value_in h e old value))) (record_is h e old n.0 slot.0 st same slot.1 holds)
+      ∙ ap (λ l. slice_set l (place_of (holds_in h e old) n.0) (slice_set (record_in h e old slot.0) field (value_in h e old value))) same
+      ∙ sym (set_heap is more e n.0 slot.0 typed.0 n.1 slot.1 there holding holds))
 
   -- the heap stays live, where what is written is live
   pub written_live : HeapLive h e old → (bool_value h e guard ≡ true → ShapeLive h e old value) → HeapLive h e new
@@ -81,9 +78,11 @@ module _ {g0 g : Graph} {prog : Prog} {s : StructId} {guard null : BoolId} {targ
     each = λ n slot' at' holding.
         let found = mapped_from guard_of old n slot'.guard (ap (λ l. slice_get l n) (sym is.guards) ∙ mapped_at guard_of new n slot' at') in
         let all = heap_live.each n found.0 found.1 (ap (bool_value h e) found.2 ∙ holding) in
-        record { each = each_from (IsLive (holds_in h e new)) (shapes_value h e slot'.fields) (λ k v there.
-            live_grows h e (written_grows is) v
-            (by n k found.0 v found.1 all (is_written h e guard target field n k) refl (sym (is.fields h more e n k) ∙ value_of_slot h e new n k slot' at' ∙ there))) };
+        record {
+          each = each_from (IsLive (holds_in h e new)) (shapes_value h e slot'.fields) (λ k v there.
+              live_grows h e (written_grows is) v
+              (by n k found.0 v found.1 all (is_written h e guard target field n k) refl (sym (is.fields h more e n k) ∙ value_of_slot h e new n k slot' at' ∙ there)));
+        };
   }
     where
       by : (n k : ℕ) (slot : Slot) (v : Seen) → slice_get old n ≡ Some slot → AllLive (holds_in h e old) (shapes_value h e slot.fields) → (b : Bool) → is_written h e guard target field n k ≡ b → (if b then Some (shape_value h e value) else field_value h e old n k) ≡ Some v → IsLive (holds_in h e old) v
