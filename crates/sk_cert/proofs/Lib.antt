@@ -1,2 +1,13 @@
 mod Joined
 mod Written
+mod Exact
+mod OneLine
+mod Numbers
+mod Pieces
+mod Scalars
+mod Marks
+mod Program
+mod Parts
+mod Uppers
+mod Whole
+mod Departure

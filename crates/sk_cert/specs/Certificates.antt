@@ -158,6 +158,7 @@ pub record Has64Bits (c : Certificate) : Type 0 where
   pub value : c.value < 2 ^ 64
   pub holes : HasSmallValues c.choice
   pub count : length c.inputs < 2 ^ 64
+  pub parts : length c.upper < 2 ^ 64
   pub inputs : All IsSmallInput c.inputs
   pub upper : All IsSmallProof c.upper
   pub lower : IfSome c.lower IsSmallProof

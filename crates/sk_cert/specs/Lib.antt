@@ -1,1 +1,4 @@
 pub mod Certificates
+pub mod Words
+pub mod Readers
+pub mod Departing

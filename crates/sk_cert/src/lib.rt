@@ -3,8 +3,11 @@
 
 mod certificate;
 mod fault;
+mod law;
+mod lines;
 mod writer;
 
 pub use certificate::{CertInput, Certificate, Proof};
 pub use fault::CertFault;
+pub use law::certificates_are_unique;
 pub use writer::write;
