@@ -1,12 +1,12 @@
 -- What the whole reader says of a text.
-use Rattle.std.proofs.Common.{◌≡◌, ◌≢◌, ◌∙◌, ◌++◌, ◌∷◌, ◌<◌, ◌≤◌, ◌+◌, ◌-◌, ◌⊎◌, ℕ, zero, suc, List, [], length, refl, sym, ap, subst, arith, append_assoc, inl, inr, length-append}
-use Rattle.std.specs.Prelude.{Result, Ok, Err, codes}
+use Rattle.std.proofs.Common.{◌≡◌, ◌≢◌, ◌∙◌, ◌++◌, ◌∷◌, ◌⊎◌, ℕ, List, [], length, refl, sym, ap, subst, append_assoc, inl, inr}
+use Rattle.std.specs.Prelude.{Result, Ok, Err}
 use Rattle.std.proofs.lemmas.List.{append-nil}
 use Rattle.sk_cert.specs.declared.certificate.Certificate.{Certificate}
 use Rattle.sk_cert.specs.Readers.{Outcome, certificate, finished, all_read, whole}
 use Rattle.sk_cert.specs.Certificates.{certificate_text, HasText, IsCertificate}
-use Rattle.sk_cert.specs.Departing.{AreLines, BeginsCertificate, Departs}
-use Rattle.sk_cert.proofs.Exact.{IsWhole, Halts, Exact, ok_of, err_of, ok_same, ok_err, err_ok}
+use Rattle.sk_cert.specs.Departing.{BeginsCertificate, Departs}
+use Rattle.sk_cert.proofs.Exact.{IsWhole, Halts, ok_of, err_of, ok_same, ok_err}
 use Rattle.sk_cert.proofs.Uppers.{FirstLine, first_line}
 use Rattle.sk_cert.proofs.Whole.{exact_certificate}
 
@@ -27,6 +27,7 @@ whole_only text c h = from (certificate text) refl h
         let k : v.0 ≡ c = cc in
         subst (λ (x : Certificate). IsCertificate text x) k (record { has_text = d.0; is = d.1 ∙ ap (λ t. certificate_text v.0 ++ t) e ∙ append-nil (certificate_text v.0) })
     all v is (b ∷ bs) e h = absurd (cc)
+
     from : (o : Outcome Certificate) → certificate text ≡ o → finished o ≡ Ok c → IsCertificate text c
     from (Ok v) is h = all v is v.1 refl h
     from (Err n) is h = absurd (cc)
@@ -46,6 +47,7 @@ last_line (b ∷ bs) more [] some e = absurd (some (no_more bs (ap tail_of e)))
     tail_of : List ℕ → List ℕ
     tail_of [] = []
     tail_of (c ∷ cs) = cs
+
     no_more : (xs : List ℕ) → xs ++ more ≡ [] → more ≡ []
     no_more [] h = h
     no_more (x ∷ xs) h = absurd (cc)
@@ -94,7 +96,7 @@ stuck_departs text n is =
         let at : t.rest ≡ l.line ++ 10 ∷ (l.rest ++ behind) = e ∙ ap (λ x. x ++ behind) l.is ∙ append_assoc l.line (10 ∷ l.rest) behind in
         let s = t.stays l.line (l.rest ++ behind) (l.rest ++ b.rest) l.clean at in
         let same : certificate_text b.c ≡ t.front ++ (l.line ++ 10 ∷ (l.rest ++ b.rest)) =
-            b.is ∙ append_assoc t.front more b.rest ∙ ap (λ x. t.front ++ (x ++ b.rest)) l.is ∙ ap (λ x. t.front ++ x) (append_assoc l.line (10 ∷ l.rest) b.rest) in
+        b.is ∙ append_assoc t.front more b.rest ∙ ap (λ x. t.front ++ (x ++ b.rest)) l.is ∙ ap (λ x. t.front ++ x) (append_assoc l.line (10 ∷ l.rest) b.rest) in
         ok_err (b.c, []) (length (l.line ++ 10 ∷ (l.rest ++ b.rest))) (sym (read_of b.c b.has_text) ∙ ap certificate same ∙ s)
 
 left_departs : (text : List ℕ) (v : Certificate × List ℕ) → certificate text ≡ ok_of v → v.1 ≢ [] → DepartsBehind text (length v.1)
@@ -115,6 +117,7 @@ left_departs text v is some =
     empty : (a b : List ℕ) → a ++ b ≡ [] → a ≡ []
     empty [] b h = refl
     empty (x ∷ xs) b h = absurd (cc)
+
     longest_of : HasText v.0 → (more : List ℕ) → more ≢ [] → BeginsCertificate (certificate_text v.0 ++ more) → ⊥
     longest_of h more other b =
         let read = exact_certificate.reads v.0 (more ++ b.rest) h in
@@ -135,6 +138,7 @@ whole_departs text n h = from (certificate text) refl h
       where
         not_both : b ∷ bs ≡ [] → ⊥
         not_both h = cc
+
     from : (o : Outcome Certificate) → certificate text ≡ o → finished o ≡ Err n → DepartsBehind text n
     from (Ok v) is h = all v is v.1 refl h
     from (Err m) is h = let e : m ≡ n = cc in subst (DepartsBehind text) e (stuck_departs text m is)
@@ -174,3 +178,10 @@ departs_once text a x b y d e = from (compare a x b y (sym d.is ∙ e.is))
     from : Longer a x b y ⊎ Longer b y a x → a ≡ b
     from (inl l) = not_longer text a x b y d e.begins l
     from (inr l) = sym (not_longer text b y a x e d.begins l)
+
+pub read_or_departs : (text : List ℕ) → ((c : Certificate) × IsCertificate text c) ⊎ ((front left : List ℕ) × Departs text front left)
+read_or_departs text = from (whole text) refl
+  where
+    from : (o : Result Certificate ℕ) → whole text ≡ o → ((c : Certificate) × IsCertificate text c) ⊎ ((front left : List ℕ) × Departs text front left)
+    from (Ok c) is = inl (c, whole_only text c is)
+    from (Err n) is = let d = whole_departs text n is in inr (d.front, d.left, d.departs)

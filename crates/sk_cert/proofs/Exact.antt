@@ -1,6 +1,6 @@
 -- Readers that read exactly the texts of what they read.
-use Rattle.std.proofs.Common.{◌≡◌, ◌≢◌, ◌∙◌, ◌++◌, ◌∷◌, ◌<◌, ◌+◌, ◌-◌, ℕ, zero, suc, Bool, true, false, List, [], length, take, drop, refl, sym, ap, subst, arith, append_assoc, cond, inl, inr}
-use Rattle.std.specs.Prelude.{Option, Some, None, Result, Ok, Err, All, ◌⊎◌, codes}
+use Rattle.std.proofs.Common.{◌≡◌, ◌≢◌, ◌∙◌, ◌++◌, ◌∷◌, ℕ, zero, suc, List, [], length, refl, sym, ap, subst, arith, append_assoc, inl, inr}
+use Rattle.std.specs.Prelude.{Ok, Err, All, ◌⊎◌}
 use Rattle.std.specs.List.{flat_map}
 use Rattle.std.proofs.lemmas.List.{append-nil}
 use Rattle.std.proofs.lemmas.List.Elements.{All-nil, All-cons, All-head, All-tail}
@@ -91,22 +91,28 @@ exact_mapped {A} {B} f g r text ok out fine e t = record {
   where
     turned : Outcome A → Outcome B
     turned o = o >>= λ v. Ok (f v.0, v.1)
+
     done_from : (bs : List ℕ) (v : B × List ℕ) (o : Outcome A) → r bs ≡ o → turned o ≡ ok_of v → fine v.0 × (bs ≡ out v.0 ++ v.1)
     done_from bs v (Ok w) is h =
         let d = e.done bs w is in
         let k : fine (f w.0) = t.there w.0 d.0 in
         subst (λ (u : B × List ℕ). fine u.0 × (bs ≡ out u.0 ++ u.1)) (ok_same (f w.0, w.1) v h)
-          (k, d.1 ∙ ap (λ a. text a ++ w.1) (sym (t.again w.0 d.0)) ∙ ap (λ x. x ++ w.1) (sym (t.written (f w.0) k)))
+        (k, d.1 ∙ ap (λ a. text a ++ w.1) (sym (t.again w.0 d.0)) ∙ ap (λ x. x ++ w.1) (sym (t.written (f w.0) k)))
     done_from bs v (Err n) is h = absurd (err_ok v n h)
+
     halts_from : (bs : List ℕ) (n : ℕ) (o : Outcome A) → r bs ≡ o → turned o ≡ err_of n → Halts (mapped f r) out fine bs n
     halts_from bs n (Ok w) is h = absurd (ok_err (f w.0, w.1) n h)
     halts_from bs n (Err m) is h =
         let k = e.halts bs m is in
         let good : fine (f k.a) = t.there k.a k.fits in
         record {
-          front = k.front; rest = k.rest; is = k.is;
+          front = k.front;
+          rest = k.rest;
+          is = k.is;
           left = sym (err_same m n h) ∙ k.left;
-          a = f k.a; fits = good; more = k.more;
+          a = f k.a;
+          fits = good;
+          more = k.more;
           begins = t.written (f k.a) good ∙ ap text (t.again k.a k.fits) ∙ k.begins;
           whole = k.whole;
           stays = λ line behind other c d. ap turned (k.stays line behind other c d);
@@ -125,26 +131,33 @@ exact_pair {A} {B} r s text ok more fine e f = record {
   where
     with_first : A → Outcome B → Outcome (A × B)
     with_first a o = o >>= λ w. Ok ((a, w.0), w.1)
+
     behind_first : Outcome A → Outcome (A × B)
     behind_first o = o >>= λ v. with_first v.0 (s v.0 v.1)
+
     done_second : (bs : List ℕ) (v : (A × B) × List ℕ) (w : A × List ℕ) → ok w.0 → bs ≡ text w.0 ++ w.1 → (o : Outcome B) → s w.0 w.1 ≡ o → with_first w.0 o ≡ ok_of v → (ok v.0.0 × fine v.0.0 v.0.1) × (bs ≡ (text v.0.0 ++ more v.0.0 v.0.1) ++ v.1)
     done_second bs v w k d (Ok u) is h =
         let g = (f w.0 k).done w.1 u is in
         subst (λ (x : (A × B) × List ℕ). (ok x.0.0 × fine x.0.0 x.0.1) × (bs ≡ (text x.0.0 ++ more x.0.0 x.0.1) ++ x.1)) (ok_same ((w.0, u.0), u.1) v h)
-          ((k, g.0), d ∙ ap (λ x. text w.0 ++ x) g.1 ∙ sym (append_assoc (text w.0) (more w.0 u.0) u.1))
+        ((k, g.0), d ∙ ap (λ x. text w.0 ++ x) g.1 ∙ sym (append_assoc (text w.0) (more w.0 u.0) u.1))
     done_second bs v w k d (Err n) is h = absurd (err_ok v n h)
+
     done_from : (bs : List ℕ) (v : (A × B) × List ℕ) (o : Outcome A) → r bs ≡ o → behind_first o ≡ ok_of v → (ok v.0.0 × fine v.0.0 v.0.1) × (bs ≡ (text v.0.0 ++ more v.0.0 v.0.1) ++ v.1)
     done_from bs v (Ok w) is h = let d = e.done bs w is in done_second bs v w d.0 d.1 (s w.0 w.1) refl h
     done_from bs v (Err n) is h = absurd (err_ok v n h)
+
     halts_second : (bs : List ℕ) (n : ℕ) (w : A × List ℕ) → ok w.0 → bs ≡ text w.0 ++ w.1 → (o : Outcome B) → s w.0 w.1 ≡ o → with_first w.0 o ≡ err_of n → Halts (pair r s) (λ v. text v.0 ++ more v.0 v.1) (λ v. ok v.0 × fine v.0 v.1) bs n
     halts_second bs n w k d (Ok u) is h = absurd (ok_err ((w.0, u.0), u.1) n h)
     halts_second bs n w k d (Err m) is h =
         let t = (f w.0 k).halts w.1 m is in
         record {
-          front = text w.0 ++ t.front; rest = t.rest;
+          front = text w.0 ++ t.front;
+          rest = t.rest;
           is = d ∙ ap (λ x. text w.0 ++ x) t.is ∙ sym (append_assoc (text w.0) t.front t.rest);
           left = sym (err_same {A = A × B} m n h) ∙ t.left;
-          a = (w.0, t.a); fits = (k, t.fits); more = t.more;
+          a = (w.0, t.a);
+          fits = (k, t.fits);
+          more = t.more;
           begins = ap (λ x. text w.0 ++ x) t.begins ∙ sym (append_assoc (text w.0) t.front t.more);
           whole = whole_both (text w.0) t.front (e.whole w.0 k) t.whole;
           stays = λ line behind other c g.
@@ -152,15 +165,20 @@ exact_pair {A} {B} r s text ok more fine e f = record {
               ∙ ap behind_first (e.reads w.0 (t.front ++ (line ++ 10 ∷ other)) k)
               ∙ ap (with_first w.0) (t.stays line behind other c g);
         }
+
     halts_from : (bs : List ℕ) (n : ℕ) (o : Outcome A) → r bs ≡ o → behind_first o ≡ err_of n → Halts (pair r s) (λ v. text v.0 ++ more v.0 v.1) (λ v. ok v.0 × fine v.0 v.1) bs n
     halts_from bs n (Ok w) is h = let d = e.done bs w is in halts_second bs n w d.0 d.1 (s w.0 w.1) refl h
     halts_from bs n (Err m) is h =
         let t = e.halts bs m is in
         let b = some_of (s t.a) (more t.a) (fine t.a) (f t.a t.fits) in
         record {
-          front = t.front; rest = t.rest; is = t.is;
+          front = t.front;
+          rest = t.rest;
+          is = t.is;
           left = sym (err_same {A = A × B} m n h) ∙ t.left;
-          a = (t.a, b.0); fits = (t.fits, b.1); more = t.more ++ more t.a b.0;
+          a = (t.a, b.0);
+          fits = (t.fits, b.1);
+          more = t.more ++ more t.a b.0;
           begins = ap (λ x. x ++ more t.a b.0) t.begins ∙ append_assoc t.front t.more (more t.a b.0);
           whole = t.whole;
           stays = λ line behind other c g. ap behind_first (t.stays line behind other c g);
@@ -182,29 +200,32 @@ exact_repeated {A} r text ok e zero = record {
     none_read : (as' : List A) (rest : List ℕ) → length as' ≡ 0 → repeated r 0 (flat_map text as' ++ rest) ≡ ok_of (as', rest)
     none_read [] rest h = refl
     none_read (a ∷ as') rest h = absurd (omega arith)
+
     none_whole : (as' : List A) → length as' ≡ 0 → IsWhole (flat_map text as')
     none_whole [] h = inl refl
     none_whole (a ∷ as') h = absurd (omega arith)
 exact_repeated {A} r text ok e (suc n) =
     let d = some_of r text ok e in
     exact_mapped onto (apart d.0) (pair r (λ a. repeated r n))
-      (λ v. text v.0 ++ flat_map text v.1) (λ v. ok v.0 × (All ok v.1 × (length v.1 ≡ n)))
-      (flat_map text) (λ as'. All ok as' × (length as' ≡ suc n))
-      (exact_pair r (λ a. repeated r n) text ok (λ a. flat_map text) (λ a as'. All ok as' × (length as' ≡ n)) e (λ a k. exact_repeated r text ok e n))
-      (record {
-        there = λ v k. (All-cons ok v.0 v.1 k.0 k.1.0, ap suc k.1.1);
-        again = λ v k. refl;
-        back = λ as' k. parts_of d.0 as' k.0 k.1;
-        same = λ as' k. whole_again d.0 as' k.1;
-        written = λ as' k. written_again d.0 as' k.1;
-      })
+    (λ v. text v.0 ++ flat_map text v.1) (λ v. ok v.0 × (All ok v.1 × (length v.1 ≡ n)))
+    (flat_map text) (λ as'. All ok as' × (length as' ≡ suc n))
+    (exact_pair r (λ a. repeated r n) text ok (λ a. flat_map text) (λ a as'. All ok as' × (length as' ≡ n)) e (λ a k. exact_repeated r text ok e n))
+    (record {
+      there = λ v k. (All-cons ok v.0 v.1 k.0 k.1.0, ap suc k.1.1);
+      again = λ v k. refl;
+      back = λ as' k. parts_of d.0 as' k.0 k.1;
+      same = λ as' k. whole_again d.0 as' k.1;
+      written = λ as' k. written_again d.0 as' k.1;
+    })
   where
     parts_of : (d : A) (as' : List A) → All ok as' → length as' ≡ suc n → ok (apart d as').0 × (All ok (apart d as').1 × (length (apart d as').1 ≡ n))
     parts_of d [] h k = absurd (omega arith)
     parts_of d (a ∷ as') h k = (All-head ok a as' h, (All-tail ok a as' h, omega arith))
+
     whole_again : (d : A) (as' : List A) → length as' ≡ suc n → onto (apart d as') ≡ as'
     whole_again d [] k = absurd (omega arith)
     whole_again d (a ∷ as') k = refl
+
     written_again : (d : A) (as' : List A) → length as' ≡ suc n → flat_map text as' ≡ text (apart d as').0 ++ flat_map text (apart d as').1
     written_again d [] k = absurd (omega arith)
     written_again d (a ∷ as') k = refl

@@ -1,3 +1,4 @@
+mod Computed
 mod Joined
 mod Written
 mod Exact

@@ -1,22 +1,20 @@
 -- Lines of words, and what each line writes.
-use Rattle.std.proofs.Common.{◌≡◌, ◌≢◌, ◌∙◌, ◌++◌, ◌∷◌, ◌<◌, ◌≤◌, ◌+◌, ◌-◌, ◌^◌, ◌&&◌, ◌⊎◌, ℕ, zero, suc, Bool, true, false, List, [], length, map, refl, sym, ap, subst, arith, append_assoc, cond, eqb, ltb, leb, inl, inr}
+use Rattle.std.proofs.Common.{◌≡◌, ◌≢◌, ◌∙◌, ◌++◌, ◌∷◌, ◌<◌, ◌^◌, ◌&&◌, ◌⊎◌, ℕ, Bool, true, false, List, [], map, refl, sym, ap, subst, arith, cond, eqb, ltb, inl, inr}
 use Rattle.std.specs.Prelude.{Option, Some, None, All, codes, ℤ, option_and_then}
 use Rattle.std.specs.Str.{bytes_eq}
 use Rattle.std.specs.Fmt.{decimal}
-use Rattle.std.specs.List.{slice_split, flat_map, list_all}
+use Rattle.std.specs.List.{list_all}
 use Rattle.std.proofs.lemmas.Bool.{ltb-true, eqb-true, eq-eqb}
 use Rattle.std.proofs.lemmas.Slice.Eq.{bytes_eq-Decides}
 use Rattle.std.proofs.lemmas.List.Elements.{All-nil, All-cons, All-head, All-tail, All-weaker, All-append}
-use Rattle.sk_base.specs.Word.{IsWord}
-use Rattle.sk_clause.specs.declared.lit.Lit.{Lit}
 use Rattle.sk_cert.specs.declared.certificate.CertInput.{CertInput}
 use Rattle.sk_cert.specs.declared.lines.Sizes.{Sizes}
 use Rattle.sk_cert.specs.Words.{words, behind, all_of, number_of, variable_of, literal_of, argument_of, numbers_in, only, number_in, known_version, version_in, input_from, input_in, sizes_from, sizes_behind, sizes_in, names_in, clause_in}
-use Rattle.sk_cert.specs.Certificates.{marked, argument_text, input_words, literal_text, variable_text, IsSmallInput, HasScalars}
+use Rattle.sk_cert.specs.Certificates.{marked, argument_text, input_words, literal_text, variable_text}
 use Rattle.sk_cert.proofs.Exact.{IsLine}
 use Rattle.sk_cert.proofs.OneLine.{Spells, Takes, spells_then}
 use Rattle.sk_cert.proofs.Numbers.{number_spelt, number_found, cond_some, both_true}
-use Rattle.sk_cert.proofs.Pieces.{others, split_join, unsplit, some_piece, others_high, high_not, higher, Tells, all_told, all_tells, all_plain}
+use Rattle.sk_cert.proofs.Pieces.{others, split_join, unsplit, others_high, high_not, higher, Tells, all_told, all_tells, all_plain}
 use Rattle.sk_cert.proofs.Scalars.{tells_number, tells_variable, tells_literal, tells_argument, IsArgument}
 
 pub same_bytes : (a b : List ℕ) → bytes_eq a b ≡ true → a ≡ b
@@ -61,14 +59,14 @@ behind_found kind rest = ap (λ b. cond b (Some rest) None) (bytes_same kind)
 marked_words : (kind : List ℕ) (ws : List (List ℕ)) → IsPlain kind → All IsPlain ws → words (marked kind ws) ≡ codes "//@" ∷ kind ∷ ws
 marked_words kind ws h k =
     split_join 32 (codes "//@") (kind ∷ ws) (high_not 32 32 (codes "//@") (omega arith) (plain_by (codes "//@") refl))
-      (All-cons (All (λ b. b ≢ 32)) kind ws (high_not 32 32 kind (omega arith) h) (All-weaker IsPlain (All (λ b. b ≢ 32)) (λ w p. high_not 32 32 w (omega arith) p) ws k))
+    (All-cons (All (λ b. b ≢ 32)) kind ws (high_not 32 32 kind (omega arith) h) (All-weaker IsPlain (All (λ b. b ≢ 32)) (λ w p. high_not 32 32 w (omega arith) p) ws k))
 
 marked_line : (kind : List ℕ) (ws : List (List ℕ)) → IsPlain kind → All IsPlain ws → IsLine (marked kind ws)
 marked_line kind ws h k =
     high_not 10 31 (marked kind ws) (omega arith)
-      (All-append (λ b. 31 < b) (codes "//@") (others 32 (kind ∷ ws))
-        (higher 31 32 (codes "//@") (omega arith) (plain_by (codes "//@") refl))
-        (others_high 32 31 (kind ∷ ws) (omega arith) (All-cons (All (λ b. 31 < b)) kind ws (higher 31 32 kind (omega arith) h) (All-weaker IsPlain (All (λ b. 31 < b)) (λ w p. higher 31 32 w (omega arith) p) ws k))))
+    (All-append (λ b. 31 < b) (codes "//@") (others 32 (kind ∷ ws))
+    (higher 31 32 (codes "//@") (omega arith) (plain_by (codes "//@") refl))
+    (others_high 32 31 (kind ∷ ws) (omega arith) (All-cons (All (λ b. 31 < b)) kind ws (higher 31 32 kind (omega arith) h) (All-weaker IsPlain (All (λ b. 31 < b)) (λ w p. higher 31 32 w (omega arith) p) ws k))))
 
 -- The function answers exactly what the words behind a kind write.
 pub record Writes {A : Type 0} (f : List (List ℕ) → Option A) (write : A → List (List ℕ)) (ok : A → Type 0) : Type 0 where
@@ -148,9 +146,11 @@ takes_version = record {
     took_from v w true is b is_two h = let e : v ≡ w = cc in (inl (sym e ∙ eqb-true v 1 is), e)
     took_from v w false is true is_two h = let e : v ≡ w = cc in (inr (sym e ∙ eqb-true v 2 is_two), e)
     took_from v w false is false is_two h = absurd (cc)
+
     small : (v : ℕ) → IsVersion v → IsSmall v
     small v (inl e) = omega arith
     small v (inr e) = omega arith
+
     known : (v : ℕ) → IsVersion v → known_version v ≡ Some v
     known v (inl e) = ap known_version e ∙ ap (λ n. Some n) (sym e)
     known v (inr e) = ap known_version e ∙ ap (λ n. Some n) (sym e)
@@ -178,6 +178,7 @@ writes_input = record {
   where
     made : ℕ → List (List ℤ) → CertInput
     made o args = record { obligation = o; args = args }
+
     told_args : (w : List ℕ) (ws : List (List ℕ)) (i : CertInput) (o : ℕ) → number_of w ≡ Some o → (p : Option (List (List ℤ))) → all_of argument_of ws ≡ p → option_and_then (λ args. Some (made o args)) p ≡ Some i → IsInput i × (w ∷ ws ≡ input_words i)
     told_args w ws i o is None rest h = absurd (cc)
     told_args w ws i o is (Some args) rest h =
@@ -185,9 +186,11 @@ writes_input = record {
         let k = all_told argument_of argument_text IsArgument tells_argument ws args rest in
         let e : made o args ≡ i = cc in
         subst (λ (x : CertInput). IsInput x × (w ∷ ws ≡ input_words x)) e (record { obligation = n.0; args = k.0 }, ap (λ x. x ∷ ws) n.1 ∙ ap (λ xs. decimal o ∷ xs) k.1)
+
     told_number : (w : List ℕ) (ws : List (List ℕ)) (i : CertInput) (q : Option ℕ) → number_of w ≡ q → option_and_then (λ o. option_and_then (λ args. Some (made o args)) (all_of argument_of ws)) q ≡ Some i → IsInput i × (w ∷ ws ≡ input_words i)
     told_number w ws i None is h = absurd (cc)
     told_number w ws i (Some o) is h = told_args w ws i o is (all_of argument_of ws) refl h
+
     told_from : (ws : List (List ℕ)) (i : CertInput) → input_from ws ≡ Some i → IsInput i × (ws ≡ input_words i)
     told_from [] i h = absurd (cc)
     told_from (w ∷ ws) i h = told_number w ws i (number_of w) refl h
@@ -226,7 +229,7 @@ sizes_told (n ∷ c ∷ l ∷ []) z k h =
     let second = All-tail IsSmall n (c ∷ l ∷ []) k in
     let third = All-tail IsSmall c (l ∷ []) second in
     subst (λ (x : Sizes). HasSmall x × (n ∷ c ∷ l ∷ [] ≡ x.vars ∷ x.clauses ∷ x.log ∷ [])) e
-      (record { vars = All-head IsSmall n (c ∷ l ∷ []) k; clauses = All-head IsSmall c (l ∷ []) second; log = All-head IsSmall l [] third }, refl)
+    (record { vars = All-head IsSmall n (c ∷ l ∷ []) k; clauses = All-head IsSmall c (l ∷ []) second; log = All-head IsSmall l [] third }, refl)
 sizes_told (n ∷ c ∷ l ∷ m ∷ ms) z k h = absurd (cc)
 
 sizes_small : (z : Sizes) → HasSmall z → All IsSmall (z.vars ∷ z.clauses ∷ z.log ∷ [])
@@ -251,6 +254,7 @@ takes_sizes (Some i) small = record {
     took_in : (n : ℕ) (ns : List ℕ) (z : Sizes) → All IsSmall ns → (b : Bool) → eqb n i ≡ b → cond b (sizes_from ns) None ≡ Some z → HasSmall z × (n ∷ ns ≡ sizes_numbers (Some i) z)
     took_in n ns z k true is h = let t = sizes_told ns z k h in (t.0, ap (λ x. x ∷ ns) (eqb-true n i is) ∙ ap (λ x. i ∷ x) t.1)
     took_in n ns z k false is h = absurd (cc)
+
     took_from : (ns : List ℕ) (z : Sizes) → All IsSmall ns → sizes_behind (Some i) ns ≡ Some z → HasSmall z × (ns ≡ sizes_numbers (Some i) z)
     took_from [] z k h = absurd (cc)
     took_from (n ∷ ns) z k h = took_in n ns z (All-tail IsSmall n ns k) (eqb n i) refl h

@@ -1,16 +1,15 @@
 -- What words write.
-use Rattle.std.proofs.Common.{◌≡◌, ◌≢◌, ◌∙◌, ◌++◌, ◌∷◌, ◌<◌, ◌≤◌, ◌+◌, ◌-◌, ◌*◌, ◌^◌, ◌&&◌, not, ℕ, zero, suc, Bool, true, false, List, [], length, take, drop, get_or, map, refl, sym, ap, subst, arith, append_assoc, cond, inl, inr, length-append, eqb, ltb, leb, rules}
-use Rattle.std.specs.Prelude.{Option, Some, None, All, codes, option_and_then, ℤ, pos, negsuc}
-use Rattle.std.specs.Fmt.{decimal, signed_decimal}
+use Rattle.std.proofs.Common.{◌≡◌, ◌∙◌, ◌∷◌, ◌<◌, ◌≤◌, ◌+◌, ◌-◌, ◌^◌, ◌&&◌, not, ℕ, zero, suc, Bool, true, false, List, [], length, get_or, refl, sym, ap, subst, arith, cond, eqb, ltb, leb, rules}
+use Rattle.std.specs.Prelude.{Option, Some, None, All, option_and_then}
+use Rattle.std.specs.Fmt.{decimal}
 use Rattle.std.specs.Str.{all_ascii_digits}
 use Rattle.std.specs.Char.{is_ascii_digit}
 use Rattle.std.proofs.lemmas.Bool.{ne_eqb, lt-ltb, ltb-true, eqb-true, eq-eqb}
 use Rattle.std.proofs.lemmas.Fmt.{digits_decimal, digits_value-decimal, decimal-digits_value, decimal_nonempty, first_decimal, decimal_digit}
 use Rattle.std.proofs.lemmas.Str.Parse.{IsNumeralModel, numerals_by_fold}
-use Rattle.std.proofs.lemmas.List.Elements.{All-nil, All-cons, All-head, All-tail}
-use Rattle.sk_clause.specs.declared.lit.Lit.{Lit}
-use Rattle.sk_cert.specs.Words.{is_numeral, number_from, below_limit, number_of, variable_from, variable_of, signed_literal, literal_of}
-use Rattle.sk_cert.specs.Certificates.{literal_text, variable_text}
+use Rattle.std.proofs.lemmas.List.Elements.{All-nil, All-cons}
+use Rattle.sk_cert.specs.Words.{is_numeral, number_from, below_limit, number_of, variable_from, variable_of}
+use Rattle.sk_cert.specs.Certificates.{variable_text}
 
 own : IsNumeralModel (λ ds. all_ascii_digits ds ≡ true) (number_from 0)
 own = numerals_by_fold _ (search rules) number_from (search rules)

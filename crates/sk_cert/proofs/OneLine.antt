@@ -1,14 +1,14 @@
 -- Lines, read one by one.
-use Rattle.std.proofs.Common.{◌≡◌, ◌≢◌, ◌∙◌, ◌++◌, ◌∷◌, ◌<◌, ◌≤◌, ◌+◌, ◌-◌, ℕ, zero, suc, Bool, true, false, List, [], length, take, drop, get_or, refl, sym, ap, subst, arith, append_assoc, cond, inl, inr, length-append, eqb, ltb, add-one}
-use Rattle.std.specs.Prelude.{Option, Some, None, Result, Ok, Err, All, codes, option_and_then}
+use Rattle.std.proofs.Common.{◌≡◌, ◌≢◌, ◌∙◌, ◌++◌, ◌∷◌, ◌<◌, ◌+◌, ℕ, suc, false, List, [], length, take, drop, get_or, refl, sym, ap, subst, arith, append_assoc, cond, inl, inr, length-append, eqb, ltb}
+use Rattle.std.specs.Prelude.{Option, Some, None, option_and_then}
 use Rattle.std.specs.List.{position, position_or_len}
 use Rattle.std.proofs.lemmas.Bool.{ne_eqb, lt-ltb, eqb-true}
 use Rattle.std.proofs.lemmas.List.{take-append-drop, get_or-take, length-take-le, take_at, drop_at}
 use Rattle.std.proofs.lemmas.List.Quantifiers.{position-Some}
 use Rattle.std.proofs.lemmas.List.Elements.{All-head, All-tail, All-from_get_or}
 use Rattle.std.proofs.Math.Seq.{drop-cons}
-use Rattle.sk_cert.specs.Readers.{Outcome, Reader, one, is_feed, line_up_to, passed}
-use Rattle.sk_cert.proofs.Exact.{IsLine, IsWhole, Halts, Exact, ok_of, err_of, ok_same, err_same, ok_err, err_ok}
+use Rattle.sk_cert.specs.Readers.{one, is_feed, line_up_to, passed}
+use Rattle.sk_cert.proofs.Exact.{IsLine, Halts, Exact, ok_of, err_of, ok_same, err_same, ok_err, err_ok}
 
 -- Where the first line feed stands
 
@@ -92,16 +92,26 @@ exact_one {A} f line ok s = record {
     done_in bs v i l (Some a) is h =
         let k = s.spelt (take i bs) a is in
         subst (λ (u : A × List ℕ). ok u.0 × (bs ≡ (line u.0 ++ 10 ∷ []) ++ u.1)) (ok_same (a, drop (i + 1) bs) v h)
-          (k.0, l.is ∙ ap (λ t. t ++ 10 ∷ drop (i + 1) bs) k.1 ∙ sym (append_assoc (line a) (10 ∷ []) (drop (i + 1) bs)))
+        (k.0, l.is ∙ ap (λ t. t ++ 10 ∷ drop (i + 1) bs) k.1 ∙ sym (append_assoc (line a) (10 ∷ []) (drop (i + 1) bs)))
+
     done_at : (bs : List ℕ) (v : A × List ℕ) (p : Option ℕ) → position is_feed bs ≡ p → line_up_to f bs p ≡ ok_of v → ok v.0 × (bs ≡ (line v.0 ++ 10 ∷ []) ++ v.1)
     done_at bs v None is h = absurd (err_ok v (length bs) h)
     done_at bs v (Some i) is h = done_in bs v i (line_found bs i is) (f (take i bs)) refl h
+
     stopped : (bs : List ℕ) (n : ℕ) → length bs ≡ n → ((l behind other : List ℕ) → IsLine l → bs ≡ l ++ 10 ∷ behind → one f (l ++ 10 ∷ other) ≡ err_of (length (l ++ 10 ∷ other))) → Halts (one f) (λ a. line a ++ 10 ∷ []) ok bs n
     stopped bs n e k = record {
-      front = []; rest = bs; is = refl; left = sym e;
-      a = s.some; fits = s.fits; more = line s.some ++ 10 ∷ []; begins = refl; whole = inl refl;
+      front = [];
+      rest = bs;
+      is = refl;
+      left = sym e;
+      a = s.some;
+      fits = s.fits;
+      more = line s.some ++ 10 ∷ [];
+      begins = refl;
+      whole = inl refl;
       stays = λ l behind other c d. k l behind other c d;
     }
+
     halts_in : (bs : List ℕ) (n i : ℕ) → position is_feed bs ≡ Some i → (o : Option A) → f (take i bs) ≡ o → passed o bs i ≡ err_of n → Halts (one f) (λ a. line a ++ 10 ∷ []) ok bs n
     halts_in bs n i p (Some a) is h = absurd (ok_err (a, drop (i + 1) bs) n h)
     halts_in bs n i p None is h = stopped bs n (err_same {A = A} (length bs) n h) (λ l behind other c d. stays_in bs i p is l behind other c d)
@@ -112,6 +122,7 @@ exact_one {A} f line ok s = record {
             let same : i ≡ length l = cc in
             let cut : take i bs ≡ l = ap (λ m. take m bs) same ∙ ap (take (length l)) d ∙ take_at l (10 ∷ behind) (length l) refl in
             one_at f l other c ∙ ap (λ o. passed o (l ++ 10 ∷ other) (length l)) (ap f (sym cut) ∙ is)
+
     halts_at : (bs : List ℕ) (n : ℕ) (p : Option ℕ) → position is_feed bs ≡ p → line_up_to f bs p ≡ err_of n → Halts (one f) (λ a. line a ++ 10 ∷ []) ok bs n
     halts_at bs n None is h = stopped bs n (err_same {A = A} (length bs) n h) (λ l behind other c d. absurd (no_feed bs l behind is c d))
     halts_at bs n (Some i) is h = halts_in bs n i is (f (take i bs)) refl h

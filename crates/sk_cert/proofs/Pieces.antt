@@ -1,5 +1,5 @@
 -- Pieces with one byte between them, and functions that answer what each piece writes.
-use Rattle.std.proofs.Common.{◌≡◌, ◌≢◌, ◌∙◌, ◌++◌, ◌∷◌, ◌<◌, ◌≤◌, ◌+◌, ℕ, zero, suc, Bool, true, false, List, [], length, map, refl, sym, ap, subst, arith, append_assoc, cond, eqb}
+use Rattle.std.proofs.Common.{◌≡◌, ◌≢◌, ◌∙◌, ◌++◌, ◌∷◌, ◌<◌, ◌≤◌, ℕ, false, List, [], length, map, refl, sym, ap, subst, arith, eqb}
 use Rattle.std.specs.Prelude.{Option, Some, None, All}
 use Rattle.std.specs.List.{slice_split, flat_map, join_with_byte}
 use Rattle.std.proofs.lemmas.Bool.{ne_eqb, eq-eqb}
@@ -34,7 +34,7 @@ pub others_high : (c m : ℕ) (ws : List (List ℕ)) → m < c → All (All (λ 
 others_high c m [] h k = All-nil (λ b. m < b)
 others_high c m (w ∷ ws) h k =
     All-cons (λ b. m < b) c (w ++ others c ws) h
-      (All-append (λ b. m < b) w (others c ws) (All-head (All (λ b. m < b)) w ws k) (others_high c m ws h (All-tail (All (λ b. m < b)) w ws k)))
+    (All-append (λ b. m < b) w (others c ws) (All-head (All (λ b. m < b)) w ws k) (others_high c m ws h (All-tail (All (λ b. m < b)) w ws k)))
 
 -- bytes past m are none up to m
 pub high_not : (c m : ℕ) (w : List ℕ) → c ≤ m → All (λ b. m < b) w → All (λ b. b ≢ c) w

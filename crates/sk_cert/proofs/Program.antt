@@ -1,17 +1,17 @@
 -- The program of a certificate.
-use Rattle.std.proofs.Common.{◌≡◌, ◌≢◌, ◌∙◌, ◌++◌, ◌∷◌, ◌<◌, ◌≤◌, ◌+◌, ◌-◌, ◌&&◌, ℕ, zero, suc, Bool, true, false, List, [], length, take, drop, map, refl, sym, ap, subst, arith, append_assoc, cond, ltb, inl, inr, length-append}
+use Rattle.std.proofs.Common.{◌≡◌, ◌∙◌, ◌++◌, ◌∷◌, ◌<◌, ◌≤◌, ◌+◌, ◌&&◌, ℕ, zero, suc, Bool, true, false, List, [], length, take, drop, refl, sym, ap, subst, arith, append_assoc, cond, ltb, inl, inr, length-append}
 use Rattle.std.specs.Prelude.{Option, Some, None, All, codes, Ok, Err}
 use Rattle.std.specs.Str.{bytes_eq}
-use Rattle.std.specs.List.{flat_map, list_all, position}
+use Rattle.std.specs.List.{list_all, position}
 use Rattle.std.proofs.lemmas.Bool.{lt-ltb, ltb-true}
-use Rattle.std.proofs.lemmas.List.{append-nil, take-append-drop, take_at, drop_at}
+use Rattle.std.proofs.lemmas.List.{take-append-drop, take_at, drop_at}
 use Rattle.std.proofs.lemmas.List.Elements.{All-nil, All-cons, All-head, All-tail}
 use Rattle.sk_cert.specs.declared.lines.Front.{Front}
 use Rattle.sk_cert.specs.declared.lines.Front.TheVariants as front
-use Rattle.sk_cert.specs.Readers.{Outcome, Reader, is_feed, front_of, longer, program_as, program_up_to, program_within, program}
+use Rattle.sk_cert.specs.Readers.{Outcome, is_feed, front_of, longer, program_as, program_up_to, program_within, program}
 use Rattle.sk_cert.specs.Certificates.{lines_text, IsProgramLine, IsProgramText}
-use Rattle.sk_cert.proofs.Exact.{IsLine, IsWhole, Halts, Exact, ok_of, err_of, ok_same, err_same, ok_err, err_ok, whole_both}
-use Rattle.sk_cert.proofs.OneLine.{position_line, Found, line_found, no_feed}
+use Rattle.sk_cert.proofs.Exact.{IsLine, IsWhole, Exact, ok_of, err_of, whole_both}
+use Rattle.sk_cert.proofs.OneLine.{position_line, line_found, no_feed}
 use Rattle.sk_cert.proofs.Numbers.{both_true}
 use Rattle.sk_cert.proofs.Marks.{same_bytes, line_by}
 
@@ -55,6 +55,7 @@ program_front line clean h = from (mark_test line) refl h
     from_ends true b h = absurd (cc)
     from_ends false true h = absurd (cc)
     from_ends false false h = absurd (cc)
+
     from_plain : mark_test line ≡ false → (a : Bool) → list_all (λ b. ltb b 128) line ≡ a → cond a (Some front.Program) None ≡ Some front.Program → IsProgramLine line
     from_plain is false e h = absurd (cc)
     from_plain is true e h = record {
@@ -64,6 +65,7 @@ program_front line clean h = from (mark_test line) refl h
           let t : mark_test line ≡ true = ap (λ w. bytes_eq w (codes "//@")) (ap (take 3) k) in
           absurd (cc);
     }
+
     from : (b : Bool) → mark_test line ≡ b → cond b (ends_test line) (plain_test line) ≡ Some front.Program → IsProgramLine line
     from true is h = from_ends (bytes_eq line (codes "//@ completion")) (bytes_eq line (codes "//@ none")) h
     from false is h = from_plain is (list_all (λ b. ltb b 128) line) refl h
@@ -75,9 +77,11 @@ ends_front line done h = from (mark_test line) h
     chosen true is b none h = let e : true ≡ done = cc in same_bytes line (codes "//@ completion") is ∙ ap end_line e
     chosen false is true none h = let e : false ≡ done = cc in same_bytes line (codes "//@ none") none ∙ ap end_line e
     chosen false is false none h = absurd (cc)
+
     unplain : (a : Bool) → cond a (Some front.Program) None ≡ Some (front.Ends done) → line ≡ end_line done
     unplain true h = absurd (cc)
     unplain false h = absurd (cc)
+
     from : (b : Bool) → cond b (ends_test line) (plain_test line) ≡ Some (front.Ends done) → line ≡ end_line done
     from true h = chosen (bytes_eq line (codes "//@ completion")) refl (bytes_eq line (codes "//@ none")) refl h
     from false h = unplain (list_all (λ b. ltb b 128) line) h
@@ -193,7 +197,11 @@ said (suc n) bs h = at_feed (λ rest k. said n rest k) (position is_feed bs) ref
   where
     at_front : ((rest : List ℕ) → length rest ≤ n → Says rest (program_within n rest)) → (line rest : List ℕ) → IsLine line → length rest ≤ n → (o : Option Front) → front_of line ≡ o → Says (line ++ 10 ∷ rest) (program_within (suc n) (line ++ 10 ∷ rest))
     at_front again line rest c small None e = subst (Says (line ++ 10 ∷ rest)) (sym (step_stuck n line rest c e)) (record {
-      lines = []; each = All-nil IsProgramLine; rest = line ++ 10 ∷ rest; is = refl; left = refl;
+      lines = [];
+      each = All-nil IsProgramLine;
+      rest = line ++ 10 ∷ rest;
+      is = refl;
+      left = refl;
       stuck = λ l behind d same.
           let p : Some (length line) ≡ Some (length l) = sym (position_line line rest c) ∙ ap (position is_feed) same ∙ position_line l behind d in
           let q : length line ≡ length l = cc in
@@ -207,9 +215,14 @@ said (suc n) bs h = at_feed (λ rest k. said n rest k) (position is_feed bs) ref
         let l = ends_front line done e in
         let made : program_within (suc n) (line ++ 10 ∷ rest) ≡ ok_of (([], done), rest) = ap (λ t. program_within (suc n) (t ++ 10 ∷ rest)) l ∙ step_end n done rest in
         subst (Says (line ++ 10 ∷ rest)) (sym made) (record { text = record { lines = []; is = refl; each = All-nil IsProgramLine }; is = ap (λ t. t ++ 10 ∷ rest) l })
+
     at_feed : ((rest : List ℕ) → length rest ≤ n → Says rest (program_within n rest)) → (p : Option ℕ) → position is_feed bs ≡ p → Says bs (program_within (suc n) bs)
     at_feed again None e = subst (Says bs) (sym (ap (program_up_to (program_within n) bs) e)) (record {
-      lines = []; each = All-nil IsProgramLine; rest = bs; is = refl; left = refl;
+      lines = [];
+      each = All-nil IsProgramLine;
+      rest = bs;
+      is = refl;
+      left = refl;
       stuck = λ line behind c same. absurd (no_feed bs line behind e c same);
     })
     at_feed again (Some i) e =
@@ -232,7 +245,10 @@ exact_program = record {
   halts = λ bs n h.
       let s : Stops bs n = subst (Says bs) h (said (length bs) bs (omega arith)) in
       record {
-        front = lines_text s.lines; rest = s.rest; is = s.is; left = s.left;
+        front = lines_text s.lines;
+        rest = s.rest;
+        is = s.is;
+        left = s.left;
         a = (lines_text s.lines, false);
         fits = record { lines = s.lines; is = refl; each = s.each };
         more = end_line false ++ 10 ∷ [];

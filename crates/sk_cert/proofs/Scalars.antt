@@ -1,19 +1,19 @@
 -- Literals, scalars and arguments.
-use Rattle.std.proofs.Common.{◌≡◌, ◌≢◌, ◌∙◌, ◌++◌, ◌∷◌, ◌<◌, ◌≤◌, ◌+◌, ◌-◌, ◌^◌, ◌&&◌, ℕ, zero, suc, Bool, true, false, List, [], length, map, refl, sym, ap, subst, arith, append_assoc, cond, eqb, ltb, leb, ◌<ℤ◌, ◌≤ℤ◌, ◌+ℤ◌}
-use Rattle.std.specs.Prelude.{Option, Some, None, All, codes, ℤ, pos, negsuc}
-use Rattle.std.specs.List.{slice_split, flat_map}
+use Rattle.std.proofs.Common.{◌≡◌, ◌≢◌, ◌∙◌, ◌++◌, ◌∷◌, ◌<◌, ◌≤◌, ◌+◌, ◌-◌, ◌^◌, ◌&&◌, ℕ, suc, Bool, true, false, List, [], length, map, refl, sym, ap, subst, arith, cond, eqb, ltb, leb}
+use Rattle.std.specs.Prelude.{Option, Some, None, All, ℤ, pos, negsuc}
+use Rattle.std.specs.List.{slice_split}
 use Rattle.std.specs.Fmt.{decimal, signed_decimal}
 use Rattle.std.proofs.lemmas.Bool.{ne_eqb, lt-ltb, ltb-true, eqb-true, leb-true, le-leb}
 use Rattle.std.proofs.lemmas.Int.{ints}
 use Rattle.std.proofs.lemmas.Fmt.{decimal_nonempty}
 use Rattle.std.proofs.lemmas.List.Folds.{flat_map-map}
-use Rattle.std.proofs.lemmas.List.Elements.{All-nil, All-cons, All-head, All-tail, All-weaker, All-map, All-append}
+use Rattle.std.proofs.lemmas.List.Elements.{All-cons, All-head, All-tail, All-weaker, All-map, All-append}
 use Rattle.sk_base.specs.Word.{IsWord}
 use Rattle.sk_clause.specs.declared.lit.Lit.{Lit}
 use Rattle.sk_cert.specs.Words.{number_of, variable_of, signed_literal, literal_of, positive, negative, scalar_of, argument_of, all_of}
 use Rattle.sk_cert.specs.Certificates.{literal_text, variable_text, argument_text}
 use Rattle.sk_cert.proofs.Numbers.{number_spelt, number_found, variable_spelt, variable_found, decimal_high, cond_some, both_true}
-use Rattle.sk_cert.proofs.Pieces.{others, split_join, unsplit, some_piece, others_high, high_not, higher, Tells, all_told, all_tells, all_plain}
+use Rattle.sk_cert.proofs.Pieces.{others, split_join, unsplit, some_piece, others_high, high_not, higher, Tells, all_told, all_tells}
 
 pub tells_number : Tells number_of decimal (λ n. n < 2 ^ 64)
 tells_number = record {
@@ -111,13 +111,15 @@ scalar_told (c ∷ cs) z h = from (eqb c 45) refl h
         let high : n ≤ 2 ^ 63 = leb-true n (2 ^ 63) b.1 in
         let next : n ≡ suc (n - 1) = omega arith in
         subst (λ (y : ℤ). IsWord 64 y × (c ∷ cs ≡ signed_decimal y)) t.1
-          (word_negsuc (n - 1) (omega arith), ap (λ x. x ∷ cs) (eqb-true c 45 sign) ∙ ap (λ d. 45 ∷ d) (k.1 ∙ ap decimal next))
+        (word_negsuc (n - 1) (omega arith), ap (λ x. x ∷ cs) (eqb-true c 45 sign) ∙ ap (λ d. 45 ∷ d) (k.1 ∙ ap decimal next))
+
     from_positive : (o : Option ℕ) → number_of (c ∷ cs) ≡ o → positive o ≡ Some z → IsWord 64 z × (c ∷ cs ≡ signed_decimal z)
     from_positive None is h = absurd (cc)
     from_positive (Some n) is h =
         let k = number_spelt (c ∷ cs) n is in
         let t = cond_some (ltb n (2 ^ 63)) (pos n) z h in
         subst (λ (y : ℤ). IsWord 64 y × (c ∷ cs ≡ signed_decimal y)) t.1 (word_pos n (ltb-true n (2 ^ 63) t.0), k.1)
+
     from : (b : Bool) → eqb c 45 ≡ b → cond b (negative (number_of cs)) (positive (number_of (c ∷ cs))) ≡ Some z → IsWord 64 z × (c ∷ cs ≡ signed_decimal z)
     from true is h = from_negative is (number_of cs) refl h
     from false is h = from_positive (number_of (c ∷ cs)) refl h
@@ -184,9 +186,9 @@ argument_plain : (zs : List ℤ) → IsArgument zs → All (λ b. 32 < b) (argum
 argument_plain [] h = absurd (h.1 refl)
 argument_plain (z ∷ zs) h =
     subst (All (λ b. 32 < b)) (sym (argument_is z zs))
-      (All-append (λ b. 32 < b) (signed_decimal z) (others 44 (map signed_decimal zs))
-        (higher 32 44 (signed_decimal z) (omega arith) (scalar_high z (All-head (IsWord 64) z zs h.0)))
-        (others_high 44 32 (map signed_decimal zs) (omega arith) (all_high 32 zs (λ y k. higher 32 44 (signed_decimal y) (omega arith) (scalar_high y k)) (All-tail (IsWord 64) z zs h.0))))
+    (All-append (λ b. 32 < b) (signed_decimal z) (others 44 (map signed_decimal zs))
+    (higher 32 44 (signed_decimal z) (omega arith) (scalar_high z (All-head (IsWord 64) z zs h.0)))
+    (others_high 44 32 (map signed_decimal zs) (omega arith) (all_high 32 zs (λ y k. higher 32 44 (signed_decimal y) (omega arith) (scalar_high y k)) (All-tail (IsWord 64) z zs h.0))))
 
 pub tells_argument : Tells argument_of argument_text IsArgument
 tells_argument = record {

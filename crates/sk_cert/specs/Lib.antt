@@ -2,3 +2,4 @@ pub mod Certificates
 pub mod Words
 pub mod Readers
 pub mod Departing
+pub mod Examples

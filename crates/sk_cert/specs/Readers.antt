@@ -1,6 +1,6 @@
 -- Readers: functions of a text that answer what stands at its front and what is left behind that, or, where no such
 -- thing stands, how many bytes are left from the first line on that departs from its form.
-use Rattle.std.specs.Prelude.{◌≡◌, ℕ, zero, suc, ◌+◌, ◌-◌, ◌^◌, ◌==◌, ◌<◌, nat_lt, nat_eq, ◌&&◌, ◌||◌, not, Bool, true, false, if◌then◌else◌, List, [], ◌∷◌, ◌++◌, length, take, drop, Option, Some, None, Result, Ok, Err, codes, map}
+use Rattle.std.specs.Prelude.{◌≡◌, ℕ, zero, suc, ◌+◌, ◌-◌, ◌^◌, ◌==◌, nat_lt, Bool, true, false, if◌then◌else◌, List, [], ◌∷◌, ◌++◌, length, take, drop, Option, Some, None, Result, Ok, Err, codes}
 use Rattle.std.specs.List.{position, list_all}
 use Rattle.std.specs.Str.{bytes_eq}
 use Rattle.sk_clause.specs.declared.lit.Lit.{Lit}
@@ -69,9 +69,9 @@ repeated r (suc n) bs = mapped onto (pair r (λ a. repeated r n)) bs
 abbrev pub front_of : List ℕ → Option Front
 front_of line =
     if bytes_eq (take 3 line) (codes "//@") then
-      (if bytes_eq line (codes "//@ completion") then Some (front.Ends true)
-      else if bytes_eq line (codes "//@ none") then Some (front.Ends false)
-      else None)
+    (if bytes_eq line (codes "//@ completion") then Some (front.Ends true)
+    else if bytes_eq line (codes "//@ none") then Some (front.Ends false)
+    else None)
     else if list_all (λ b. nat_lt b 128) line then Some front.Program
     else None
 
@@ -102,9 +102,9 @@ program bs = program_within (length bs) bs
 abbrev pub choice_of : ℕ × List ℕ → Option Choice × ℕ
 choice_of v = (Some (record { values = v.1 }), v.0)
 
-abbrev pub result : Bool → Reader (Option Choice × ℕ)
-result true = mapped choice_of (pair (one (number_in (codes "value"))) (λ v. one (numbers_in (codes "holes"))))
-result false = given (None, 0)
+abbrev pub result_behind : Bool → Reader (Option Choice × ℕ)
+result_behind true = mapped choice_of (pair (one (number_in (codes "value"))) (λ v. one (numbers_in (codes "holes"))))
+result_behind false = given (None, 0)
 
 -- Inputs
 
@@ -123,9 +123,9 @@ proof_of vars v = record { formula = record { clauses = record { vars = vars; cl
 unfoldable pub rows : Sizes → Reader Proof
 rows z =
     mapped (proof_of z.vars)
-      (pair (one (names_in z.vars)) (λ names.
-        pair (repeated (one (clause_in (codes "c") z.vars)) z.clauses) (λ clauses.
-          repeated (one (clause_in (codes "l") z.vars)) z.log)))
+    (pair (one (names_in z.vars)) (λ names.
+    pair (repeated (one (clause_in (codes "c") z.vars)) z.clauses) (λ clauses.
+    repeated (one (clause_in (codes "l") z.vars)) z.log)))
 
 unfoldable pub part : List ℕ → Option ℕ → Reader Proof
 part kind number = mapped second (pair (one (sizes_in kind number)) rows)
@@ -177,11 +177,11 @@ certificate_of v = record { version = v.1.1.0; text = v.0.0; choice = v.1.0.0; v
 unfoldable pub certificate : Reader Certificate
 certificate =
     mapped certificate_of
-      (pair program (λ p.
-        pair (result p.1) (λ r.
-          pair (one version_in) (λ v.
-            pair inputs (λ i.
-              pair (upper_parts v r.0) (λ u. tail (needs_lower r)))))))
+    (pair program (λ p.
+    pair (result_behind p.1) (λ r.
+    pair (one version_in) (λ v.
+    pair inputs (λ i.
+    pair (upper_parts v r.0) (λ u. tail (needs_lower r)))))))
 
 abbrev pub all_read : Certificate → List ℕ → Result Certificate ℕ
 all_read c [] = Ok c

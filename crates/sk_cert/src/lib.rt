@@ -2,6 +2,7 @@
 #![tactic(auto)]
 
 mod certificate;
+pub mod examples;
 mod fault;
 mod law;
 mod lines;

@@ -155,7 +155,12 @@ fn push_literal(out: &mut Vec<u8>, lit: Lit, vars: usize) -> Result<(), AllocErr
 }
 
 // Adds the line of a clause.
-fn push_clause(out: &mut Vec<u8>, kind: &[u8], clause: &[Lit], vars: usize) -> Result<(), AllocError>
+fn push_clause(
+    out: &mut Vec<u8>,
+    kind: &[u8],
+    clause: &[Lit],
+    vars: usize,
+) -> Result<(), AllocError>
     requires { IsWithin vars clause.now }
     ensures { OnOk result (out.new.items ≡ out.old.items ++ clause_line kind.now clause.now) }
 {
@@ -168,7 +173,12 @@ fn push_clause(out: &mut Vec<u8>, kind: &[u8], clause: &[Lit], vars: usize) -> R
 }
 
 // Adds the lines of clauses.
-fn push_clauses(out: &mut Vec<u8>, kind: &[u8], clauses: &ClauseList, vars: usize) -> Result<(), AllocError>
+fn push_clauses(
+    out: &mut Vec<u8>,
+    kind: &[u8],
+    clauses: &ClauseList,
+    vars: usize,
+) -> Result<(), AllocError>
     requires { AreWithin vars clauses.now }
     ensures { OnOk result (out.new.items ≡ out.old.items ++ flat_map (clause_line kind.now) clauses.now) }
 {
@@ -219,12 +229,7 @@ fn push_header(
 }
 
 // Adds the lines of a part, with these numbers before its sizes.
-fn push_part(
-    out: &mut Vec<u8>,
-    kind: &[u8],
-    before: &[u64],
-    part: &Proof,
-) -> Result<(), AllocError>
+fn push_part(out: &mut Vec<u8>, kind: &[u8], before: &[u64], part: &Proof) -> Result<(), AllocError>
     requires { HasItsVariables part.now }
     ensures { OnOk result (out.new.items ≡ out.old.items ++ part_lines kind.now before.now part.now) }
 {
@@ -237,12 +242,7 @@ fn push_part(
 }
 
 // Adds the lines of the upper part with this number.
-fn push_upper(
-    out: &mut Vec<u8>,
-    version: u32,
-    number: u64,
-    part: &Proof,
-) -> Result<(), AllocError>
+fn push_upper(out: &mut Vec<u8>, version: u32, number: u64, part: &Proof) -> Result<(), AllocError>
     requires { HasItsVariables part.now }
     ensures { OnOk result (out.new.items ≡ out.old.items ++ part_lines (codes "upper") (part_number version number) part.now) }
 {

@@ -1,4 +1,3 @@
-use Rattle.std.proofs.Common.{◌≡◌, ◌∷◌, [], ◌++◌}
 use Rattle.sk_cert.proofs.Written.{three_more}
 use Rattle.sk_cert.proofs.writer.push_choice.Goals as goal
 

@@ -1,4 +1,4 @@
-use Rattle.std.proofs.Common.{◌≡◌, ◌++◌, ◌∷◌, [], map, drop, codes, length}
+use Rattle.std.proofs.Common.{◌≡◌, ◌++◌, ◌∷◌, [], drop, codes, length}
 use Rattle.std.specs.List.{flat_map}
 use Rattle.sk_cert.specs.Certificates.{input_line, number_line}
 use Rattle.sk_cert.proofs.writer.push_inputs.Given as goal

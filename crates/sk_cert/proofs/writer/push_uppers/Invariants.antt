@@ -1,4 +1,4 @@
-use Rattle.std.proofs.Common.{◌≡◌, ◌++◌, ◌∷◌, [], map, drop, codes, length}
+use Rattle.std.proofs.Common.{◌≡◌, ◌++◌, drop}
 use Rattle.sk_cert.specs.Certificates.{upper_from}
 use Rattle.sk_cert.proofs.writer.push_uppers.Given as goal
 

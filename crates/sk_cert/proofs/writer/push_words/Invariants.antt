@@ -1,4 +1,4 @@
-use Rattle.std.proofs.Common.{◌≡◌, ◌++◌, ◌∷◌, [], map, drop, codes, length}
+use Rattle.std.proofs.Common.{◌≡◌, ◌++◌, map, drop, codes}
 use Rattle.std.specs.Fmt.{decimal}
 use Rattle.std.specs.List.{flat_map}
 use Rattle.sk_cert.proofs.writer.push_words.Given as goal
