@@ -1,29 +1,26 @@
 -- Both ways of a branch, one after the other, are the one that the condition names.
-use Rattle.std.proofs.Common.{◌≡◌, ℕ, Bool, true, false, List, refl, sym, ap, subst, ◌∙◌, ◌&&◌, ◌||◌}
-use Rattle.std.specs.Prelude.{not, if◌then◌else◌}
+use Rattle.std.proofs.Common.{◌≡◌, Bool, true, false, List, refl, sym, ap, subst, ◌∙◌, ◌&&◌, ◌||◌}
+use Rattle.std.specs.Prelude.{not}
 use Rattle.sk_base.specs.declared.span.Span.{Span}
 use Rattle.sk_dag.specs.declared.env.Env.{Env}
 use Rattle.sk_dag.specs.declared.node.BoolId.{BoolId}
-use Rattle.sk_dag.specs.declared.shape.Shape.{Shape}
-use Rattle.sk_dag.specs.Graph.{Graph, Grows}
-use Rattle.sk_dag.specs.Eval.{bool_value, Keeps}
+use Rattle.sk_dag.specs.Graph.{Graph}
+use Rattle.sk_dag.specs.Eval.{bool_value}
 use Rattle.sk_dag.proofs.EvalLemmas.{Keeps-trans}
-use Rattle.sk_prog.specs.declared.value.Value.{Value}
 use Rattle.sk_prog.specs.declared.value.Value.TheVariants as value
 use Rattle.sk_heap.specs.declared.slot.Slot.{Slot}
-use Rattle.sk_model.specs.Step.{State, Step, Goes, Fails, Skips, Comp, and_then, ◌>>=◌, pure}
+use Rattle.sk_model.specs.Step.{State, Step, Goes, Fails, Skips, Comp}
 use Rattle.sk_model.specs.Eval.{choose}
-use Rattle.sk_model.specs.Exec.{Flow, Onward, Returns, unless_returned}
+use Rattle.sk_model.specs.Exec.{Flow, Onward, Returns}
 use Rattle.sk_sym_state.specs.declared.branch.Side.{Side}
 use Rattle.sk_sym_state.specs.declared.state.SymState.{SymState}
 use Rattle.sk_sym_state.specs.declared.setting.Setting.{Setting}
 use Rattle.sk_seen.specs.Heaps.{HeapGrows}
-use Rattle.sk_sym_state.specs.Stands.{StateStands}
-use Rattle.sk_sym_state.specs.Shows.{AreFrontOf, Shows, SeesFlow, Sees, GoesOn, Carries, Stays, AreAlong}
+use Rattle.sk_sym_state.specs.Shows.{AreFrontOf, Shows, SeesFlow, Sees, Carries, Stays}
 use Rattle.sk_sym_state.specs.Meaning.{IsLater, Moves, Executes, Does, ExecutesOn, DoesOn}
-use Rattle.sk_sym_state.specs.Branching.{IsForked, AreTurned, AreJoined}
+use Rattle.sk_sym_state.specs.Branching.{IsBit, IsForked, AreTurned, AreJoined}
 use Rattle.sk_seen.proofs.Grown.{HeapGrows-refl, HeapGrows-trans}
-use Rattle.sk_sym_state.proofs.Carrying.{Carries-trans, Carries-along, failed_over, skipped_over, returned_over, shows_over, front_grown, later_keeps, Moves-trans}
+use Rattle.sk_sym_state.proofs.Carrying.{Carries-trans, Carries-along, failed_over, skipped_over, returned_over, shows_over, front_grown, later_keeps}
 
 and_false : (a b : Bool) → a ≡ false → (a && b) ≡ false
 and_false a b h = rw h refl
@@ -150,10 +147,6 @@ module _ {x : Setting} {d1 d2 d3 d4 d5 : Graph} {s1 s2 s3 s4 s5 s6 : SymState} {
     grown = HeapGrows-trans grown_12 (HeapGrows-trans ma.grown (HeapGrows-trans grown_34 (HeapGrows-trans mb.grown grown_56)));
     stays = λ g e l p. nowhere l p;
   }
-
--- a value that is this bit
-abbrev pub IsBit : BoolId → Graph → Env → Value → Type 0
-IsBit cond g e v = v ≡ value.Bit (bool_value g e cond)
 
 module _ {x : Setting} {d1 d2 d3 d4 d5 : Graph} {s1 s2 s3 s4 s5 s6 : SymState} {cond : BoolId} {waits gone : Side} where
   pub branch_executes : (span : Span) {m n : Env → Comp Flow} → IsForked x d1 d2 s1 s2 cond waits → Executes x d2 d3 s2 s3 m → AreTurned s3 s4 waits gone → Executes x d3 d4 s4 s5 n → AreJoined x d4 d5 s5 s6 cond gone → ExecutesOn x d1 d5 s1 s6 (IsBit cond) (λ e. choose span (m e) (n e))

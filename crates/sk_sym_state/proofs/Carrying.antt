@@ -1,20 +1,19 @@
 -- What stays where the run does not go on, and what a state is that is another but for its path and its variables.
-use Rattle.std.proofs.Common.{◌≡◌, ℕ, Bool, true, false, List, ◌++◌, refl, sym, ap, subst, ◌∙◌}
-use Rattle.std.specs.Prelude.{Option, Some, None}
+use Rattle.std.proofs.Common.{◌≡◌, true, false, List, ◌++◌, refl, sym, ap, subst, ◌∙◌}
+use Rattle.std.specs.Prelude.{Option}
 use Rattle.sk_dag.specs.declared.env.Env.{Env}
 use Rattle.sk_dag.specs.declared.shape.Shape.{Shape}
-use Rattle.sk_dag.specs.Graph.{Graph, Grows}
+use Rattle.sk_dag.specs.Graph.{Graph}
 use Rattle.sk_dag.specs.Eval.{bool_value, cost_value, Keeps}
 use Rattle.sk_dag.proofs.EvalLemmas.{Keeps-trans}
 use Rattle.sk_prog.specs.declared.value.Value.{Value}
 use Rattle.sk_prog.specs.declared.prog.Fun.{Fun}
 use Rattle.sk_model.specs.Step.{State}
 use Rattle.sk_heap.specs.declared.slot.Slot.{Slot}
-use Rattle.sk_sym_state.specs.declared.state.Ended.{Ended}
 use Rattle.sk_sym_state.specs.declared.state.SymState.{SymState}
 use Rattle.sk_sym_state.specs.declared.setting.Setting.{Setting}
 use Rattle.sk_seen.specs.Heaps.{HeapGrows, HeapLive, heap_value}
-use Rattle.sk_sym_state.specs.Shows.{AreFrontOf, Shows, HasFailed, HasSkipped, EndedIs, HasReturned, Carries, Stays, AreAlong}
+use Rattle.sk_sym_state.specs.Shows.{AreFrontOf, Shows, HasFailed, HasSkipped, EndedIs, HasReturned, Carries, AreAlong}
 use Rattle.sk_sym_state.specs.Meaning.{IsLater, Moves}
 use Rattle.sk_arr.specs.Answers.{shapes_value}
 use Rattle.sk_seen.proofs.Grown.{HeapGrows-trans, values_grow, all_live_grows}

@@ -1,20 +1,20 @@
 -- A run that ends where a node holds.
-use Rattle.std.proofs.Common.{◌≡◌, ◌&&◌, ◌||◌, Bool, true, false, true≢false, refl, sym, ap, subst, ◌∙◌}
+use Rattle.std.proofs.Common.{◌≡◌, ◌&&◌, ◌||◌, Bool, true, false, refl, sym, ap, subst, ◌∙◌}
 use Rattle.std.specs.Prelude.{not}
 use Rattle.sk_dag.specs.declared.env.Env.{Env}
 use Rattle.sk_dag.specs.declared.node.BoolId.{BoolId}
 use Rattle.sk_dag.specs.Graph.{Graph, Grows, HasBool}
 use Rattle.sk_dag.specs.Eval.{bool_value, Keeps}
 use Rattle.sk_base.specs.declared.span.Span.{Span}
-use Rattle.sk_model.specs.Step.{State, Step, Goes, Fails, Skips, Comp, and_then}
-use Rattle.sk_model.specs.Exec.{Flow, Onward}
+use Rattle.sk_model.specs.Step.{State, Goes, Fails, Comp}
+use Rattle.sk_model.specs.Exec.{Flow}
 use Rattle.sk_seen.proofs.Grown.{HeapGrows-refl}
 use Rattle.sk_sym_state.specs.declared.setting.Setting.{Setting}
 use Rattle.sk_sym_state.specs.declared.state.SymState.{SymState}
 use Rattle.sk_sym_state.specs.Stands.{StateStands}
-use Rattle.sk_sym_state.specs.Shows.{Shows, Sees, SeesFlow, GoesOn, Carries, Stays}
-use Rattle.sk_sym_state.specs.Meaning.{IsLater, Moves, Does, DoesOn, Executes, ExecutesOn, FailsWhere, SkipsWhere}
-use Rattle.sk_sym_state.proofs.Carrying.{Carries-refl, later_keeps, Moves-trans}
+use Rattle.sk_sym_state.specs.Shows.{Shows, Sees, SeesFlow}
+use Rattle.sk_sym_state.specs.Meaning.{IsLater, Moves, Does, DoesOn, Executes, FailsWhere, SkipsWhere}
+use Rattle.sk_sym_state.proofs.Carrying.{Carries-refl, Moves-trans}
 use Rattle.sk_sym_state.proofs.Standing.{StateStands-keeps}
 
 and_off : (a b : Bool) → a ≡ false → (a && b) ≡ false

@@ -1,13 +1,12 @@
 -- One part after another.
-use Rattle.std.proofs.Common.{◌≡◌, ℕ, Bool, true, false, List, refl, sym, ap, subst, ◌∙◌}
 use Rattle.sk_dag.specs.declared.env.Env.{Env}
-use Rattle.sk_dag.specs.Graph.{Graph, Grows}
-use Rattle.sk_model.specs.Step.{State, Step, Goes, Fails, Skips, Comp, and_then, ◌>>=◌, pure}
+use Rattle.sk_dag.specs.Graph.{Graph}
+use Rattle.sk_model.specs.Step.{Step, Goes, Fails, Skips, Comp, and_then, ◌>>=◌, pure}
 use Rattle.sk_model.specs.Exec.{Flow, Onward, Returns, unless_returned}
 use Rattle.sk_sym_state.specs.declared.state.SymState.{SymState}
 use Rattle.sk_sym_state.specs.declared.setting.Setting.{Setting}
-use Rattle.sk_sym_state.specs.Shows.{Shows, SeesFlow, Sees, GoesOn}
-use Rattle.sk_sym_state.specs.Meaning.{IsLater, Moves, Executes, Does, ExecutesOn, DoesOn}
+use Rattle.sk_sym_state.specs.Shows.{SeesFlow, Sees}
+use Rattle.sk_sym_state.specs.Meaning.{IsLater, Executes, Does, ExecutesOn, DoesOn}
 use Rattle.sk_sym_state.proofs.Carrying.{failed_over, skipped_over, returned_over, later_keeps, Moves-trans}
 
 module _ {x : Setting} {d0 d1 d2 : Graph} {s0 s1 s2 : SymState} where

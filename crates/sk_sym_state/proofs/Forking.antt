@@ -1,5 +1,5 @@
 -- A branch begins and ends.
-use Rattle.std.proofs.Common.{◌≡◌, ◌&&◌, ◌||◌, Bool, true, false, true≢false, List, length, take, refl, sym, ap, subst, ◌∙◌}
+use Rattle.std.proofs.Common.{◌≡◌, ◌&&◌, ◌||◌, Bool, true, false, true≢false, List, length, take, refl, sym, ap, ◌∙◌}
 use Rattle.std.specs.Prelude.{not, if◌then◌else◌}
 use Rattle.sk_dag.specs.declared.env.Env.{Env}
 use Rattle.sk_dag.specs.declared.node.BoolId.{BoolId}
@@ -14,7 +14,7 @@ use Rattle.sk_sym_state.specs.declared.setting.Setting.{Setting}
 use Rattle.sk_sym_state.specs.declared.state.SymState.{SymState}
 use Rattle.sk_sym_state.specs.Stands.{StateStands}
 use Rattle.sk_sym_state.specs.Shows.{AreAlong}
-use Rattle.sk_sym_state.specs.Branching.{ForkStands, SideStands, IsForked, AreMerged, AreFrontIn, AreOneOf, AreJoined}
+use Rattle.sk_sym_state.specs.Branching.{SideStands, IsForked, AreMerged, AreOneOf, AreJoined}
 use Rattle.sk_sym_state.proofs.Fronts.{front_same, front_of_front, front_whole}
 use Rattle.sk_sym_state.proofs.Standing.{StateStands-keeps, stands_along}
 

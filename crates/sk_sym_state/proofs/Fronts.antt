@@ -1,23 +1,21 @@
 -- Shapes that are worth the first of the values.
-use Rattle.std.proofs.Common.{◌≡◌, ℕ, zero, suc, ◌+◌, ◌<◌, ◌≤◌, Bool, true, false, List, [], ◌∷◌, ◌++◌, length, map, take, drop, get_or, refl, sym, ap, subst, ◌∙◌, append_assoc, add-one, arith}
+use Rattle.std.proofs.Common.{◌≡◌, ℕ, zero, suc, ◌<◌, Bool, true, false, List, [], ◌∷◌, ◌++◌, length, map, take, drop, get_or, refl, sym, ap, subst, ◌∙◌, append_assoc, arith}
 use Rattle.std.specs.Prelude.{if◌then◌else◌, All}
 use Rattle.std.proofs.lemmas.List.Elements.{All-nil, All-cons, All-head, All-tail}
 use Rattle.sk_dag.specs.declared.env.Env.{Env}
 use Rattle.sk_dag.specs.declared.node.BoolId.{BoolId}
 use Rattle.sk_dag.specs.declared.shape.Shape.{Shape}
-use Rattle.sk_dag.specs.declared.shape.Seen.{Seen}
-use Rattle.sk_dag.specs.Graph.{Graph, Grows}
+use Rattle.sk_dag.specs.Graph.{Graph}
 use Rattle.sk_dag.specs.Eval.{bool_value, Keeps}
 use Rattle.sk_dag.specs.EvalShape.{shape_value}
-use Rattle.sk_arr.specs.Shapes.{Stands, AllStand}
+use Rattle.sk_arr.specs.Shapes.{AllStand}
 use Rattle.sk_arr.specs.Answers.{shapes_value, IsChoice}
 use Rattle.sk_arr.proofs.Standing.{AllStand-keeps}
 use Rattle.sk_arr.proofs.Values.{map_push, stand_push}
 use Rattle.sk_prog.specs.declared.value.Value.{Value}
 use Rattle.sk_heap.specs.declared.slot.Slot.{Slot}
 use Rattle.sk_seen.proofs.Heaps.{values_are}
-use Rattle.sk_seen.specs.Values.{place_of, holds_in, value_of, value_in, values_in, IsLive, AllLive}
-use Rattle.sk_sym_state.specs.Seen.{ShapesLive}
+use Rattle.sk_seen.specs.Values.{place_of, holds_in, value_of, values_in, IsLive}
 use Rattle.sk_sym_state.specs.Shows.{AreFrontOf}
 use Rattle.sk_sym_state.specs.Branching.{AreMerged, AreFrontIn}
 

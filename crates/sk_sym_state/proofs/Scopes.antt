@@ -6,29 +6,27 @@ use Rattle.std.proofs.lemmas.Option.{slice_get_within, get_or_from_slice_get, no
 use Rattle.std.proofs.lemmas.List.Elements.{All-nil, All-cons, All-head, All-tail}
 use Rattle.sk_dag.specs.declared.env.Env.{Env}
 use Rattle.sk_dag.specs.declared.shape.Shape.{Shape}
-use Rattle.sk_dag.specs.declared.shape.Seen.{Seen}
-use Rattle.sk_dag.specs.Graph.{Graph, Grows}
-use Rattle.sk_dag.specs.Eval.{bool_value, Keeps}
+use Rattle.sk_dag.specs.Graph.{Graph}
 use Rattle.sk_dag.specs.EvalShape.{shape_value}
 use Rattle.sk_arr.specs.Shapes.{Stands, AllStand}
-use Rattle.sk_arr.specs.Answers.{shapes_value, IsCopy}
+use Rattle.sk_arr.specs.Answers.{shapes_value}
 use Rattle.sk_arr.proofs.Makers.{Keeps-refl}
 use Rattle.sk_arr.proofs.Values.{map_push, stand_push}
 use Rattle.sk_prog.specs.declared.value.Value.{Value}
 use Rattle.sk_heap.specs.declared.slot.Slot.{Slot}
-use Rattle.sk_model.specs.Step.{State, Goes}
+use Rattle.sk_model.specs.Step.{State}
 use Rattle.sk_model.specs.Heap.{blank, written, read, write}
-use Rattle.sk_seen.specs.Values.{place_of, holds_in, value_of, value_in, values_in, IsLive, AllLive}
+use Rattle.sk_seen.specs.Values.{place_of, holds_in, value_of, value_in, values_in, IsLive}
 use Rattle.sk_seen.proofs.Grown.{HeapGrows-refl}
 use Rattle.sk_seen.proofs.Fields.{map_set}
 use Rattle.sk_sym_state.specs.declared.setting.Setting.{Setting}
 use Rattle.sk_sym_state.specs.declared.state.SymState.{SymState}
-use Rattle.sk_sym_state.specs.Seen.{IsWorth, ShapesLive}
+use Rattle.sk_sym_state.specs.Seen.{IsWorth}
 use Rattle.sk_sym_state.specs.Stands.{StateStands}
-use Rattle.sk_sym_state.specs.Shows.{AreFrontOf, Shows, AreAlong, Sees}
-use Rattle.sk_sym_state.specs.Meaning.{IsLater, Moves, Does, DoesOn, Evaluates}
+use Rattle.sk_sym_state.specs.Shows.{AreFrontOf, Shows, AreAlong}
+use Rattle.sk_sym_state.specs.Meaning.{Moves, DoesOn, Evaluates}
 use Rattle.sk_sym_state.specs.Variables.{with_slots, IsVariable, IsDeclared, IsAssigned}
-use Rattle.sk_sym_state.proofs.Carrying.{Carries-along, shows_over}
+use Rattle.sk_sym_state.proofs.Carrying.{Carries-along}
 use Rattle.sk_sym_state.proofs.Standing.{stands_along}
 
 front_at : {A B : Type 0} (f : A → B) (xs : List A) (behind : List B) (d : B) (i : ℕ) (x : A) → slice_get xs i ≡ Some x → slice_index_or (map f xs ++ behind) i d ≡ f x

@@ -1,10 +1,9 @@
 -- States that stand in a graph stand in what it grows to.
-use Rattle.std.proofs.Common.{◌≡◌, List, refl, sym, ap, subst, ◌∙◌}
+use Rattle.std.proofs.Common.{sym, ap, subst, ◌∙◌}
 use Rattle.std.specs.Prelude.{Option, Some, None, map}
-use Rattle.sk_dag.specs.declared.node.BoolId.{BoolId}
 use Rattle.sk_dag.specs.declared.shape.Shape.{Shape}
-use Rattle.sk_dag.specs.Graph.{Graph, Grows, HasBool, HasCost, BoolSort, CostSort}
-use Rattle.sk_dag.specs.Eval.{bool_value, Keeps}
+use Rattle.sk_dag.specs.Graph.{Graph, HasBool, HasCost, BoolSort, CostSort}
+use Rattle.sk_dag.specs.Eval.{Keeps}
 use Rattle.sk_arr.specs.Shapes.{AllStand}
 use Rattle.sk_arr.proofs.Standing.{Stands-keeps, AllStand-keeps}
 use Rattle.sk_prog.specs.declared.prog.Prog.{Prog}
@@ -16,7 +15,7 @@ use Rattle.sk_sym_state.specs.declared.branch.Side.{Side}
 use Rattle.sk_sym_state.specs.declared.state.Ended.{Ended}
 use Rattle.sk_sym_state.specs.declared.state.Frame.{Frame}
 use Rattle.sk_sym_state.specs.declared.state.SymState.{SymState}
-use Rattle.sk_sym_state.specs.Stands.{AnyStands, EndedStands, AnyEndedStands, FrameStands, StateStands}
+use Rattle.sk_sym_state.specs.Stands.{AnyStands, AnyEndedStands, FrameStands, StateStands}
 use Rattle.sk_sym_state.specs.Shows.{AreAlong}
 use Rattle.sk_sym_state.specs.Branching.{ForkStands, SideStands, AreTurned}
 

@@ -1,12 +1,12 @@
 -- Two ways from a state, by a condition: the first where it holds and the second where it does not.
-use Rattle.std.specs.Prelude.{◌≡◌, ℕ, Bool, true, false, not, ◌&&◌, ◌||◌, List, length, take, if◌then◌else◌}
+use Rattle.std.specs.Prelude.{◌≡◌, true, false, not, ◌&&◌, ◌||◌, List, length, take, if◌then◌else◌}
 use Rattle.sk_dag.specs.declared.env.Env.{Env}
 use Rattle.sk_dag.specs.declared.node.BoolId.{BoolId}
 use Rattle.sk_dag.specs.declared.shape.Shape.{Shape}
 use Rattle.sk_dag.specs.Graph.{Graph, Grows, HasBool}
 use Rattle.sk_dag.specs.Eval.{bool_value, Keeps}
 use Rattle.sk_prog.specs.declared.value.Value.{Value}
-use Rattle.sk_model.specs.Step.{State}
+use Rattle.sk_prog.specs.declared.value.Value.TheVariants as value
 use Rattle.sk_arr.specs.Shapes.{AllStand}
 use Rattle.sk_arr.specs.Answers.{shapes_value}
 use Rattle.sk_sym_state.specs.Stands.{StateStands}
@@ -72,3 +72,7 @@ pub record AreJoined (x : Setting) (d0 d1 : Graph) (s0 s1 : SymState) (cond : Bo
   pub path : (g : Graph) (e : Env) → Grows d1 g → bool_value g e s1.path ≡ (bool_value g e gone.path || bool_value g e s0.path)
   pub first : (g : Graph) (e : Env) (values : List Value) → Grows d1 g → bool_value g e cond ≡ true → bool_value g e gone.path ≡ true → AreFrontOf g e s0.heap gone.slots values → AreFrontOf g e s1.heap s1.frame.slots values
   pub second : (g : Graph) (e : Env) (values : List Value) → Grows d1 g → bool_value g e cond ≡ false → bool_value g e s0.path ≡ true → AreFrontOf g e s0.heap s0.frame.slots values → AreFrontOf g e s1.heap s1.frame.slots values
+
+-- a value that is this bit
+abbrev pub IsBit : BoolId → Graph → Env → Value → Type 0
+IsBit cond g e v = v ≡ value.Bit (bool_value g e cond)

@@ -8,15 +8,13 @@ use Rattle.sk_dag.specs.declared.shape.Shape.{Shape}
 use Rattle.sk_dag.specs.Graph.{Graph, Grows}
 use Rattle.sk_dag.specs.Eval.{bool_value, Keeps}
 use Rattle.sk_prog.specs.declared.value.Value.{Value}
-use Rattle.sk_prog.specs.declared.prog.Fun.{Fun}
 use Rattle.sk_model.specs.declared.expanded.Choice.{Choice}
-use Rattle.sk_model.specs.declared.expanded.Expanded.{Expanded}
 use Rattle.sk_model.specs.Step.{State, Comp}
 use Rattle.sk_model.specs.Exec.{Flow}
 use Rattle.sk_model.specs.Fill.{InRange}
 use Rattle.sk_folded.specs.Chosen.{chosen_values}
 use Rattle.sk_seen.specs.Heaps.{HeapGrows}
-use Rattle.sk_sym_state.specs.Seen.{IsWorth, AreWorth}
+use Rattle.sk_sym_state.specs.Seen.{IsWorth}
 use Rattle.sk_arr.specs.Shapes.{Stands}
 use Rattle.sk_sym_state.specs.Stands.{StateStands}
 use Rattle.sk_sym_state.specs.Shows.{Shows, HasFailed, HasSkipped, Stays, SeesFlow, Sees}

@@ -1,7 +1,7 @@
 -- What a state over nodes is in an environment: a run that goes on from a state, or one that has ended.
 --
 -- The variables in scope are the first of those of the call; of those behind them nothing is said.
-use Rattle.std.specs.Prelude.{◌≡◌, ℕ, true, false, List, ◌++◌, Option, Some, None}
+use Rattle.std.specs.Prelude.{◌≡◌, true, false, List, ◌++◌, Option, Some, None}
 use Rattle.sk_dag.specs.declared.env.Env.{Env}
 use Rattle.sk_dag.specs.declared.shape.Shape.{Shape}
 use Rattle.sk_dag.specs.Graph.{Graph}

@@ -1,5 +1,4 @@
-use Rattle.std.proofs.Common.{◌≡◌, ◌<◌, length, get_or, arith, subst, sym, ap}
-use Rattle.sk_dag.specs.Graph.{BoolSort}
+use Rattle.std.proofs.Common.{◌≡◌, ◌<◌, length, get_or, arith, subst, ap}
 use Rattle.sk_dag.proofs.EvalLemmas.{Keeps-trans}
 use Rattle.sk_arr.proofs.Standing.{Stands-keeps}
 use Rattle.sk_arr.proofs.Choices.{stand_at}

@@ -1,4 +1,4 @@
-use Rattle.std.proofs.Common.{◌≡◌, ◌≤◌, length}
+use Rattle.std.proofs.Common.{◌≡◌, length}
 use Rattle.sk_dag.specs.Eval.{Keeps}
 use Rattle.sk_sym_state.specs.Branching.{AreMerged}
 use Rattle.sk_sym_state.proofs.branch.merged.Given as goal

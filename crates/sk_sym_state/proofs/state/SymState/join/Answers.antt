@@ -1,5 +1,4 @@
-use Rattle.std.proofs.Common.{subst, sym, ap}
-use Rattle.sk_arr.specs.Shapes.{AllStand}
+use Rattle.std.proofs.Common.{subst}
 use Rattle.sk_arr.proofs.Standing.{AllStand-keeps}
 use Rattle.sk_sym_state.specs.Branching.{AreOneOf}
 use Rattle.sk_sym_state.proofs.Standing.{SideStands-keeps}
