@@ -3,3 +3,6 @@ pub mod OrderLaws
 pub mod Turns
 pub mod Says
 pub mod Trees
+pub mod Walks
+pub mod Programs
+pub mod Tests
