@@ -19,7 +19,7 @@ use Rattle.sk_arr.specs.Answers.{shapes_value}
 use Rattle.sk_seen.proofs.Grown.{HeapGrows-trans, values_grow, all_live_grows}
 
 pub Carries-refl : (g : Graph) (e : Env) (s : SymState) → Carries g e s s
-Carries-refl g e s = record { failed = refl; skipped = refl; returned = refl; cost = refl; heap = refl; lives = λ h. h; ended = λ v refs h. h }
+Carries-refl g e s = record { failed = refl; skipped = refl; returned = refl; cost = refl; heap = λ l. refl; lives = λ h. h; ended = λ v refs h. h }
 
 pub Carries-trans : {g : Graph} {e : Env} {a b c : SymState} → Carries g e a b → Carries g e b c → Carries g e a c
 Carries-trans h k = record {
@@ -27,7 +27,7 @@ Carries-trans h k = record {
   skipped = k.skipped ∙ h.skipped;
   returned = k.returned ∙ h.returned;
   cost = k.cost ∙ h.cost;
-  heap = k.heap ∙ h.heap;
+  heap = λ l. k.heap (h.lives l) ∙ h.heap l;
   lives = λ l. k.lives (h.lives l);
   ended = λ v refs l. k.ended v refs (h.ended v refs l);
 }
@@ -38,7 +38,7 @@ Carries-along {g} {e} {a} {b} h = record {
   skipped = ap (bool_value g e) h.skipped;
   returned = ap (bool_value g e) h.returned;
   cost = ap (cost_value g e) h.cost;
-  heap = ap (heap_value g e) h.heap;
+  heap = λ l. ap (heap_value g e) h.heap;
   lives = λ l. subst (HeapLive g e) (sym h.heap) l;
   ended = λ v refs l. subst (λ t. EndedIs g e t b.frame.ended v refs) (sym h.heap) (subst (λ t. EndedIs g e a.heap t v refs) (sym h.ended) l);
 }
@@ -57,7 +57,7 @@ module _ {g : Graph} {e : Env} {a b : SymState} where
     skipped = c.skipped ∙ h.skipped;
     returned = c.returned ∙ h.returned;
     cost = c.cost ∙ h.cost;
-    heap = c.heap ∙ h.heap;
+    heap = c.heap h.lives ∙ h.heap;
     lives = c.lives h.lives;
     ended = c.ended _ _ h.ended;
   }
@@ -69,7 +69,7 @@ module _ {g : Graph} {e : Env} {a b : SymState} where
     skipped = c.skipped ∙ h.skipped;
     returned = c.returned ∙ h.returned;
     cost = c.cost ∙ h.cost;
-    heap = c.heap ∙ h.heap;
+    heap = c.heap h.lives ∙ h.heap;
     lives = c.lives h.lives;
     slots = f;
   }

@@ -57,7 +57,7 @@ module _ (x : Setting) {d0 d1 : Graph} {s0 : SymState} (cond : BoolId) {path end
       keeps = k;
       stands = record { path = path_there; failed = ended_there; skipped = now.skipped; cost = now.cost; heap = now.heap; structs = now.structs; frame = now.frame };
       grown = HeapGrows-refl s0.heap;
-      stays = λ g e l p. record { path = path_off g e l p; rest = record { failed = v g l.grows e ∙ or_off _ _ _ p; skipped = refl; returned = refl; cost = refl; heap = refl; lives = λ t. t; ended = λ a b t. t } };
+      stays = λ g e l p. record { path = path_off g e l p; rest = record { failed = v g l.grows e ∙ or_off _ _ _ p; skipped = refl; returned = refl; cost = refl; heap = λ t. refl; lives = λ t. t; ended = λ a b t. t } };
     };
     heap = refl;
     good = λ g e at l c shows. record { path = path_on g e l shows.path c; failed = v g l.grows e ∙ or_none _ _ _ c ∙ shows.failed; skipped = shows.skipped; returned = shows.returned; cost = shows.cost; heap = shows.heap; lives = shows.lives; slots = shows.slots };
@@ -70,7 +70,7 @@ module _ (x : Setting) {d0 d1 : Graph} {s0 : SymState} (cond : BoolId) {path end
       keeps = k;
       stands = record { path = path_there; failed = now.failed; skipped = ended_there; cost = now.cost; heap = now.heap; structs = now.structs; frame = now.frame };
       grown = HeapGrows-refl s0.heap;
-      stays = λ g e l p. record { path = path_off g e l p; rest = record { failed = refl; skipped = v g l.grows e ∙ or_off _ _ _ p; returned = refl; cost = refl; heap = refl; lives = λ t. t; ended = λ a b t. t } };
+      stays = λ g e l p. record { path = path_off g e l p; rest = record { failed = refl; skipped = v g l.grows e ∙ or_off _ _ _ p; returned = refl; cost = refl; heap = λ t. refl; lives = λ t. t; ended = λ a b t. t } };
     };
     heap = refl;
     good = λ g e at l c shows. record { path = path_on g e l shows.path c; failed = shows.failed; skipped = v g l.grows e ∙ or_none _ _ _ c ∙ shows.skipped; returned = shows.returned; cost = shows.cost; heap = shows.heap; lives = shows.lives; slots = shows.slots };

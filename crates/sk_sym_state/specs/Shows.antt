@@ -88,13 +88,14 @@ Sees g e s Is (Goes a at) = GoesOn g e s at Is a
 Sees g e s Is (Fails span) = HasFailed g e s
 Sees g e s Is (Skips span) = HasSkipped g e s
 
--- Whether the run has failed, is skipped or has returned, its cost, its records and what it has returned are as they were.
+-- Whether the run has failed, is skipped or has returned, its cost, its records, where they are live, and what it has returned
+-- are as they were.
 pub record Carries (g : Graph) (e : Env) (old new : SymState) : Type 0 where
   pub failed : bool_value g e new.failed ≡ bool_value g e old.failed
   pub skipped : bool_value g e new.skipped ≡ bool_value g e old.skipped
   pub returned : bool_value g e new.frame.returned ≡ bool_value g e old.frame.returned
   pub cost : cost_value g e new.cost ≡ cost_value g e old.cost
-  pub heap : heap_value g e new.heap ≡ heap_value g e old.heap
+  pub heap : HeapLive g e old.heap → heap_value g e new.heap ≡ heap_value g e old.heap
   pub lives : HeapLive g e old.heap → HeapLive g e new.heap
   pub ended : (v : Option Value) (refs : List Value) → EndedIs g e old.heap old.frame.ended v refs → EndedIs g e new.heap new.frame.ended v refs
 
