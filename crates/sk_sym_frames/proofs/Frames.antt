@@ -26,7 +26,7 @@ use Rattle.sk_sym_state.specs.declared.state.SymState.{SymState}
 use Rattle.sk_sym_state.specs.Seen.{AreWorth}
 use Rattle.sk_sym_state.specs.Stands.{StateStands}
 use Rattle.sk_sym_state.specs.Shows.{AreFrontOf, Shows, ResultIs, EndedIs, SeesFlow, Sees, Stays}
-use Rattle.sk_sym_state.specs.Meaning.{IsLater, Moves, Executes, ExecutesOn, DoesOn}
+use Rattle.sk_sym_state.specs.Meaning.{IsLater, Executes, ExecutesOn, DoesOn}
 use Rattle.sk_sym_state.proofs.Worth.{IsWorth-grown, AreWorth-grown}
 use Rattle.sk_sym_state.proofs.Carrying.{front_grown, later_keeps}
 use Rattle.sk_sym_state.proofs.Standing.{StateStands-keeps, FrameStands-keeps, AnyEnded-keeps}

@@ -3,7 +3,6 @@ use Rattle.std.proofs.Common.{◌≡◌, Bool, true, false, true≢false, List, 
 use Rattle.std.specs.Prelude.{Option, Some, None, map, if◌then◌else◌}
 use Rattle.sk_dag.specs.declared.env.Env.{Env}
 use Rattle.sk_dag.specs.declared.node.BoolId.{BoolId}
-use Rattle.sk_dag.specs.declared.shape.Seen.{Seen}
 use Rattle.sk_dag.specs.declared.shape.Seen.TheVariants.{Array as SeenArray}
 use Rattle.sk_dag.specs.declared.shape.Shape.{Shape}
 use Rattle.sk_dag.specs.declared.shape.Shape.TheVariants as shape
@@ -17,7 +16,6 @@ use Rattle.sk_arr.proofs.Values.{value_array}
 use Rattle.sk_prog.specs.declared.ty.Ty.{Ty}
 use Rattle.sk_prog.specs.declared.value.Value.{Value}
 use Rattle.sk_prog.specs.declared.prog.Fun.{Fun}
-use Rattle.sk_prog.specs.declared.prog.ParamDef.{ParamDef}
 use Rattle.sk_heap.specs.declared.slot.Slot.{Slot}
 use Rattle.sk_heap.specs.Types.{form_of}
 use Rattle.sk_heap.specs.Zeros.{IsZero}
@@ -28,7 +26,7 @@ use Rattle.sk_seen.specs.Values.{place_of, holds_in, value_of, IsLive, AllLive}
 use Rattle.sk_seen.proofs.Heaps.{form_zero, form_live, values_are}
 use Rattle.sk_sym_state.specs.declared.state.Ended.{Ended}
 use Rattle.sk_sym_state.specs.Seen.{IsWorth, AreWorth}
-use Rattle.sk_sym_state.specs.Stands.{AnyStands, EndedStands}
+use Rattle.sk_sym_state.specs.Stands.{EndedStands}
 use Rattle.sk_sym_state.specs.Shows.{AreFrontOf, ResultIs, EndedIs}
 use Rattle.sk_sym_state.proofs.Standing.{AnyStands-keeps}
 use Rattle.sk_sym_frames.specs.Ended.{AnyWorth, AreRefs, IsResult, IsEnd, IsEitherResult, AreEither, IsEither, IsLatest, IsGiven}
