@@ -1,0 +1,4 @@
+pub mod Computing
+pub mod Forms
+pub mod Operating
+pub mod Elements
