@@ -8,12 +8,9 @@ use Rattle.sk_dag.specs.declared.node.BoolId.{BoolId}
 use Rattle.sk_dag.specs.declared.node.WordId.{WordId}
 use Rattle.sk_dag.specs.declared.shape.Shape.{Shape}
 use Rattle.sk_dag.specs.declared.shape.Shape.TheVariants as shape
-use Rattle.sk_dag.specs.declared.shape.Seen.TheVariants as seen
 use Rattle.sk_dag.specs.Graph.{Graph, Grows, HasBool, HasWord, BoolSort, WordSort}
 use Rattle.sk_dag.specs.Eval.{bool_value, word_value, Keeps}
-use Rattle.sk_dag.proofs.EvalLemmas.{Keeps-trans}
 use Rattle.sk_simplify.proofs.RuleLemmas.{zero_word}
-use Rattle.sk_arr.proofs.Makers.{Keeps-refl}
 use Rattle.sk_arr.proofs.Standing.{bit_stands, int_stands}
 use Rattle.sk_arr.proofs.Values.{value_bit, value_int, bit_passes, int_passes}
 use Rattle.sk_base.specs.Word.{wrapped}
@@ -21,7 +18,7 @@ use Rattle.sk_prog.specs.declared.expr.BinOp.{BinOp}
 use Rattle.sk_prog.specs.declared.expr.BinOp.TheVariants as op
 use Rattle.sk_prog.specs.declared.value.Value.{Value}
 use Rattle.sk_prog.specs.declared.value.Value.TheVariants as value
-use Rattle.sk_model.specs.Step.{Comp, pure, fail}
+use Rattle.sk_model.specs.Step.{Comp, pure}
 use Rattle.sk_model.specs.Operators.{divided, number_operator, bit_operator, either_bit}
 use Rattle.sk_seen.specs.Values.{value_of, IsLive}
 use Rattle.sk_seen.proofs.Parts.{of_bit, of_int, live_bit, live_int}

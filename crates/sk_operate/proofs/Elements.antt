@@ -3,7 +3,7 @@ use Rattle.std.proofs.lemmas.Bool.{lt-ltb, ltb-true}
 use Rattle.std.proofs.lemmas.List.{take_more, take_all}
 use Rattle.std.proofs.lemmas.List.Elements.{All-nil, All-head}
 use Rattle.std.proofs.lemmas.Option.{none-some, slice_get_within, slice_get-map, get_or_from_slice_get}
-use Rattle.std.proofs.Common.{◌≡◌, ℕ, ℤ, pos, negsuc, suc, ◌+◌, ◌<◌, ◌≤◌, Bool, true, false, true≢false, not, nat_lt, List, [], ◌∷◌, ◌++◌, map, length, take, get_or, All, Option, Some, None, option_map, slice_get, refl, sym, ap, subst, ◌∙◌, arith}
+use Rattle.std.proofs.Common.{◌≡◌, ℕ, ℤ, pos, negsuc, ◌+◌, ◌<◌, ◌≤◌, Bool, true, false, true≢false, not, nat_lt, List, [], ◌∷◌, ◌++◌, map, length, take, get_or, All, Option, Some, None, option_map, slice_get, refl, sym, ap, subst, ◌∙◌, arith}
 use Rattle.sk_base.specs.declared.span.Span.{Span}
 use Rattle.sk_dag.specs.declared.env.Env.{Env}
 use Rattle.sk_dag.specs.declared.node.BoolId.{BoolId}
@@ -14,16 +14,14 @@ use Rattle.sk_dag.specs.declared.shape.Seen.{Seen}
 use Rattle.sk_dag.specs.Graph.{Graph, Grows, HasBool}
 use Rattle.sk_dag.specs.Eval.{bool_value, word_value}
 use Rattle.sk_dag.specs.EvalShape.{shape_value}
-use Rattle.sk_arr.specs.Shapes.{blank, Alike, AlikeTo, AllAlike, SlotsPass, AllSlotsPass}
+use Rattle.sk_arr.specs.Shapes.{Alike, AlikeTo, AllAlike, SlotsPass}
 use Rattle.sk_arr.specs.Places.{is_within, element_of}
 use Rattle.sk_arr.specs.Answers.{shapes_value, IsRead}
 use Rattle.sk_arr.proofs.Standing.{bit_stands}
 use Rattle.sk_arr.proofs.Values.{value_array, length_map, all_push, bit_passes, parts_pass}
-use Rattle.sk_prog.specs.declared.value.Value.{Value}
 use Rattle.sk_prog.specs.declared.value.Value.TheVariants as value
 use Rattle.sk_prog.specs.declared.value.Value.TheViews.{outs-Array}
-use Rattle.sk_model.specs.Step.{Comp}
-use Rattle.sk_model.specs.Values.{elements_of, elements, element}
+use Rattle.sk_model.specs.Values.{elements_of, element}
 use Rattle.sk_model.specs.Eval.{or_fail, indexed}
 use Rattle.sk_seen.specs.Values.{place_of, value_of, IsLive, AllLive}
 use Rattle.sk_seen.proofs.Parts.{live_head, array_live}

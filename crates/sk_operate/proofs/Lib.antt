@@ -2,3 +2,4 @@ pub mod Computing
 pub mod Forms
 pub mod Operating
 pub mod Elements
+pub mod BitRows

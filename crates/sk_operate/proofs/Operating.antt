@@ -1,6 +1,5 @@
 -- Operators on shapes, from those on their nodes.
-use Rattle.std.proofs.Common.{◌≡◌, ◌≢◌, ℕ, ℤ, pos, Bool, true, false, true≢false, not, List, [], ◌∷◌, map, IsTrue, Option, Some, None, ◌↔◌, refl, sym, ap, subst, ◌∙◌, if◌then◌else◌, neg_ℤ, zero, suc, ◌<◌, ◌≤◌, ◌-◌, ◌^◌, arith}
-use Rattle.std.proofs.lemmas.List.Elements.{All-nil, All-cons, All-head, All-tail}
+use Rattle.std.proofs.Common.{◌≡◌, ◌≢◌, ℕ, pos, Bool, true, false, not, List, [], ◌∷◌, map, refl, sym, ap, subst, ◌∙◌, if◌then◌else◌, neg_ℤ, zero, suc, ◌<◌, ◌≤◌, ◌-◌, ◌^◌, arith}
 use Rattle.sk_base.specs.declared.span.Span.{Span}
 use Rattle.std.proofs.lemmas.Int.{ints}
 use Rattle.sk_base.specs.Word.{wrapped, half, IsWord}
@@ -12,11 +11,9 @@ use Rattle.sk_dag.specs.declared.node.BoolId.{BoolId}
 use Rattle.sk_dag.specs.declared.node.WordId.{WordId}
 use Rattle.sk_dag.specs.declared.shape.Shape.{Shape}
 use Rattle.sk_dag.specs.declared.shape.Shape.TheVariants as shape
-use Rattle.sk_dag.specs.declared.shape.Seen.{Seen}
-use Rattle.sk_dag.specs.Graph.{Graph, Grows, HasBool, HasWord, BoolSort, IsWellFormed}
+use Rattle.sk_dag.specs.Graph.{Graph, Grows, IsWellFormed}
 use Rattle.sk_dag.specs.Eval.{bool_value, word_value, Keeps}
 use Rattle.sk_dag.specs.EvalShape.{shape_value}
-use Rattle.sk_arr.specs.Shapes.{Stands, SlotsPass, AllSlotsPass}
 use Rattle.sk_arr.specs.Answers.{shapes_value, IsEquality}
 use Rattle.sk_arr.proofs.Values.{value_bit, value_int, value_array}
 use Rattle.sk_prog.specs.declared.expr.BinOp.{BinOp}
@@ -25,15 +22,15 @@ use Rattle.sk_prog.specs.declared.expr.UnOp.{UnOp}
 use Rattle.sk_prog.specs.declared.expr.UnOp.TheVariants as unary
 use Rattle.sk_prog.specs.declared.value.Value.{Value}
 use Rattle.sk_prog.specs.declared.value.Value.TheVariants as value
-use Rattle.sk_model.specs.Step.{Comp, pure, fail}
-use Rattle.sk_model.specs.Values.{equal, truth}
-use Rattle.sk_model.specs.Operators.{operand, on_operands, operator, number_operator, bit_operator, unary_operator, to_int}
-use Rattle.sk_seen.specs.Values.{place_of, value_of, IsLive, AllLive}
+use Rattle.sk_model.specs.Step.{Comp, pure}
+use Rattle.sk_model.specs.Values.{equal}
+use Rattle.sk_model.specs.Operators.{operand, on_operands, operator, unary_operator, to_int}
+use Rattle.sk_seen.specs.Values.{place_of, value_of, AllLive}
 use Rattle.sk_seen.proofs.Parts.{of_bit, of_int, of_array, live_head, live_tail}
 use Rattle.sk_seen.proofs.Equals.{equal_is}
-use Rattle.sk_operate.specs.Worth.{worth, answered}
+use Rattle.sk_operate.specs.Worth.{worth}
 use Rattle.sk_operate.specs.Answers.{IsComputed, IsOperated}
-use Rattle.sk_operate.proofs.Computing.{computed_as, bit_law, word_law, OnWords, OnBits, IsBitOf, IsWordOf}
+use Rattle.sk_operate.proofs.Computing.{OnWords, OnBits, IsBitOf, IsWordOf}
 
 module _ (holds : ℕ → Bool) (h : Graph) (e : Env) {s : Shape} where
   pub worth_bit : (a : BoolId) → s ≡ shape.Bit a → worth holds h e s ≡ value.Bit (bool_value h e a)

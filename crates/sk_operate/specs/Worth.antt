@@ -7,6 +7,7 @@ use Rattle.sk_dag.specs.Graph.{Graph}
 use Rattle.sk_dag.specs.EvalShape.{shape_value}
 use Rattle.sk_prog.specs.declared.value.Value.{Value}
 use Rattle.sk_model.specs.Step.{Comp, pure, fail}
+use Rattle.sk_model.specs.Operators.{bit}
 use Rattle.sk_seen.specs.Values.{place_of, value_of}
 
 -- the value of a shape where these slots hold. Where they are those of a heap, it is `value_in` of the heap.
@@ -16,3 +17,7 @@ worth holds h e s = value_of (place_of holds) (shape_value h e s)
 -- it fails where the flag is set, and else goes on with the value
 abbrev pub answered : Span → Bool → Value → Comp Value
 answered span fails v = if fails then fail span else pure v
+
+-- the bits that shapes of bits are
+abbrev pub bits_in : Graph → Env → List Shape → List Bool
+bits_in h e list = map (λ s. bit (value_of (λ n. 0) (shape_value h e s))) list

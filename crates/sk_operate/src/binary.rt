@@ -11,12 +11,13 @@ ghost use Rattle.sk_operate.specs.Answers.{IsOperated};
 use crate::form::alike;
 use crate::operated::{Operated, whole_bit};
 use crate::reading::{bit_in, word_in};
+use crate::rows::on_row;
 use crate::words::{on_bits, on_words};
 use sk_arr::same;
 use sk_dag::{BoolId, Dag, Shape};
 use sk_folded::not;
 use sk_prog::BinOp;
-use std::alloc::AllocError;
+use std::alloc::{AllocError, Global};
 
 /// Whether two shapes are equal. They have to be of one form, as two values that a typed program compares are.
 fn compare(dag: &mut Dag, a: &Shape, b: &Shape) -> Result<BoolId, AllocError>
@@ -32,9 +33,15 @@ fn compare(dag: &mut Dag, a: &Shape, b: &Shape) -> Result<BoolId, AllocError>
     Ok(r)
 }
 
-/// An operator on two shapes of single values, but for comparisons.
+/// An operator on two shapes, but for comparisons.
 #[tactic(auto, using(sk_arr::proofs::Standing::inside))]
-fn on_forms(dag: &mut Dag, op: BinOp, a: &Shape, b: &Shape) -> Result<Operated, AllocError>
+fn on_forms(
+    alloc: Global,
+    dag: &mut Dag,
+    op: BinOp,
+    a: &Shape,
+    b: &Shape,
+) -> Result<Operated, AllocError>
     requires a { Stands dag.old a.now }
     requires b { Stands dag.old b.now }
     ensures keeps { Keeps dag.old dag.new }
@@ -52,6 +59,10 @@ fn on_forms(dag: &mut Dag, op: BinOp, a: &Shape, b: &Shape) -> Result<Operated, 
             let made = on_bits(dag, op, *x, y)?;
             Ok(made)
         }
+        Shape::Array(x) => {
+            let made = on_row(alloc, dag, op, x, b)?;
+            Ok(made)
+        }
         _ => Err(AllocError),
     }
 }
@@ -61,7 +72,13 @@ fn on_forms(dag: &mut Dag, op: BinOp, a: &Shape, b: &Shape) -> Result<Operated, 
 /// # Errors
 ///
 /// Memory is wanting, or the shapes are of forms to which no typed program applies the operator.
-pub fn operator(dag: &mut Dag, op: BinOp, a: &Shape, b: &Shape) -> Result<Operated, AllocError>
+pub fn operator(
+    alloc: Global,
+    dag: &mut Dag,
+    op: BinOp,
+    a: &Shape,
+    b: &Shape,
+) -> Result<Operated, AllocError>
     requires a { Stands dag.old a.now }
     requires b { Stands dag.old b.now }
     ensures keeps { Keeps dag.old dag.new }
@@ -81,7 +98,7 @@ pub fn operator(dag: &mut Dag, op: BinOp, a: &Shape, b: &Shape) -> Result<Operat
             Ok(made)
         }
         _ => {
-            let made = on_forms(dag, op, a, b)?;
+            let made = on_forms(alloc, dag, op, a, b)?;
             Ok(made)
         }
     }

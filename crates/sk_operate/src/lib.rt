@@ -6,6 +6,7 @@ mod element;
 mod form;
 mod operated;
 mod reading;
+mod rows;
 mod single;
 mod words;
 

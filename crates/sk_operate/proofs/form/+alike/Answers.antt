@@ -1,9 +1,8 @@
-use Rattle.std.proofs.Common.{◌≡◌, ◌<◌, length, map, take, get_or, arith, refl, sym, ap, subst, ◌∙◌}
+use Rattle.std.proofs.Common.{◌≡◌, ◌<◌, length, map, get_or, arith, refl, sym, ap, subst, ◌∙◌}
 use Rattle.std.proofs.lemmas.List.{take_all}
 use Rattle.sk_arr.specs.Shapes.{blank}
 use Rattle.sk_arr.proofs.Depths.{depth_array, depth_within, depths}
-use Rattle.sk_arr.proofs.Values.{blank_array}
-use Rattle.sk_operate.proofs.Forms.{alike_more, alike_arrays}
+use Rattle.sk_operate.proofs.Forms.{alike_more}
 use Rattle.sk_operate.proofs.form.+alike.Goals as goal
 
 pub all_alike-alike-requires : goal.all_alike-alike-requires
