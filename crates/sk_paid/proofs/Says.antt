@@ -1,13 +1,12 @@
 -- What calls and pays in a part under its tests is what stands of it.
-use Rattle.std.proofs.Common.{◌≡◌, ℕ, zero, suc, ◌+◌, ◌-◌, ◌<◌, ◌≤◌, Bool, true, false, List, [], ◌∷◌, ◌++◌, map, length, refl, sym, ap, subst, ◌∙◌, arith}
-use Rattle.std.specs.Prelude.{◌==◌, nat_lt, ◌&&◌, if◌then◌else◌}
+use Rattle.std.proofs.Common.{◌≡◌, ℕ, zero, suc, ◌+◌, ◌<◌, ◌≤◌, Bool, true, false, List, [], ◌∷◌, ◌++◌, map, refl, ap, ◌∙◌, arith}
+use Rattle.std.specs.Prelude.{◌&&◌, if◌then◌else◌}
 use Rattle.std.proofs.lemmas.Bool.{lt-ltb, le-ltb, eq-eqb, ne_eqb}
 use Rattle.sk_base.specs.declared.span.Span.{Span}
 use Rattle.sk_model.specs.Parts.{Part, counts, value}
-use Rattle.sk_model.specs.Stands.{Standing, Payment, own, absent, beside, in_row, first_of, only, by_value, with_calls, with_paid, part_if}
+use Rattle.sk_model.specs.Stands.{Standing, Payment, own, beside, in_row, first_of, only, by_value, with_calls, with_paid, part_if}
 use Rattle.sk_model.proofs.Induction.{Each}
 use Rattle.sk_paid.specs.declared.guard.Test.{Test}
-use Rattle.sk_paid.specs.declared.guard.Test.TheVariants.{Takes, Exceeds}
 use Rattle.sk_paid.specs.declared.guard.Called.{Called}
 use Rattle.sk_paid.specs.declared.guard.Owed.{Owed}
 use Rattle.sk_paid.specs.Guards.{meets, meets_all, called_under, paid_under, Guards, sites_alone, both, in_line, under, each_under, by_site, takes, exceeds, with_call, with_owed}
