@@ -22,15 +22,15 @@ module _ (values : List ℕ) where
     pub called : (i : ℕ) (ts : List Test) → called_under values (q.at i ts).called ≡ kept (meets_all values ts) (p.at i).called
     pub paid : (i : ℕ) (ts : List Test) → paid_under values (q.at i ts).owed ≡ kept (meets_all values ts) (p.at i).paid
 
-kept_none : {A : Type 0} (b : Bool) → [] ≡ kept {A = A} b []
+pub kept_none : {A : Type 0} (b : Bool) → [] ≡ kept {A = A} b []
 kept_none true = refl
 kept_none false = refl
 
-kept_both : {A : Type 0} (b : Bool) (xs ys : List A) → kept b xs ++ kept b ys ≡ kept b (xs ++ ys)
+pub kept_both : {A : Type 0} (b : Bool) (xs ys : List A) → kept b xs ++ kept b ys ≡ kept b (xs ++ ys)
 kept_both true xs ys = refl
 kept_both false xs ys = refl
 
-called_append : (values : List ℕ) (cs ds : List Called) → called_under values (cs ++ ds) ≡ called_under values cs ++ called_under values ds
+pub called_append : (values : List ℕ) (cs ds : List Called) → called_under values (cs ++ ds) ≡ called_under values cs ++ called_under values ds
 called_append values [] ds = refl
 called_append values (c ∷ cs) ds = by (meets_all values c.tests) (called_append values cs ds)
   where
@@ -39,7 +39,7 @@ called_append values (c ∷ cs) ds = by (meets_all values c.tests) (called_appen
     by true h = ap (λ xs. c.f ∷ xs) h
     by false h = h
 
-paid_append : (values : List ℕ) (os ps : List Owed) → paid_under values (os ++ ps) ≡ paid_under values os ++ paid_under values ps
+pub paid_append : (values : List ℕ) (os ps : List Owed) → paid_under values (os ++ ps) ≡ paid_under values os ++ paid_under values ps
 paid_append values [] ps = refl
 paid_append values (o ∷ os) ps = by (meets_all values o.tests) (paid_append values os ps)
   where
