@@ -6,3 +6,6 @@ pub mod Trees
 pub mod Walks
 pub mod Programs
 pub mod Tests
+pub mod Ledger
+pub mod Going
+pub mod Columns

@@ -1,11 +1,11 @@
 -- What the minrepeats of a program pay is what those pay that stand.
-use Rattle.std.proofs.Common.{◌≡◌, ℕ, ◌+◌, Bool, true, false, List, [], ◌∷◌, ◌++◌, refl, sym, ap, ◌∙◌}
+use Rattle.std.proofs.Common.{◌≡◌, ℕ, ◌+◌, Bool, true, false, List, [], ◌∷◌, ◌++◌, refl, ap, ◌∙◌}
 use Rattle.std.specs.Prelude.{◌||◌, nat_lt}
 use Rattle.sk_prog.specs.declared.prog.Fun.{Fun}
 use Rattle.sk_model.specs.declared.expanded.Expanded.{Expanded}
 use Rattle.sk_model.specs.Parts.{Part}
-use Rattle.sk_model.specs.Stands.{Standing, Payment, part_if, is_called, body_standing, standing_from, standing, all_paid}
-use Rattle.sk_paid.specs.Guards.{called_under, paid_under, Guards, Guarded}
+use Rattle.sk_model.specs.Stands.{Standing, part_if, is_called, body_standing, standing_from, standing, all_paid}
+use Rattle.sk_paid.specs.Guards.{called_under, paid_under, Guarded}
 use Rattle.sk_paid.specs.Programs.{kept, guards_of, paid_from, program_paid}
 use Rattle.sk_paid.proofs.Says.{Says}
 use Rattle.sk_paid.proofs.Trees.{says_body}

@@ -1,13 +1,12 @@
 -- What calls and pays in a part under its tests is what stands of it.
-use Rattle.std.proofs.Common.{◌≡◌, ℕ, zero, suc, ◌+◌, ◌-◌, ◌<◌, ◌≤◌, Bool, true, false, List, [], ◌∷◌, ◌++◌, map, length, refl, sym, ap, subst, ◌∙◌, arith}
-use Rattle.std.specs.Prelude.{◌==◌, nat_lt, ◌&&◌, if◌then◌else◌}
+use Rattle.std.proofs.Common.{◌≡◌, ℕ, zero, suc, ◌+◌, ◌<◌, ◌≤◌, Bool, true, false, List, [], ◌∷◌, ◌++◌, map, refl, ap, ◌∙◌, arith}
+use Rattle.std.specs.Prelude.{◌&&◌, if◌then◌else◌}
 use Rattle.std.proofs.lemmas.Bool.{lt-ltb, le-ltb, eq-eqb, ne_eqb}
 use Rattle.sk_base.specs.declared.span.Span.{Span}
 use Rattle.sk_model.specs.Parts.{Part, counts, value}
-use Rattle.sk_model.specs.Stands.{Standing, Payment, own, absent, beside, in_row, first_of, only, by_value, with_calls, with_paid, part_if}
+use Rattle.sk_model.specs.Stands.{Standing, Payment, own, beside, in_row, first_of, only, by_value, with_calls, with_paid, part_if}
 use Rattle.sk_model.proofs.Induction.{Each}
 use Rattle.sk_paid.specs.declared.guard.Test.{Test}
-use Rattle.sk_paid.specs.declared.guard.Test.TheVariants.{Takes, Exceeds}
 use Rattle.sk_paid.specs.declared.guard.Called.{Called}
 use Rattle.sk_paid.specs.declared.guard.Owed.{Owed}
 use Rattle.sk_paid.specs.Guards.{meets, meets_all, called_under, paid_under, Guards, sites_alone, both, in_line, under, each_under, by_site, takes, exceeds, with_call, with_owed}
@@ -23,15 +22,15 @@ module _ (values : List ℕ) where
     pub called : (i : ℕ) (ts : List Test) → called_under values (q.at i ts).called ≡ kept (meets_all values ts) (p.at i).called
     pub paid : (i : ℕ) (ts : List Test) → paid_under values (q.at i ts).owed ≡ kept (meets_all values ts) (p.at i).paid
 
-kept_none : {A : Type 0} (b : Bool) → [] ≡ kept {A = A} b []
+pub kept_none : {A : Type 0} (b : Bool) → [] ≡ kept {A = A} b []
 kept_none true = refl
 kept_none false = refl
 
-kept_both : {A : Type 0} (b : Bool) (xs ys : List A) → kept b xs ++ kept b ys ≡ kept b (xs ++ ys)
+pub kept_both : {A : Type 0} (b : Bool) (xs ys : List A) → kept b xs ++ kept b ys ≡ kept b (xs ++ ys)
 kept_both true xs ys = refl
 kept_both false xs ys = refl
 
-called_append : (values : List ℕ) (cs ds : List Called) → called_under values (cs ++ ds) ≡ called_under values cs ++ called_under values ds
+pub called_append : (values : List ℕ) (cs ds : List Called) → called_under values (cs ++ ds) ≡ called_under values cs ++ called_under values ds
 called_append values [] ds = refl
 called_append values (c ∷ cs) ds = by (meets_all values c.tests) (called_append values cs ds)
   where
@@ -40,7 +39,7 @@ called_append values (c ∷ cs) ds = by (meets_all values c.tests) (called_appen
     by true h = ap (λ xs. c.f ∷ xs) h
     by false h = h
 
-paid_append : (values : List ℕ) (os ps : List Owed) → paid_under values (os ++ ps) ≡ paid_under values os ++ paid_under values ps
+pub paid_append : (values : List ℕ) (os ps : List Owed) → paid_under values (os ++ ps) ≡ paid_under values os ++ paid_under values ps
 paid_append values [] ps = refl
 paid_append values (o ∷ os) ps = by (meets_all values o.tests) (paid_append values os ps)
   where

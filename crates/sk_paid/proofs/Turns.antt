@@ -22,17 +22,17 @@ Keeps-refl a = record { later = λ g h. h; sorts = λ i s h. h }
 pub there_keeps : {old new : Graph} {nodes : List BoolId} → Keeps old new → AllThere old nodes → AllThere new nodes
 there_keeps k h = record { each = λ i d l. k.sorts _ _ (h.each i d l) }
 
-there_none : (g : Graph) → AllThere g []
+pub there_none : (g : Graph) → AllThere g []
 there_none g = record { each = All-nil (HasBool g.nodes) }
 
 there_push : {g : Graph} (nodes : List BoolId) (node : BoolId) → AllThere g nodes → HasBool g.nodes node → AllThere g (nodes ++ node ∷ [])
 there_push {g} nodes node h k = record { each = All-push (HasBool g.nodes) nodes node h.each k }
 
-length_values : (g : Graph) (e : Env) (nodes : List BoolId) → length (values_of g e nodes) ≡ length nodes
+pub length_values : (g : Graph) (e : Env) (nodes : List BoolId) → length (values_of g e nodes) ≡ length nodes
 length_values g e [] = refl
 length_values g e (n ∷ nodes) = ap suc (length_values g e nodes)
 
-values_replicate : (g : Graph) (e : Env) (n : ℕ) (node : BoolId) → values_of g e (replicate n node) ≡ replicate n (bool_value g e node)
+pub values_replicate : (g : Graph) (e : Env) (n : ℕ) (node : BoolId) → values_of g e (replicate n node) ≡ replicate n (bool_value g e node)
 values_replicate g e zero node = refl
 values_replicate g e (suc n) node = ap (λ bs. bool_value g e node ∷ bs) (values_replicate g e n node)
 

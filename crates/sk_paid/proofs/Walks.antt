@@ -1,11 +1,11 @@
 -- Parts of which each stands by its own test, one after another.
 use Rattle.std.proofs.Common.{◌≡◌, ℕ, ◌+◌, ◌<◌, List, [], ◌∷◌, ◌++◌, map, length, drop, get_or, refl, sym, ap, ◌∙◌, append_assoc, arith}
 use Rattle.std.proofs.lemmas.List.{drop_more, length-map}
-use Rattle.sk_model.specs.Parts.{Part, counts}
+use Rattle.sk_model.specs.Parts.{counts}
 use Rattle.sk_paid.specs.declared.guard.Test.{Test}
 use Rattle.sk_paid.specs.declared.guard.Called.{Called}
 use Rattle.sk_paid.specs.declared.guard.Owed.{Owed}
-use Rattle.sk_paid.specs.Guards.{Guards, in_line, under, each_under}
+use Rattle.sk_paid.specs.Guards.{Guards, under, each_under}
 
 -- a list of parts is as long as the list that it is made of
 pub ruleset mapped = (length-map)

@@ -3,3 +3,4 @@ pub mod Guards
 pub mod Walk
 pub mod Sizes
 pub mod Programs
+pub mod Payments

@@ -17,7 +17,7 @@ use sk_model::{Choice, Site};
 use std::alloc::AllocError;
 
 // How many values a site has. One that is not there counts as want of memory.
-fn size_of(sites: &[Site], site: usize) -> Result<u64, AllocError>
+pub(crate) fn size_of(sites: &[Site], site: usize) -> Result<u64, AllocError>
     ensures { IfOk result (λ size. (values : List ℕ) → AreInRange sites.now values → value values site < size) }
 {
     if site >= sites.len() {

@@ -21,7 +21,7 @@ use sk_model::Choice;
 use std::alloc::{AllocError, Global};
 
 // The node at a place of a list, or another where there is none.
-fn node_at(nodes: &[BoolId], place: usize, other: BoolId) -> BoolId
+pub(crate) fn node_at(nodes: &[BoolId], place: usize, other: BoolId) -> BoolId
     ensures { result ≡ get_or nodes.now place other }
 {
     nodes.get(place).copied().unwrap_or(other)
@@ -79,7 +79,7 @@ fn put_by(
 
 // The place of the digit of the statement after so many others, which are some. More than can be numbered count as want
 // of memory.
-fn place_of(first: usize, placed: usize) -> Result<usize, AllocError>
+pub(crate) fn place_of(first: usize, placed: usize) -> Result<usize, AllocError>
     requires { 0 < placed }
     ensures { IfOk result (λ place. (values : List ℕ) → value values place ≡ digit values first placed) }
 {
@@ -115,7 +115,11 @@ fn put_next(
 
 // So many times the same node.
 #[tactic(auto, using(crate::proofs::Turns::copying))]
-fn copies_of(alloc: Global, node: BoolId, count: usize) -> Result<List<BoolId>, AllocError>
+pub(crate) fn copies_of(
+    alloc: Global,
+    node: BoolId,
+    count: usize,
+) -> Result<List<BoolId>, AllocError>
     ensures { IfOk result (λ made. made ≡ replicate count node) }
 {
     let mut made = List::new(alloc);

@@ -1,4 +1,3 @@
-use Rattle.std.proofs.Common.{◌≡◌, refl, true}
 use Rattle.std.specs.Option.{option_copied}
 use Rattle.sk_dag.proofs.EvalLemmas.{Keeps-trans}
 use Rattle.sk_folded.specs.Chosen.{chosen_values}
