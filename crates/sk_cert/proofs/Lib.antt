@@ -1,4 +1,7 @@
 mod Computed
+mod Gathered
+mod Digits
+mod Repeated
 mod Joined
 mod Written
 mod Exact

@@ -6,6 +6,8 @@ pub mod examples;
 mod fault;
 mod law;
 mod lines;
+mod parse;
+mod reader;
 mod writer;
 
 pub use certificate::{CertInput, Certificate, Proof};
