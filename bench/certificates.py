@@ -2,7 +2,8 @@
 """Which texts are certificates, and where other texts depart from the form, by rules written apart from the program.
 
     certificates.py check FILE      what the rules say of a file
-    certificates.py rows N SEED     N rows of mutated certificates, each with what the rules say of it
+    certificates.py data            the rows of crates/certificates/data/certificates.txt
+    certificates.py rows N SEED     N rows of changed certificates, each with what the rules say of it
     certificates.py big SIZE        a certificate of about SIZE bytes, for measuring
 
 The form is given as an expression over lines: `Form` yields, line by line, which lines may come next. A text departs at
@@ -232,14 +233,126 @@ def big(size):
     return b"".join(out)
 
 
+def cut(text):
+    return [text[:at] for at in range(len(text))]
+
+
+def with_lines(change):
+    """The text with each of its lines changed in turn."""
+
+    def texts(text):
+        lines = text.split(b"\n")[:-1]
+        return [b"".join(l + b"\n" for l in lines[:i] + change(lines[i]) + lines[i + 1 :]) for i in range(len(lines))]
+
+    return texts
+
+
+def at_digit(more):
+    return with_lines(lambda line: [re.sub(rb"[0-9]", lambda m: more + m.group(0), line, count=1)])
+
+
+WAYS = {
+    "whole": lambda text: [text],
+    "cut": cut,
+    "without": with_lines(lambda line: []),
+    "twice": with_lines(lambda line: [line, line]),
+    "return": with_lines(lambda line: [line + b"\r"]),
+    "blank": with_lines(lambda line: [line + b" "]),
+    "zero": at_digit(b"0"),
+    "large": at_digit(b"18446744073709551616"),
+}
+
+
+def runs(ends):
+    """The ends, with the number of those in a row that are alike before each."""
+    out = []
+    for end in ends:
+        if out and out[-1][1] == end:
+            out[-1][0] += 1
+        else:
+            out.append([1, end])
+    return "".join(f"{n} {end}\n" for n, end in out).encode()
+
+
+def row(title, way, text):
+    mark, body = (b"---\n", text) if text == b"" or text.endswith(b"\n") else (b"--- no line feed\n", text + b"\n")
+    wanted = runs(verdict(other) for other in WAYS[way](text))
+    return b"=== " + title.encode() + b"\n" + way.encode() + b"\n" + mark + body + b"--- ends\n" + wanted + b"\n"
+
+
+HEAD = b"//@ none\n//@ certificate 2\n//@ inputs 1\n"
+PART = b"//@ lower 2 1 1\n//@ names 1 2\n//@ c 1 -2\n//@ l\n//@ end\n"
+
+# Texts in one piece: the title, and the text.
+WHOLE = [
+    ("no bytes", b""),
+    ("a program without a result", b"int N = 1;\n"),
+    ("a program of blank lines", b"\n\n" + SEEDS[0]),
+    ("a program with a byte that is not ASCII", b"int N = \xff;\n" + SEEDS[0]),
+    ("a program line that begins with a mark", b"//@x\n" + SEEDS[0]),
+    ("a program line that begins with two strokes", b"//x\n" + SEEDS[0]),
+    ("the greatest and the least scalar", HEAD + b"//@ input 18446744073709551615 9223372036854775807,-9223372036854775808 0\n" + PART),
+    ("a scalar above the greatest", HEAD + b"//@ input 0 9223372036854775808\n" + PART),
+    ("a scalar below the least", HEAD + b"//@ input 0 -9223372036854775809\n" + PART),
+    ("a zero with a sign", HEAD + b"//@ input 0 -0\n" + PART),
+    ("a scalar with a plus", HEAD + b"//@ input 0 +1\n" + PART),
+    ("an argument without scalars", HEAD + b"//@ input 0 \n" + PART),
+    ("an argument that ends in a comma", HEAD + b"//@ input 0 1,\n" + PART),
+    ("an input without its obligation", HEAD + b"//@ input\n" + PART),
+    ("a value of 64 bits", b"//@ completion\n//@ value 18446744073709551615\n//@ holes 18446744073709551615\n//@ certificate 2\n//@ inputs 0\n" + PART),
+    ("a hole of 65 bits", b"//@ completion\n//@ value 0\n//@ holes 18446744073709551616\n//@ certificate 2\n//@ inputs 0\n//@ end\n"),
+    ("a value above 0 without a lower part", b"//@ completion\n//@ value 1\n//@ holes\n//@ certificate 2\n//@ inputs 0\n//@ end\n"),
+    ("a value of 0 with a lower part", b"//@ completion\n//@ value 0\n//@ holes\n//@ certificate 2\n//@ inputs 0\n" + PART),
+    ("no choice with an upper part", HEAD + b"//@ input 0\n//@ upper 0 1 0 0\n//@ names\n" + PART),
+    ("version 1 with two upper parts", SEEDS[2].replace(b"//@ end", b"//@ upper 1 0 0\n//@ names\n//@ end")),
+    ("version 1 without an upper part", b"//@ completion\n//@ value 0\n//@ holes\n//@ certificate 1\n//@ inputs 0\n//@ end\n"),
+    ("version 2 with an upper part without a number", SEEDS[2].replace(b"certificate 1", b"certificate 2")),
+    ("upper parts out of order", SEEDS[1].replace(b"//@ upper 1 2", b"//@ upper 2 2")),
+    ("a literal 0", HEAD + b"//@ input 0\n" + PART.replace(b"1 -2", b"1 0")),
+    ("a negated literal 0", HEAD + b"//@ input 0\n" + PART.replace(b"1 -2", b"1 -0")),
+    ("a literal past the variables", HEAD + b"//@ input 0\n" + PART.replace(b"1 -2", b"1 -3")),
+    ("a literal twice and its opposite", HEAD + b"//@ input 0\n" + PART.replace(b"1 -2", b"1 1 -1")),
+    ("a name 0", HEAD + b"//@ input 0\n" + PART.replace(b"names 1 2", b"names 0 2")),
+    ("a name past the variables", HEAD + b"//@ input 0\n" + PART.replace(b"names 1 2", b"names 1 3")),
+    ("a negated name", HEAD + b"//@ input 0\n" + PART.replace(b"names 1 2", b"names -1")),
+    ("a name twice", HEAD + b"//@ input 0\n" + PART.replace(b"names 1 2", b"names 1 1")),
+    ("fewer clauses than are said", HEAD + b"//@ input 0\n" + PART.replace(b"lower 2 1 1", b"lower 2 2 1")),
+    ("more clauses than are said", HEAD + b"//@ input 0\n" + PART.replace(b"lower 2 1 1", b"lower 2 0 1")),
+    ("bytes behind the last line", SEEDS[3] + b"\n"),
+    ("version 0", SEEDS[0].replace(b"certificate 2", b"certificate 0")),
+    ("version 3", SEEDS[0].replace(b"certificate 2", b"certificate 3")),
+    ("version 3 at the end, without a line feed", b"//@ none\n//@ certificate 3"),
+    ("version 2 at the end, without a line feed", b"//@ none\n//@ certificate 2"),
+    ("a version of 30 digits", SEEDS[0].replace(b"certificate 2", b"certificate 999999999999999999999999999999")),
+    ("a version with a zero before it", SEEDS[0].replace(b"certificate 2", b"certificate 03")),
+    ("a version and a blank", SEEDS[0].replace(b"certificate 2", b"certificate 3 ")),
+    ("two versions", SEEDS[0].replace(b"certificate 2", b"certificate 3 4")),
+    ("no version", SEEDS[0].replace(b"certificate 2", b"certificate")),
+    ("another version where the value stands", b"//@ completion\n//@ certificate 4\n"),
+    ("another version in place of the result", b"//@ certificate 4\n"),
+    ("another version behind the end", SEEDS[0] + b"//@ certificate 5\n"),
+]
+
+NAMES = ["of the empty sketch", "with two obligations and a lower part", "of version 1", "that there is no completion"]
+
+
+def data():
+    out = [b"# Texts of certificates, and of others. Written by `bench/certificates.py data`, by rules of its own.\n\n"]
+    for name, text in zip(NAMES, SEEDS):
+        out += [row(f"a certificate {name}: {way}", way, text) for way in WAYS]
+    out += [row(title, "whole", text) for title, text in WHOLE]
+    return b"".join(out)
+
+
 def main():
     if sys.argv[1] == "check":
         print(verdict(open(sys.argv[2], "rb").read()))
+    elif sys.argv[1] == "data":
+        sys.stdout.buffer.write(data())
     elif sys.argv[1] == "rows":
         rng = random.Random(int(sys.argv[3]))
-        for _ in range(int(sys.argv[2])):
-            text = mutated(rng, rng.choice(SEEDS))
-            print(repr(text), "=>", verdict(text))
+        for at in range(int(sys.argv[2])):
+            sys.stdout.buffer.write(row(str(at), "whole", mutated(rng, rng.choice(SEEDS))))
     elif sys.argv[1] == "big":
         sys.stdout.buffer.write(big(int(sys.argv[2])))
 

@@ -1,8 +1,8 @@
 -- So many things, read one after another.
-use Rattle.std.proofs.Common.{◌≡◌, ◌∙◌, ◌∷◌, ◌++◌, ◌+◌, ◌-◌, ◌<◌, ◌≤◌, ℕ, zero, suc, List, [], refl, sym, ap, arith, append_assoc}
-use Rattle.std.specs.Prelude.{Result, Ok, Err}
+use Rattle.std.proofs.Common.{◌≡◌, ◌∙◌, ◌∷◌, ◌++◌, ◌+◌, ◌-◌, ◌<◌, ℕ, zero, suc, List, [], refl, sym, ap, arith, append_assoc}
+use Rattle.std.specs.Prelude.{Ok, Err}
 use Rattle.std.proofs.lemmas.List.{append-nil}
-use Rattle.sk_cert.specs.Readers.{Outcome, Reader, ◌>>=◌, mapped, pair, onto, repeated}
+use Rattle.sk_cert.specs.Readers.{Outcome, Reader, ◌>>=◌, onto, repeated}
 
 -- these in front of what is read
 abbrev pub behind_all : {A : Type 0} → List A → Outcome (List A) → Outcome (List A)

@@ -26,7 +26,7 @@ fn are_digits(word: &[u8]) -> bool
 
 // Whether a word is digits without a zero before them.
 #[tactic(auto, unfolding(crate::specs::Words::is_numeral))]
-fn is_numeral(word: &[u8]) -> bool
+pub fn is_numeral(word: &[u8]) -> bool
     ensures { result ≡ is_numeral word.now }
 {
     match word {

@@ -16,7 +16,7 @@ use sk_cnf::Encoded;
 use std::alloc::{AllocError, Global};
 
 // Where the first line of a text ends.
-fn line_end(text: &[u8]) -> Option<usize>
+pub fn line_end(text: &[u8]) -> Option<usize>
     ensures place { result ≡ position is_feed text.now }
     ensures within { IfSome result (λ at. at < length text.now) }
 {
@@ -25,7 +25,7 @@ fn line_end(text: &[u8]) -> Option<usize>
 
 // The one number of a line of this kind.
 #[tactic(auto, unfolding(crate::specs::Readers::one))]
-fn number_at<'a>(alloc: Global, kind: &[u8], text: &'a [u8]) -> Result<(u64, &'a [u8]), Halt>
+pub fn number_at<'a>(alloc: Global, kind: &[u8], text: &'a [u8]) -> Result<(u64, &'a [u8]), Halt>
     ensures { Gives (λ x. (x.0, x.1.now)) result (one (number_in kind.now) text.now) }
 {
     let Some(end) = line_end(text) else {
@@ -39,7 +39,11 @@ fn number_at<'a>(alloc: Global, kind: &[u8], text: &'a [u8]) -> Result<(u64, &'a
 
 // The numbers of a line of this kind.
 #[tactic(auto, unfolding(crate::specs::Readers::one))]
-fn numbers_at<'a>(alloc: Global, kind: &[u8], text: &'a [u8]) -> Result<(List<u64>, &'a [u8]), Halt>
+pub fn numbers_at<'a>(
+    alloc: Global,
+    kind: &[u8],
+    text: &'a [u8],
+) -> Result<(List<u64>, &'a [u8]), Halt>
     ensures { Gives (λ x. (x.0, x.1.now)) result (one (numbers_in kind.now) text.now) }
 {
     let Some(end) = line_end(text) else {
@@ -53,7 +57,7 @@ fn numbers_at<'a>(alloc: Global, kind: &[u8], text: &'a [u8]) -> Result<(List<u6
 
 // The version of a certificate.
 #[tactic(auto, unfolding(crate::specs::Readers::one))]
-fn version_at<'a>(alloc: Global, text: &'a [u8]) -> Result<(u32, &'a [u8]), Halt>
+pub fn version_at<'a>(alloc: Global, text: &'a [u8]) -> Result<(u32, &'a [u8]), Halt>
     ensures { Gives (λ x. (x.0, x.1.now)) result (one (version_in) text.now) }
 {
     let Some(end) = line_end(text) else {
@@ -81,7 +85,7 @@ fn input_at<'a>(alloc: Global, text: &'a [u8]) -> Result<(CertInput, &'a [u8]), 
 
 // The sizes of a part.
 #[tactic(auto, unfolding(crate::specs::Readers::one))]
-fn sizes_at<'a>(
+pub fn sizes_at<'a>(
     alloc: Global,
     kind: &[u8],
     number: Option<u64>,
@@ -152,7 +156,7 @@ fn input_rows<'a>(
 
 // The inputs, behind their number.
 #[tactic(auto, unfolding(crate::specs::Readers::inputs))]
-fn inputs_at<'a>(alloc: Global, text: &'a [u8]) -> Result<(List<CertInput>, &'a [u8]), Halt>
+pub fn inputs_at<'a>(alloc: Global, text: &'a [u8]) -> Result<(List<CertInput>, &'a [u8]), Halt>
     ensures { Gives (λ x. (x.0, x.1.now)) result (inputs text.now) }
 {
     let (count, rest) = number_at(alloc, b"inputs", text)?;
@@ -216,7 +220,7 @@ fn formula_rows<'a>(
 
 // The lines of a part of these sizes.
 #[tactic(auto, unfolding(crate::specs::Readers::rows))]
-fn rows_at<'a>(alloc: Global, sizes: Sizes, text: &'a [u8]) -> Result<(Proof, &'a [u8]), Halt>
+pub fn rows_at<'a>(alloc: Global, sizes: Sizes, text: &'a [u8]) -> Result<(Proof, &'a [u8]), Halt>
     ensures { Gives (λ x. (x.0, x.1.now)) result (rows sizes text.now) }
 {
     let (names, rest) = names_at(alloc, sizes.vars, text)?;
@@ -228,7 +232,7 @@ fn rows_at<'a>(alloc: Global, sizes: Sizes, text: &'a [u8]) -> Result<(Proof, &'
 
 // A part.
 #[tactic(auto, unfolding(crate::specs::Readers::part))]
-fn part_at<'a>(
+pub fn part_at<'a>(
     alloc: Global,
     kind: &[u8],
     number: Option<u64>,

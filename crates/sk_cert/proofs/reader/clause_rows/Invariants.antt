@@ -1,5 +1,5 @@
 use Rattle.std.proofs.Common.{◌≡◌, ◌-◌}
-use Rattle.sk_cert.specs.Words.{input_in, clause_in}
+use Rattle.sk_cert.specs.Words.{clause_in}
 use Rattle.sk_cert.specs.Readers.{one, repeated}
 use Rattle.sk_cert.proofs.Repeated.{behind_all}
 use Rattle.sk_cert.proofs.reader.clause_rows.Given as goal
