@@ -10,6 +10,7 @@ mod tests;
 
 use crate::solve::{Verdict, solve};
 use dimacs_text::{Fault, log_text, read_clauses, read_log, value_text};
+use itoa::Buffer;
 use sk_clause::{Clauses, Log};
 use sk_rup::refutes;
 use std::process::ExitCode;
@@ -17,9 +18,7 @@ use std::{env, fs, io};
 
 // Says what is wrong in a file.
 fn refuse(rt: &HostRuntime, path: &str, fault: Fault) -> io::Result<ExitCode> {
-    let line = fault.line;
-    let text = fault.flaw.text();
-    eprintln!(rt; "{path}:{line}: {text}")?;
+    eprintln!(rt; "{path}:{fault}")?;
     Ok(ExitCode::from(1))
 }
 
@@ -35,7 +34,8 @@ fn keep(rt: &HostRuntime, to: Option<&str>, log: &Log) -> io::Result<()> {
 // Says whether the clauses can be met.
 fn answer(rt: &HostRuntime, clauses: &Clauses, log_path: Option<&str>) -> io::Result<ExitCode> {
     let found = solve(rt.alloc(), clauses)?;
-    let learnt = found.learnt;
+    let mut buffer = Buffer::new();
+    let learnt = buffer.format(found.learnt);
     println!(rt; "c {learnt} clauses learnt")?;
     match found.verdict {
         Verdict::Sat(values) => {

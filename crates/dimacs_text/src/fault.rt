@@ -2,36 +2,29 @@
 ghost use Rattle.std.specs.Prelude.{◌≡◌};
 
 use std::alloc::{AllocError, AllocFailed};
+use thiserror::Error;
 
 /// Why a text is none of the format.
-#[derive(Clone, Copy, Debug, PartialEq, Eq, Drop)]
+#[derive(Clone, Copy, Debug, PartialEq, Eq, Drop, Error)]
 pub enum Flaw {
     /// Want of memory, which says nothing of the text.
+    #[error("out of memory")]
     Memory,
     /// The first line that says something is no header, or none says anything.
+    #[error("a header is wanted, `p cnf VARIABLES CLAUSES`")]
     Header,
     /// A word is no number.
+    #[error("a word that is no number")]
     NoNumber,
     /// A variable is past the number in the header.
+    #[error("a variable past the number in the header")]
     TooLarge,
     /// A clause is not ended.
+    #[error("a clause that no 0 ends")]
     NoEnd,
     /// The clauses are not as many as the header says.
+    #[error("not as many clauses as the header says")]
     Count,
-}
-
-impl Flaw {
-    /// The message of a flaw.
-    pub fn text(self) -> &'static str {
-        match self {
-            Flaw::Memory => "out of memory",
-            Flaw::Header => "a header is wanted, `p cnf VARIABLES CLAUSES`",
-            Flaw::NoNumber => "a word that is no number",
-            Flaw::TooLarge => "a variable past the number in the header",
-            Flaw::NoEnd => "a clause that no 0 ends",
-            Flaw::Count => "not as many clauses as the header says",
-        }
-    }
 }
 
 impl From<AllocError> for Flaw {
@@ -55,7 +48,8 @@ impl<T: Drop> From<AllocFailed<T>> for Flaw {
 }
 
 /// What is wrong, and in which line, from 1. What shows only at the end of a text is in its last line.
-#[derive(Clone, Copy, Debug, Drop)]
+#[derive(Clone, Copy, Debug, Drop, Error)]
+#[error("{line}: {flaw}")]
 pub struct Fault {
     pub line: usize,
     pub flaw: Flaw,

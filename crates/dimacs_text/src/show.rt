@@ -3,6 +3,7 @@ ghost use Rattle.std.specs.Prelude.{◌≡◌, ◌++◌, OnOk, IfOk};
 ghost use Rattle.std.specs.String.{string_bytes};
 ghost use Rattle.dimacs_text.specs.Written.{sign_text, lit_text, clause_text, log_lines, value_line};
 
+use itoa::Buffer;
 use sk_clause::{Lit, Log};
 use std::alloc::{AllocError, Global};
 
@@ -18,23 +19,24 @@ fn put_sign(text: &mut String, neg: bool) -> Result<(), AllocError>
 }
 
 // Adds a literal as a number of the format, and a blank.
-fn put(alloc: Global, text: &mut String, l: Lit) -> Result<(), AllocError>
+fn put(text: &mut String, l: Lit) -> Result<(), AllocError>
     ensures { OnOk result (string_bytes text.new ≡ string_bytes text.old ++ lit_text l) }
 {
     let number = l.var.saturating_add(1);
     put_sign(text, l.neg)?;
-    let digits = format!(in alloc; "{number} ")?;
-    text.push_str(digits.as_str())?;
+    let mut buffer = Buffer::new();
+    text.push_str(buffer.format(number))?;
+    text.push_str(" ")?;
     Ok(())
 }
 
 // Adds a clause, ended by 0, as a line.
 #[tactic(auto, using(crate::proofs::TextLemmas::texts))]
-fn put_clause(alloc: Global, text: &mut String, clause: &[Lit]) -> Result<(), AllocError>
+fn put_clause(text: &mut String, clause: &[Lit]) -> Result<(), AllocError>
     ensures { OnOk result (string_bytes text.new ≡ string_bytes text.old ++ clause_text clause.now) }
 {
     for l in clause {
-        put(alloc, text, *l)?;
+        put(text, *l)?;
     }
     text.push_str("0\n")?;
     Ok(())
@@ -51,7 +53,7 @@ pub fn value_text(alloc: Global, values: &[bool]) -> Result<String, AllocError>
             var: v,
             neg: !values[v],
         };
-        put(alloc, &mut text, l)?;
+        put(&mut text, l)?;
     }
     text.push_str("0")?;
     Ok(text)
@@ -64,7 +66,7 @@ pub fn log_text(alloc: Global, log: &Log) -> Result<String, AllocError>
 {
     let mut text = String::new(alloc);
     for i in 0..log.len() {
-        put_clause(alloc, &mut text, log.get(i))?;
+        put_clause(&mut text, log.get(i))?;
     }
     Ok(text)
 }

@@ -1,0 +1,10 @@
+pub mod Worth
+pub mod Forms
+pub mod Fronts
+pub mod Standing
+pub mod Forking
+pub mod Ends
+pub mod Scopes
+pub mod Carrying
+pub mod Following
+pub mod Branches

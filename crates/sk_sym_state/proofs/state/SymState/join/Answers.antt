@@ -1,0 +1,18 @@
+use Rattle.std.proofs.Common.{subst}
+use Rattle.sk_arr.proofs.Standing.{AllStand-keeps}
+use Rattle.sk_sym_state.specs.Branching.{AreOneOf}
+use Rattle.sk_sym_state.proofs.Standing.{SideStands-keeps}
+use Rattle.sk_sym_state.proofs.Forking.{joined_is}
+use Rattle.sk_sym_state.proofs.state.SymState.join.Goals as goal
+
+pub slots_behind-requires-clause-gone : goal.slots_behind-requires-clause-gone
+slots_behind-requires-clause-gone c = SideStands-keeps c.in_ok-path.ensures.keeps c.requires.gone
+
+pub slots_behind-requires-clause-slots : goal.slots_behind-requires-clause-slots
+slots_behind-requires-clause-slots c = rw c.replace-slots.ensures.value (AllStand-keeps c.in_ok-path.ensures.keeps c.requires.stands.frame.slots)
+
+pub returns : goal.returns
+returns c = record {
+  joined = joined_is c.requires.stands c.in_ok-path.ensures.keeps c.in_ok-path.ensures.there c.in_ok-path.ensures.value c.in_ok-self.ensures.keeps
+      (subst (λ l. AreOneOf c.slots_behind.new.dag c.args.cond c.args.gone c.args.self.now.path l c.in_ok-self.field-0) c.replace-slots.ensures.value c.in_ok-self.ensures.one);
+}
