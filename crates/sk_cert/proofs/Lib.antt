@@ -1,4 +1,9 @@
 mod Computed
+mod Gathered
+mod Digits
+mod Repeated
+mod Advance
+mod Numbered
 mod Joined
 mod Written
 mod Exact
@@ -12,3 +17,5 @@ mod Parts
 mod Uppers
 mod Whole
 mod Departure
+mod OtherVersion
+mod Placed

@@ -1,6 +1,6 @@
 -- Inputs and parts.
 use Rattle.std.proofs.Common.{◌≡◌, ◌≢◌, ◌∙◌, ◌++◌, ◌∷◌, ◌<◌, ◌≤◌, ◌+◌, ◌-◌, ◌^◌, ◌⊎◌, ℕ, zero, suc, Bool, true, false, List, [], length, take, drop, get_or, map, refl, sym, ap, subst, arith, append_assoc, cond, eqb, inl, inr, length-append}
-use Rattle.std.specs.Prelude.{Option, Some, None, All, codes}
+use Rattle.std.specs.Prelude.{Ok, Option, Some, None, All, codes}
 use Rattle.std.specs.Str.{bytes_eq}
 use Rattle.std.specs.Fmt.{decimal}
 use Rattle.std.specs.List.{flat_map}
@@ -245,3 +245,9 @@ exact_tail true =
     written_of : (b : Option Proof) → FitsTail true b → tail_text b ≡ part_text (codes "lower") None (lower_of b) ++ end_text
     written_of None k = absurd k
     written_of (Some p) k = refl
+
+-- the literals of a clause that is read are of the variables
+pub clause_within : (vars : ℕ) → IsSmall vars → (bs : List ℕ) (v : List Lit × List ℕ) → one (clause_in (codes "c") vars) bs ≡ Ok v → All (λ l. l.var < vars) v.0
+clause_within vars small bs v h =
+    let e = exact_one (clause_in (codes "c") vars) (λ c. marked (codes "c") (map literal_text c)) (All (λ l. l.var < vars)) (spells_clause (codes "c") vars (plain_by (codes "c") refl) small) in
+    (e.done bs v h).0

@@ -6,9 +6,14 @@ pub mod examples;
 mod fault;
 mod law;
 mod lines;
+mod parse;
+mod reader;
+mod reading;
+mod sections;
 mod writer;
 
 pub use certificate::{CertInput, Certificate, Proof};
 pub use fault::CertFault;
 pub use law::certificates_are_unique;
+pub use reading::read;
 pub use writer::write;
