@@ -109,6 +109,25 @@ pub fn element(
     }
 }
 
+/// A list of one shape.
+pub fn alone(alloc: Global, shape: Shape) -> Result<List<Shape>, AllocError> {
+    let mut made = List::new(alloc);
+    made.push(shape)?;
+    Ok(made)
+}
+
+/// A list of one shape of this form, by a scalar of the input; a reference in it is to this slot.
+pub fn one(
+    alloc: Global,
+    dag: &mut Dag,
+    kind: Kind,
+    slot: u32,
+    i: u32,
+) -> Result<List<Shape>, AllocError> {
+    let shape = element(alloc, dag, kind, slot, i)?;
+    alone(alloc, shape)
+}
+
 /// So many shapes of this form, by the scalars from `first` on; a reference is to the slot of the number of its scalar.
 pub fn elements(
     alloc: Global,
@@ -136,14 +155,12 @@ pub fn wanted(alloc: Global, kind: Kind, slot: u32, scalar: i64) -> Result<Vec<i
     } else {
         slot as i64
     };
-    let mut made = Vec::new(alloc);
     match kind {
-        Kind::Bit => made.push(bit)?,
-        Kind::Int => made.push(scalar)?,
-        Kind::Reference => made.push(target)?,
-        Kind::Either => made.push(other)?,
-        Kind::Array => made.extend_from_slice(&[bit, scalar])?,
-        Kind::Nested => made.extend_from_slice(&[target, scalar])?,
+        Kind::Bit => Vec::from_slice(alloc, &[bit]),
+        Kind::Int => Vec::from_slice(alloc, &[scalar]),
+        Kind::Reference => Vec::from_slice(alloc, &[target]),
+        Kind::Either => Vec::from_slice(alloc, &[other]),
+        Kind::Array => Vec::from_slice(alloc, &[bit, scalar]),
+        Kind::Nested => Vec::from_slice(alloc, &[target, scalar]),
     }
-    Ok(made)
 }

@@ -4,11 +4,10 @@ use crate::calls::{given, graph, shifted};
 use crate::kinds::{Kind, elements};
 use crate::sights::holds;
 use crate::sums::{env_of_bits, expect_number};
+use row_tables::{Fault, Report, expect};
 use sk_base::List;
-use sk_dag::{BoolId, Dag, Shape, WordId};
-use std::alloc::Global;
-use std::process::Abort;
-use std::test::Fail;
+use sk_dag::{BoolId, Dag, Env, Shape, WordId};
+use std::alloc::{AllocError, Global};
 
 /// Whether to higher places, a number of bits, a number, a count, and the bits moved by it; none where the count is
 /// negative.
@@ -78,38 +77,43 @@ fn narrow() -> &'static [Move] {
     NARROW
 }
 
+/// The environment of so many bits and a count behind them.
+fn moved_env(alloc: Global, number: u64, count: u32, by: i64) -> Result<Env, Fault> {
+    let mut env = env_of_bits(alloc, number, 0, count)?;
+    env.input.push(by)?;
+    Ok(env)
+}
+
 /// The bits moved, and whether the count is negative, where the count is the scalar behind the bits.
 fn expect_moved(
-    rt: &impl Abort,
     alloc: Global,
     dag: &Dag,
     row: Move,
     made: &[Shape],
     outside: BoolId,
-) -> Result<(), Fail> {
+) -> Result<(), Fault> {
     let (_, count, number, by, want) = row;
-    let mut env = env_of_bits(alloc, number, 0, count)?;
-    env.input.push(by)?;
-    assert_eq!(rt; made.len(), count as usize);
-    assert_eq!(rt; holds(rt, dag, &env, outside)?, by < 0, "{number} by {by}");
+    expect(made.len() == count as usize)?;
+    let env = moved_env(alloc, number, count, by)?;
+    let left = holds(dag, &env, outside)?;
+    expect(left == (by < 0))?;
     match want {
-        Some(want) => expect_number(rt, alloc, dag, &env, made, want, count),
+        Some(want) => expect_number(alloc, dag, &env, made, want, count),
         None => Ok(()),
     }
 }
 
 /// The bits of the input moved, and how many nodes that adds.
 fn move_bits(
-    rt: &impl Abort,
     alloc: Global,
     dag: &mut Dag,
     left: bool,
     count: u32,
     by: WordId,
-) -> Result<(List<Shape>, BoolId, usize), Fail> {
+) -> Result<(List<Shape>, BoolId, usize), Fault> {
     let a = elements(alloc, dag, Kind::Bit, 0, count)?;
     let before = dag.len();
-    let (made, outside) = shifted(rt, alloc, dag, left, &a, by)?;
+    let (made, outside) = shifted(alloc, dag, left, &a, by)?;
     let added = dag.len().wrapping_sub(before);
     Ok((made, outside, added))
 }
@@ -124,44 +128,55 @@ fn most(count: u32) -> usize {
         .wrapping_add(2)
 }
 
-/// By a count of the input. The same once more adds no node.
-fn moves(rt: &impl Abort, alloc: Global, bits: u32, row: Move) -> Result<(), Fail> {
+fn moves_in(alloc: Global, dag: &mut Dag, row: Move) -> Result<(), Fault> {
     let (left, count, _, _, _) = row;
-    let mut dag = graph(rt, alloc, bits)?;
     let by = dag.input_word(count.wrapping_mul(2))?;
-    let (made, outside, added) = move_bits(rt, alloc, &mut dag, left, count, by)?;
-    assert!(rt; added <= most(count), "{added} nodes of {count}");
-    expect_moved(rt, alloc, &dag, row, made.as_slice(), outside)?;
-    let (_, _, more) = move_bits(rt, alloc, &mut dag, left, count, by)?;
-    assert_eq!(rt; more, 0, "{count}");
-    Ok(())
+    let (made, outside, added) = move_bits(alloc, dag, left, count, by)?;
+    expect(added <= most(count))?;
+    expect_moved(alloc, dag, row, made.as_slice(), outside)?;
+    let (_, _, more) = move_bits(alloc, dag, left, count, by)?;
+    expect(more == 0)
 }
 
-#[test]
-fn by_the_input(rt: HostRuntime) -> Result<(), Fail> {
+/// By a count of the input. The same once more adds no node.
+fn moves(alloc: Global, bits: u32, row: Move) -> Result<(), Fault> {
+    let mut dag = graph(alloc, bits)?;
+    moves_in(alloc, &mut dag, row)
+}
+
+fn tell_by_the_input(alloc: Global, report: &mut Report) -> Result<(), AllocError> {
     for row in rows() {
-        moves(&rt, rt.alloc(), 6, *row)?;
+        report.row(moves(alloc, 6, *row))?;
     }
     for row in narrow() {
-        moves(&rt, rt.alloc(), 2, *row)?;
+        report.row(moves(alloc, 2, *row))?;
     }
-    Ok(())
+    report.end("shifts by the input")
+}
+
+fn move_given_in(alloc: Global, dag: &mut Dag, row: Move) -> Result<(), Fault> {
+    let (left, count, _, by, _) = row;
+    let by = given(dag, by)?;
+    let (made, outside, added) = move_bits(alloc, dag, left, count, by)?;
+    expect(added == 0)?;
+    expect_moved(alloc, dag, row, made.as_slice(), outside)
 }
 
 /// By a count that is given: no node is added.
-fn move_given(rt: &impl Abort, alloc: Global, row: Move) -> Result<(), Fail> {
-    let (left, count, _, by, _) = row;
-    let mut dag = graph(rt, alloc, 6)?;
-    let by = given(rt, &mut dag, by)?;
-    let (made, outside, added) = move_bits(rt, alloc, &mut dag, left, count, by)?;
-    assert_eq!(rt; added, 0, "{count}");
-    expect_moved(rt, alloc, &dag, row, made.as_slice(), outside)
+fn move_given(alloc: Global, row: Move) -> Result<(), Fault> {
+    let mut dag = graph(alloc, 6)?;
+    move_given_in(alloc, &mut dag, row)
 }
 
-#[test]
-fn by_given_counts(rt: HostRuntime) -> Result<(), Fail> {
+fn tell_by_given_counts(alloc: Global, report: &mut Report) -> Result<(), AllocError> {
     for row in rows() {
-        move_given(&rt, rt.alloc(), *row)?;
+        report.row(move_given(alloc, *row))?;
     }
-    Ok(())
+    report.end("shifts by given counts")
+}
+
+/// Tells of the tables of shifts.
+pub fn tell(alloc: Global, report: &mut Report) -> Result<(), AllocError> {
+    tell_by_the_input(alloc, report)?;
+    tell_by_given_counts(alloc, report)
 }

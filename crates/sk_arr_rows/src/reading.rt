@@ -2,12 +2,11 @@
 
 use crate::calls::{element_at, given, graph};
 use crate::kinds::{Kind, elements, kinds};
-use crate::sights::{env_of, expect, holds};
+use crate::sights::{env_of, expect_one, holds};
+use row_tables::{Fault, Report, expect};
 use sk_base::List;
 use sk_dag::{BoolId, Dag, Shape, WordId};
-use std::alloc::Global;
-use std::process::Abort;
-use std::test::Fail;
+use std::alloc::{AllocError, Global};
 
 // Indexes inside and outside of lists of up to four, and the least and the greatest word of 6 bits.
 const INDEXES: &[i64] = &[-32, -2, -1, 0, 1, 2, 3, 4, 5, 31];
@@ -31,39 +30,30 @@ fn scalars(index: i64) -> [i64; 8] {
 
 /// Whether the index leaves a list of so many, and the element that it names.
 fn expect_read(
-    rt: &impl Abort,
     alloc: Global,
     dag: &Dag,
     kind: Kind,
     count: u32,
     at: i64,
-    made: &Shape,
+    made: &[Shape],
     outside: BoolId,
-) -> Result<(), Fail> {
+) -> Result<(), Fault> {
     let input = scalars(at);
     let env = env_of(alloc, &input)?;
-    let left = holds(rt, dag, &env, outside)?;
+    let left = holds(dag, &env, outside)?;
     if at < 0 || at >= count as i64 {
-        assert!(rt; left, "{kind:?} at {at} of {count}");
-        return Ok(());
+        return expect(left);
     }
-    assert!(rt; !left, "{kind:?} at {at} of {count}");
+    expect(!left)?;
     let scalar = input.get(at as usize).copied().unwrap_or(0);
-    expect(rt, alloc, dag, &env, made, kind, at as u32, scalar)
+    expect_one(alloc, dag, &env, made, kind, at as u32, scalar)
 }
 
 /// A read that was made before adds no node.
-fn again(
-    rt: &impl Abort,
-    alloc: Global,
-    dag: &mut Dag,
-    list: &List<Shape>,
-    index: WordId,
-) -> Result<(), Fail> {
+fn again(alloc: Global, dag: &mut Dag, list: &List<Shape>, index: WordId) -> Result<(), Fault> {
     let before = dag.len();
-    element_at(rt, alloc, dag, list, index)?;
-    assert_eq!(rt; dag.len(), before);
-    Ok(())
+    element_at(alloc, dag, list, index)?;
+    expect(dag.len() == before)
 }
 
 /// How many nodes a read adds at most.
@@ -81,83 +71,106 @@ fn most(kind: Kind, count: u32) -> usize {
     }
 }
 
-/// By an index of the input: it adds some comparisons and multiplexers for each element, and for each scalar in it.
-fn reads(
-    rt: &impl Abort,
+fn reads_in(
     alloc: Global,
-    bits: u32,
+    dag: &mut Dag,
     indexes: &[i64],
     kind: Kind,
     count: u32,
-) -> Result<(), Fail> {
-    let mut dag = graph(rt, alloc, bits)?;
-    let list = elements(alloc, &mut dag, kind, 0, count)?;
+) -> Result<(), Fault> {
+    let list = elements(alloc, dag, kind, 0, count)?;
     let index = dag.input_word(7)?;
     let before = dag.len();
-    let (made, outside) = element_at(rt, alloc, &mut dag, &list, index)?;
+    let (made, outside) = element_at(alloc, dag, &list, index)?;
     let added = dag.len().wrapping_sub(before);
-    assert!(rt;
-        added <= most(kind, count),
-        "{added} nodes of {count} of {kind:?}"
-    );
+    expect(added <= most(kind, count))?;
     for at in indexes {
-        expect_read(rt, alloc, &dag, kind, count, *at, &made, outside)?;
+        expect_read(alloc, dag, kind, count, *at, made.as_slice(), outside)?;
     }
-    again(rt, alloc, &mut dag, &list, index)
+    again(alloc, dag, &list, index)
 }
 
-#[test]
-fn by_the_input(rt: HostRuntime) -> Result<(), Fail> {
+/// By an index of the input: it adds some comparisons and multiplexers for each element, and for each scalar in it.
+fn reads(alloc: Global, bits: u32, indexes: &[i64], kind: Kind, count: u32) -> Result<(), Fault> {
+    let mut dag = graph(alloc, bits)?;
+    reads_in(alloc, &mut dag, indexes, kind, count)
+}
+
+fn tell_by_the_input(alloc: Global, report: &mut Report) -> Result<(), AllocError> {
     for kind in kinds() {
         for count in 1..5 {
-            reads(&rt, rt.alloc(), 6, indexes(), kind, count)?;
+            report.row(reads(alloc, 6, indexes(), kind, count))?;
         }
     }
-    Ok(())
+    report.end("reads by the input")
 }
 
 // Lists that are longer than the words of an index are many.
-#[test]
-fn by_narrow_words(rt: HostRuntime) -> Result<(), Fail> {
+fn tell_by_narrow_words(alloc: Global, report: &mut Report) -> Result<(), AllocError> {
     for kind in [Kind::Bit, Kind::Reference, Kind::Either] {
         for count in 1..5 {
-            reads(&rt, rt.alloc(), 2, narrow(), kind, count)?;
+            report.row(reads(alloc, 2, narrow(), kind, count))?;
         }
     }
-    Ok(())
+    report.end("reads by narrow words")
+}
+
+fn read_given_in(
+    alloc: Global,
+    dag: &mut Dag,
+    kind: Kind,
+    count: u32,
+    at: i64,
+) -> Result<(), Fault> {
+    let list = elements(alloc, dag, kind, 0, count)?;
+    let index = given(dag, at)?;
+    let before = dag.len();
+    let (made, outside) = element_at(alloc, dag, &list, index)?;
+    expect(dag.len() == before)?;
+    expect_read(alloc, dag, kind, count, at, made.as_slice(), outside)
 }
 
 /// By an index that is given: no node is added.
-fn read_given(rt: &impl Abort, alloc: Global, kind: Kind, count: u32, at: i64) -> Result<(), Fail> {
-    let mut dag = graph(rt, alloc, 6)?;
-    let list = elements(alloc, &mut dag, kind, 0, count)?;
-    let index = given(rt, &mut dag, at)?;
-    let before = dag.len();
-    let (made, outside) = element_at(rt, alloc, &mut dag, &list, index)?;
-    assert_eq!(rt; dag.len(), before, "{kind:?} at {at} of {count}");
-    expect_read(rt, alloc, &dag, kind, count, at, &made, outside)
+fn read_given(alloc: Global, kind: Kind, count: u32, at: i64) -> Result<(), Fault> {
+    let mut dag = graph(alloc, 6)?;
+    read_given_in(alloc, &mut dag, kind, count, at)
 }
 
-#[test]
-fn by_given_indexes(rt: HostRuntime) -> Result<(), Fail> {
+fn tell_by_given_indexes(alloc: Global, report: &mut Report) -> Result<(), AllocError> {
     for kind in kinds() {
         for at in indexes() {
-            read_given(&rt, rt.alloc(), kind, 1, *at)?;
-            read_given(&rt, rt.alloc(), kind, 4, *at)?;
+            report.row(read_given(alloc, kind, 1, *at))?;
+            report.row(read_given(alloc, kind, 4, *at))?;
         }
     }
-    Ok(())
+    report.end("reads by given indexes")
+}
+
+fn of_many_in(alloc: Global, dag: &mut Dag) -> Result<(), Fault> {
+    let list = elements(alloc, dag, Kind::Int, 0, 20)?;
+    let index = dag.input_word(20)?;
+    let before = dag.len();
+    element_at(alloc, dag, &list, index)?;
+    let added = dag.len().wrapping_sub(before);
+    expect(added <= most(Kind::Int, 20))?;
+    again(alloc, dag, &list, index)
 }
 
 // A long list of integers, whose scalars are those before that of the index.
-#[test]
-fn of_many(rt: HostRuntime) -> Result<(), Fail> {
-    let mut dag = graph(&rt, rt.alloc(), 6)?;
-    let list = elements(rt.alloc(), &mut dag, Kind::Int, 0, 20)?;
-    let index = dag.input_word(20)?;
-    let before = dag.len();
-    element_at(&rt, rt.alloc(), &mut dag, &list, index)?;
-    let added = dag.len().wrapping_sub(before);
-    assert!(rt; added <= most(Kind::Int, 20), "{added} nodes");
-    again(&rt, rt.alloc(), &mut dag, &list, index)
+fn of_many(alloc: Global) -> Result<(), Fault> {
+    let mut dag = graph(alloc, 6)?;
+    of_many_in(alloc, &mut dag)
+}
+
+fn tell_of_many(alloc: Global, report: &mut Report) -> Result<(), AllocError> {
+    report.row(of_many(alloc))?;
+    report.end("reads of many")
+}
+
+/// Tells of the tables of reads.
+pub fn tell(alloc: Global, report: &mut Report) -> Result<(), AllocError> {
+    tell_by_the_input(alloc, report)?;
+    tell_by_narrow_words(alloc, report)?;
+    tell_by_given_indexes(alloc, report)?;
+    tell_of_many(alloc, report)
 }

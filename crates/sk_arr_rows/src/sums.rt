@@ -3,11 +3,10 @@
 use crate::calls::{graph, summed};
 use crate::kinds::{Kind, elements};
 use crate::sights::{env_of, seen};
+use row_tables::{Fault, Report, expect};
 use sk_base::List;
 use sk_dag::{Dag, Env, Shape};
 use std::alloc::{AllocError, Global};
-use std::process::Abort;
-use std::test::Fail;
 
 /// Adds so many bits of a number.
 fn push_bits(input: &mut Vec<i64>, number: u64, count: u32) -> Result<(), AllocError> {
@@ -20,7 +19,7 @@ fn push_bits(input: &mut Vec<i64>, number: u64, count: u32) -> Result<(), AllocE
 }
 
 /// The environment in which the first scalars are so many bits of the one number, and the next those of the other.
-pub fn env_of_bits(alloc: Global, x: u64, y: u64, count: u32) -> Result<Env, Fail> {
+pub fn env_of_bits(alloc: Global, x: u64, y: u64, count: u32) -> Result<Env, Fault> {
     let mut input = Vec::new(alloc);
     push_bits(&mut input, x, count)?;
     push_bits(&mut input, y, count)?;
@@ -46,19 +45,17 @@ pub fn given_bits(
 
 /// The bits are so many of this number.
 pub fn expect_number(
-    rt: &impl Abort,
     alloc: Global,
     dag: &Dag,
     env: &Env,
     made: &[Shape],
     number: u64,
     count: u32,
-) -> Result<(), Fail> {
-    let got = seen(rt, alloc, dag, env, made)?;
+) -> Result<(), Fault> {
+    let got = seen(alloc, dag, env, made)?;
     let mut want = Vec::new(alloc);
     push_bits(&mut want, number, count)?;
-    assert_eq!(rt; got.as_slice(), want.as_slice(), "{number}");
-    Ok(())
+    expect(got.as_slice() == want.as_slice())
 }
 
 // A number of bits, two numbers, and the sum of their bits.
@@ -83,100 +80,118 @@ fn rows() -> &'static [(u32, u64, u64, u64)] {
 }
 
 /// Of bits of the input: at most five nodes are added for each bit, and none by the same once more.
-fn sum_of_inputs(
-    rt: &impl Abort,
-    alloc: Global,
-    dag: &mut Dag,
-    count: u32,
-) -> Result<List<Shape>, Fail> {
+fn sum_of_inputs(alloc: Global, dag: &mut Dag, count: u32) -> Result<List<Shape>, Fault> {
     let a = elements(alloc, dag, Kind::Bit, 0, count)?;
     let b = elements(alloc, dag, Kind::Bit, count, count)?;
     let before = dag.len();
-    let made = summed(rt, alloc, dag, &a, &b)?;
+    let made = summed(alloc, dag, &a, &b)?;
     let added = dag.len().wrapping_sub(before);
-    assert!(rt;
-        added <= 5usize.wrapping_mul(count as usize),
-        "{added} nodes of {count}"
-    );
+    expect(added <= 5usize.wrapping_mul(count as usize))?;
     let after = dag.len();
-    summed(rt, alloc, dag, &a, &b)?;
-    assert_eq!(rt; dag.len(), after);
+    summed(alloc, dag, &a, &b)?;
+    expect(dag.len() == after)?;
     Ok(made)
 }
 
-fn sums(rt: &impl Abort, alloc: Global, row: (u32, u64, u64, u64)) -> Result<(), Fail> {
+fn sums_in(alloc: Global, dag: &mut Dag, row: (u32, u64, u64, u64)) -> Result<(), Fault> {
     let (count, x, y, want) = row;
-    let mut dag = graph(rt, alloc, 6)?;
-    let made = sum_of_inputs(rt, alloc, &mut dag, count)?;
-    assert_eq!(rt; made.len(), count as usize);
+    let made = sum_of_inputs(alloc, dag, count)?;
+    expect(made.len() == count as usize)?;
     let env = env_of_bits(alloc, x, y, count)?;
-    expect_number(rt, alloc, &dag, &env, made.as_slice(), want, count)
+    expect_number(alloc, dag, &env, made.as_slice(), want, count)
 }
 
-#[test]
-fn of_the_input(rt: HostRuntime) -> Result<(), Fail> {
+fn sums(alloc: Global, row: (u32, u64, u64, u64)) -> Result<(), Fault> {
+    let mut dag = graph(alloc, 6)?;
+    sums_in(alloc, &mut dag, row)
+}
+
+fn tell_of_the_input(alloc: Global, report: &mut Report) -> Result<(), AllocError> {
     for row in rows() {
-        sums(&rt, rt.alloc(), *row)?;
+        report.row(sums(alloc, *row))?;
+    }
+    report.end("sums of the input")
+}
+
+fn of_three_bits_in(alloc: Global, dag: &mut Dag, x: u64) -> Result<(), Fault> {
+    let made = sum_of_inputs(alloc, dag, 3)?;
+    for y in 0..8u64 {
+        let env = env_of_bits(alloc, x, y, 3)?;
+        expect_number(alloc, dag, &env, made.as_slice(), x.wrapping_add(y) % 8, 3)?;
     }
     Ok(())
 }
 
-// All numbers of three bits.
-#[test]
-fn of_three_bits(rt: HostRuntime) -> Result<(), Fail> {
-    let mut dag = graph(&rt, rt.alloc(), 6)?;
-    let made = sum_of_inputs(&rt, rt.alloc(), &mut dag, 3)?;
-    for x in 0..8u64 {
-        for y in 0..8u64 {
-            let env = env_of_bits(rt.alloc(), x, y, 3)?;
-            expect_number(&rt, rt.alloc(), &dag, &env, made.as_slice(), (x + y) % 8, 3)?;
-        }
+/// The sums of all numbers of three bits and one of them.
+fn of_three_bits(alloc: Global, x: u64) -> Result<(), Fault> {
+    let mut dag = graph(alloc, 6)?;
+    of_three_bits_in(alloc, &mut dag, x)
+}
+
+fn tell_of_three_bits(alloc: Global, report: &mut Report) -> Result<(), AllocError> {
+    for x in 0..8 {
+        report.row(of_three_bits(alloc, x))?;
     }
-    Ok(())
+    report.end("sums of three bits")
+}
+
+fn sum_given_in(alloc: Global, dag: &mut Dag, row: (u32, u64, u64, u64)) -> Result<(), Fault> {
+    let (count, x, y, want) = row;
+    let a = given_bits(alloc, dag, x, count)?;
+    let b = given_bits(alloc, dag, y, count)?;
+    let before = dag.len();
+    let made = summed(alloc, dag, &a, &b)?;
+    expect(dag.len() == before)?;
+    let env = env_of(alloc, &[])?;
+    expect_number(alloc, dag, &env, made.as_slice(), want, count)
 }
 
 /// Of bits that are given no node is added.
-fn sum_given(rt: &impl Abort, alloc: Global, row: (u32, u64, u64, u64)) -> Result<(), Fail> {
-    let (count, x, y, want) = row;
-    let mut dag = graph(rt, alloc, 6)?;
-    let a = given_bits(alloc, &mut dag, x, count)?;
-    let b = given_bits(alloc, &mut dag, y, count)?;
-    let before = dag.len();
-    let made = summed(rt, alloc, &mut dag, &a, &b)?;
-    assert_eq!(rt; dag.len(), before, "{x} and {y}");
-    let env = env_of(alloc, &[])?;
-    expect_number(rt, alloc, &dag, &env, made.as_slice(), want, count)
+fn sum_given(alloc: Global, row: (u32, u64, u64, u64)) -> Result<(), Fault> {
+    let mut dag = graph(alloc, 6)?;
+    sum_given_in(alloc, &mut dag, row)
 }
 
-#[test]
-fn of_given_bits(rt: HostRuntime) -> Result<(), Fail> {
+fn tell_of_given_bits(alloc: Global, report: &mut Report) -> Result<(), AllocError> {
     for row in rows() {
-        sum_given(&rt, rt.alloc(), *row)?;
+        report.row(sum_given(alloc, *row))?;
+    }
+    report.end("sums of given bits")
+}
+
+fn sum_with_zero_in(alloc: Global, dag: &mut Dag, first: bool) -> Result<(), Fault> {
+    let a = elements(alloc, dag, Kind::Bit, 0, 4)?;
+    let b = given_bits(alloc, dag, 0, 4)?;
+    let before = dag.len();
+    let made = if first {
+        summed(alloc, dag, &a, &b)?
+    } else {
+        summed(alloc, dag, &b, &a)?
+    };
+    expect(dag.len() == before)?;
+    for x in [0, 5, 10, 15] {
+        let env = env_of_bits(alloc, x, 0, 4)?;
+        expect_number(alloc, dag, &env, made.as_slice(), x, 4)?;
     }
     Ok(())
 }
 
 /// A number and 0: no node is added.
-fn sum_with_zero(rt: &impl Abort, alloc: Global, first: bool) -> Result<(), Fail> {
-    let mut dag = graph(rt, alloc, 6)?;
-    let a = elements(alloc, &mut dag, Kind::Bit, 0, 4)?;
-    let b = given_bits(alloc, &mut dag, 0, 4)?;
-    let before = dag.len();
-    let made = if first {
-        summed(rt, alloc, &mut dag, &a, &b)?
-    } else {
-        summed(rt, alloc, &mut dag, &b, &a)?
-    };
-    assert_eq!(rt; dag.len(), before);
-    for x in [0, 5, 10, 15] {
-        let env = env_of_bits(alloc, x, 0, 4)?;
-        expect_number(rt, alloc, &dag, &env, made.as_slice(), x, 4)?;
-    }
-    Ok(())
+fn sum_with_zero(alloc: Global, first: bool) -> Result<(), Fault> {
+    let mut dag = graph(alloc, 6)?;
+    sum_with_zero_in(alloc, &mut dag, first)
 }
 
-#[test]
-fn with_zero(rt: HostRuntime) -> Result<(), Fail> {
-    sum_with_zero(&rt, rt.alloc(), true)?;
-    sum_with_zero(&rt, rt.alloc(), false)
+fn tell_with_zero(alloc: Global, report: &mut Report) -> Result<(), AllocError> {
+    report.row(sum_with_zero(alloc, true))?;
+    report.row(sum_with_zero(alloc, false))?;
+    report.end("sums with zero")
+}
+
+/// Tells of the tables of sums.
+pub fn tell(alloc: Global, report: &mut Report) -> Result<(), AllocError> {
+    tell_of_the_input(alloc, report)?;
+    tell_of_three_bits(alloc, report)?;
+    tell_of_given_bits(alloc, report)?;
+    tell_with_zero(alloc, report)
 }

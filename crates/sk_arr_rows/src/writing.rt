@@ -1,13 +1,12 @@
 //! Writes by an index, under a guard.
 
 use crate::calls::{given, graph, written};
-use crate::kinds::{Kind, element, elements, kinds};
-use crate::sights::{env_of, expect, holds};
+use crate::kinds::{Kind, elements, kinds, one};
+use crate::sights::{env_of, expect_shape, holds};
+use row_tables::{Fault, Report, expect};
 use sk_base::List;
 use sk_dag::{BoolId, Dag, Env, Shape, WordId};
 use std::alloc::{AllocError, Global};
-use std::process::Abort;
-use std::test::Fail;
 
 /// What a write is guarded by.
 #[derive(Clone, Copy, Debug)]
@@ -61,19 +60,18 @@ fn element_or_value(k: u32, place: i64) -> (u32, i64) {
 
 /// The elements, of which the one at this place is the value.
 fn expect_list(
-    rt: &impl Abort,
     alloc: Global,
     dag: &Dag,
     env: &Env,
     kind: Kind,
     made: &[Shape],
     place: i64,
-) -> Result<(), Fail> {
-    assert_eq!(rt; made.len(), 3);
+) -> Result<(), Fault> {
+    expect(made.len() == 3)?;
     let mut k = 0u32;
     for part in made {
         let (slot, scalar) = element_or_value(k, place);
-        expect(rt, alloc, dag, env, part, kind, slot, scalar)?;
+        expect_shape(alloc, dag, env, part, kind, slot, scalar)?;
         k = k.wrapping_add(1);
     }
     Ok(())
@@ -81,7 +79,6 @@ fn expect_list(
 
 /// Whether the index leaves the list, and what the list becomes, under both values of the input's guard.
 fn expect_written(
-    rt: &impl Abort,
     alloc: Global,
     dag: &Dag,
     kind: Kind,
@@ -89,31 +86,30 @@ fn expect_written(
     at: i64,
     made: &[Shape],
     outside: BoolId,
-) -> Result<(), Fail> {
+) -> Result<(), Fault> {
     for scalar in [0, 1] {
         let env = env_of(alloc, &scalars(scalar, at))?;
-        let left = holds(rt, dag, &env, outside)?;
-        assert_eq!(rt; left, at < 0 || at > 2, "{kind:?} at {at}");
+        let left = holds(dag, &env, outside)?;
+        expect(left == (at < 0 || at > 2))?;
         let place = if is_under(guard, scalar) { at } else { -1 };
-        expect_list(rt, alloc, dag, &env, kind, made, place)?;
+        expect_list(alloc, dag, &env, kind, made, place)?;
     }
     Ok(())
 }
 
 /// A list of three with the value written, and how many nodes that adds.
 fn write(
-    rt: &impl Abort,
     alloc: Global,
     dag: &mut Dag,
     kind: Kind,
     guard: Guard,
     index: WordId,
-) -> Result<(List<Shape>, BoolId, usize), Fail> {
+) -> Result<(List<Shape>, BoolId, usize), Fault> {
     let list = elements(alloc, dag, kind, 0, 3)?;
-    let value = element(alloc, dag, kind, 5, 5)?;
+    let value = one(alloc, dag, kind, 5, 5)?;
     let guard = guard_of(dag, guard)?;
     let before = dag.len();
-    let (made, outside) = written(rt, alloc, dag, guard, &list, index, &value)?;
+    let (made, outside) = written(alloc, dag, guard, &list, index, value.as_slice())?;
     let added = dag.len().wrapping_sub(before);
     Ok((made, outside, added))
 }
@@ -138,28 +134,28 @@ fn most(kind: Kind, guard: Guard) -> usize {
     }
 }
 
-fn writes(rt: &impl Abort, alloc: Global, kind: Kind, guard: Guard) -> Result<(), Fail> {
-    let mut dag = graph(rt, alloc, 6)?;
+fn writes_in(alloc: Global, dag: &mut Dag, kind: Kind, guard: Guard) -> Result<(), Fault> {
     let index = dag.input_word(7)?;
-    let (made, outside, added) = write(rt, alloc, &mut dag, kind, guard, index)?;
-    assert!(rt;
-        added <= most(kind, guard),
-        "{added} nodes of {kind:?} under {guard:?}"
-    );
+    let (made, outside, added) = write(alloc, dag, kind, guard, index)?;
+    expect(added <= most(kind, guard))?;
     for at in indexes() {
-        expect_written(rt, alloc, &dag, kind, guard, *at, made.as_slice(), outside)?;
+        expect_written(alloc, dag, kind, guard, *at, made.as_slice(), outside)?;
     }
     Ok(())
 }
 
-#[test]
-fn by_the_input(rt: HostRuntime) -> Result<(), Fail> {
+fn writes(alloc: Global, kind: Kind, guard: Guard) -> Result<(), Fault> {
+    let mut dag = graph(alloc, 6)?;
+    writes_in(alloc, &mut dag, kind, guard)
+}
+
+fn tell_by_the_input(alloc: Global, report: &mut Report) -> Result<(), AllocError> {
     for kind in kinds() {
         for guard in guards() {
-            writes(&rt, rt.alloc(), kind, *guard)?;
+            report.row(writes(alloc, kind, *guard))?;
         }
     }
-    Ok(())
+    report.end("writes by the input")
 }
 
 /// How many nodes a write at an index that is given adds: none where the guard is given too, and where the index is
@@ -171,32 +167,38 @@ fn of_given(kind: Kind, guard: Guard, at: i64) -> usize {
     }
 }
 
-fn write_given(
-    rt: &impl Abort,
+fn write_given_in(
     alloc: Global,
+    dag: &mut Dag,
     kind: Kind,
     guard: Guard,
     at: i64,
-) -> Result<(), Fail> {
-    let mut dag = graph(rt, alloc, 6)?;
-    let index = given(rt, &mut dag, at)?;
-    let (made, outside, added) = write(rt, alloc, &mut dag, kind, guard, index)?;
+) -> Result<(), Fault> {
+    let index = given(dag, at)?;
+    let (made, outside, added) = write(alloc, dag, kind, guard, index)?;
     let most = of_given(kind, guard, at);
-    assert!(rt;
-        added <= most,
-        "{added} nodes of {kind:?} at {at} under {guard:?}"
-    );
-    expect_written(rt, alloc, &dag, kind, guard, at, made.as_slice(), outside)
+    expect(added <= most)?;
+    expect_written(alloc, dag, kind, guard, at, made.as_slice(), outside)
 }
 
-#[test]
-fn by_given_indexes(rt: HostRuntime) -> Result<(), Fail> {
+fn write_given(alloc: Global, kind: Kind, guard: Guard, at: i64) -> Result<(), Fault> {
+    let mut dag = graph(alloc, 6)?;
+    write_given_in(alloc, &mut dag, kind, guard, at)
+}
+
+fn tell_by_given_indexes(alloc: Global, report: &mut Report) -> Result<(), AllocError> {
     for kind in kinds() {
         for guard in guards() {
             for at in indexes() {
-                write_given(&rt, rt.alloc(), kind, *guard, *at)?;
+                report.row(write_given(alloc, kind, *guard, *at))?;
             }
         }
     }
-    Ok(())
+    report.end("writes by given indexes")
+}
+
+/// Tells of the tables of writes.
+pub fn tell(alloc: Global, report: &mut Report) -> Result<(), AllocError> {
+    tell_by_the_input(alloc, report)?;
+    tell_by_given_indexes(alloc, report)
 }

@@ -2,6 +2,7 @@ ghost use Rattle.std.specs.Prelude.{◌≡◌, ℕ, ◌≤◌, ◌<◌, length, 
 ghost use Rattle.sk_clause.specs.Problem.{IsWithin};
 ghost use Rattle.sk_gates.specs.Bits.{AreOver, reach};
 
+use row_tables::{Fault, Report, expect};
 use sk_base::List;
 use sk_clause::{Clauses, Lit};
 use sk_gates::{
@@ -9,7 +10,6 @@ use sk_gates::{
     mux_each, padded, xor,
 };
 use std::alloc::{AllocError, Global};
-use std::test::Fail;
 
 const A: Lit = Lit { var: 0, neg: false };
 
@@ -131,33 +131,30 @@ fn only(
     }
 }
 
-#[test]
-fn gates_of_literals(rt: HostRuntime) -> Result<(), Fail> {
-    let alloc = rt.alloc();
+// What the four gates of three literals are to answer, as a number.
+fn of_literals(bits: usize) -> usize {
+    let (a, b, c) = (bits % 2 == 1, bits / 2 % 2 == 1, bits / 4 % 2 == 1);
+    let both = if a && b { 1 } else { 0 };
+    let one = if a != b { 4 } else { 0 };
+    let chosen = if c && a || !c && b { 8 } else { 0 };
+    both + one + chosen
+}
+
+fn gates_of_literals(alloc: Global, bits: usize) -> Result<(), Fault> {
     let mut to = eleven(alloc)?;
     let both = and(&mut to, A, B)?;
     let never = and(&mut to, A, NOT_A)?;
     let one = xor(&mut to, A, B)?;
     let chosen = mux(&mut to, C, A, B)?;
+    let answer = only(alloc, &to, bits, &[both, never, one, chosen])?;
+    expect(answer == Some(of_literals(bits)))
+}
+
+fn tell_literals(alloc: Global, report: &mut Report) -> Result<(), AllocError> {
     for bits in 0..8 {
-        let (a, b, c) = (bits % 2 == 1, bits / 2 % 2 == 1, bits / 4 % 2 == 1);
-        let mut want = 0;
-        if a && b {
-            want += 1;
-        }
-        if a != b {
-            want += 4;
-        }
-        if c && a || !c && b {
-            want += 8;
-        }
-        assert_eq!(rt;
-            only(alloc, &to, bits, &[both, never, one, chosen])?,
-            Some(want),
-            "at {bits}"
-        );
+        report.row(gates_of_literals(alloc, bits))?;
     }
-    Ok(())
+    report.end("gates of literals")
 }
 
 #[derive(Clone, Copy, PartialEq, Eq, Debug, Drop)]
@@ -233,15 +230,40 @@ fn made(
     }
 }
 
-// The first gate of these words, and the first assignment of their variables and of the carry, at which the answer is not
-// the right one in exactly one extension.
-fn first_wrong(alloc: Global, a: &[Lit], b: &[Lit]) -> Result<Option<(Gate, usize)>, AllocError>
+// At each assignment of the variables of these words and of the carry, the answer is the right one in exactly one extension.
+fn answers_right(
+    alloc: Global,
+    to: &Clauses,
+    gate: Gate,
+    a: &[Lit],
+    b: &[Lit],
+    answer: &[Lit],
+) -> Result<(), Fault> {
+    let carries = if gate == Gate::Sum { 2 } else { 1 };
+    for bits in 0..256 * carries {
+        let (x, y) = (number(bits, a) % 16, number(bits, b) % 16);
+        let right = want(gate, a.len(), x, y, bits / 256 % 2);
+        let answered = only(alloc, to, bits, answer)?;
+        expect(answered == Some(right))?;
+    }
+    Ok(())
+}
+
+// The gate of these words.
+fn is_right(alloc: Global, gate: Gate, a: &[Lit], b: &[Lit]) -> Result<(), Fault>
     requires some { 1 ≤ length a.now }
     requires most { length a.now ≤ 4 }
     requires lengths { length a.now ≡ length b.now }
     requires a { IsWithin 11 a.now }
     requires b { IsWithin 11 b.now }
 {
+    let mut to = eleven(alloc)?;
+    let answer = made(alloc, &mut to, gate, a, b)?;
+    answers_right(alloc, &to, gate, a, b, answer.as_slice())
+}
+
+// Each gate of words of one to four bits.
+fn tell_words(alloc: Global, report: &mut Report) -> Result<(), AllocError> {
     for gate in [
         Gate::Sum,
         Gate::Less,
@@ -249,49 +271,28 @@ fn first_wrong(alloc: Global, a: &[Lit], b: &[Lit]) -> Result<Option<(Gate, usiz
         Gate::Product,
         Gate::Division,
     ] {
-        let mut to = eleven(alloc)?;
-        let answer = made(alloc, &mut to, gate, a, b)?;
-        let carries = if gate == Gate::Sum { 2 } else { 1 };
-        for bits in 0..256 * carries {
-            let (x, y) = (number(bits, a) % 16, number(bits, b) % 16);
-            let right = want(gate, a.len(), x, y, bits / 256 % 2);
-            if only(alloc, &to, bits, answer.as_slice())? != Some(right) {
-                return Ok(Some((gate, bits)));
-            }
-        }
+        report.row(is_right(alloc, gate, &[A], &[E]))?;
+        report.row(is_right(alloc, gate, &[A, B], &[E, F]))?;
+        report.row(is_right(alloc, gate, &[A, B, C], &[E, F, G]))?;
+        report.row(is_right(alloc, gate, &[A, B, C, D], &[E, F, G, H]))?;
     }
-    Ok(None)
-}
-
-#[test]
-fn gates_of_words(rt: HostRuntime) -> Result<(), Fail> {
-    let alloc = rt.alloc();
-    assert_eq!(rt; first_wrong(alloc, &[A], &[E])?, None);
-    assert_eq!(rt; first_wrong(alloc, &[A, B], &[E, F])?, None);
-    assert_eq!(rt; first_wrong(alloc, &[A, B, C], &[E, F, G])?, None);
-    assert_eq!(rt; first_wrong(alloc, &[A, B, C, D], &[E, F, G, H])?, None);
-    Ok(())
+    report.end("gates of words")
 }
 
 // What a gate of two words of four bits answers in its only extension.
-fn answer_of(alloc: Global, gate: Gate, bits: usize) -> Result<Option<usize>, AllocError> {
+fn answers(alloc: Global, gate: Gate, bits: usize, wanted: usize) -> Result<(), Fault> {
     let mut to = eleven(alloc)?;
     let answer = made(alloc, &mut to, gate, &[A, B, C, D], &[E, F, G, H])?;
     let value = only(alloc, &to, bits, answer.as_slice())?;
-    Ok(value)
+    expect(value == Some(wanted))
 }
 
 // 7 times 5 is 35, whose four lowest bits are 3. 13 is 3 times 4 and 1 more. Divided by 0 it gives 0 and 0.
-#[test]
-fn numbers_of_four_bits(rt: HostRuntime) -> Result<(), Fail> {
-    let alloc = rt.alloc();
-    assert_eq!(rt; answer_of(alloc, Gate::Product, 7 + 5 * 16)?, Some(3));
-    assert_eq!(rt;
-        answer_of(alloc, Gate::Division, 13 + 4 * 16)?,
-        Some(3 + 16)
-    );
-    assert_eq!(rt; answer_of(alloc, Gate::Division, 13)?, Some(0));
-    Ok(())
+fn tell_numbers(alloc: Global, report: &mut Report) -> Result<(), AllocError> {
+    report.row(answers(alloc, Gate::Product, 7 + 5 * 16, 3))?;
+    report.row(answers(alloc, Gate::Division, 13 + 4 * 16, 3 + 16))?;
+    report.row(answers(alloc, Gate::Division, 13, 0))?;
+    report.end("numbers of four bits")
 }
 
 // A word of 16 bits that are false from the sixth on.
@@ -426,14 +427,25 @@ fn choice_size(alloc: Global) -> Result<(usize, usize), AllocError> {
     Ok(size(to.clauses()))
 }
 
-#[test]
-fn sizes(rt: HostRuntime) -> Result<(), Fail> {
-    let alloc = rt.alloc();
-    assert_eq!(rt; sum_size(alloc)?, (14, 55));
-    assert_eq!(rt; product_size(alloc)?, (80, 290));
-    assert_eq!(rt; tenfold_size(alloc)?, (12, 45));
-    assert_eq!(rt; division_size(alloc)?, (73, 269));
-    assert_eq!(rt; tenth_size(alloc)?, (15, 55));
-    assert_eq!(rt; choice_size(alloc)?, (5, 20));
-    Ok(())
+// A formula of these sizes.
+fn is_size(found: (usize, usize), vars: usize, clauses: usize) -> Result<(), Fault> {
+    expect(found.0 == vars && found.1 == clauses)
+}
+
+fn tell_sizes(alloc: Global, report: &mut Report) -> Result<(), AllocError> {
+    report.row(is_size(sum_size(alloc)?, 14, 55))?;
+    report.row(is_size(product_size(alloc)?, 80, 290))?;
+    report.row(is_size(tenfold_size(alloc)?, 12, 45))?;
+    report.row(is_size(division_size(alloc)?, 73, 269))?;
+    report.row(is_size(tenth_size(alloc)?, 15, 55))?;
+    report.row(is_size(choice_size(alloc)?, 5, 20))?;
+    report.end("sizes of gates")
+}
+
+/// Tells of the tables of gates.
+pub fn tell(alloc: Global, report: &mut Report) -> Result<(), AllocError> {
+    tell_literals(alloc, report)?;
+    tell_words(alloc, report)?;
+    tell_numbers(alloc, report)?;
+    tell_sizes(alloc, report)
 }

@@ -1,20 +1,18 @@
 //! Chains of 100,000 nodes.
-use crate::building::{env_of, graph_of, has_bool, has_word, put, value};
+use crate::building::{env_of, graph_of, put, value};
+use row_tables::{Fault, Report, expect, has_bool, has_word};
 use sk_dag::{BoolId, CostId, Dag, Node, Value, WordId};
 use sk_simplify::simplify;
-use std::alloc::Global;
-use std::process::Abort;
-use std::test::Fail;
+use std::alloc::{AllocError, Global};
 
 const LENGTH: usize = 100_000;
 
 // x, y, and x with y added again and again: the sum is x + 99,998 * y.
-fn sums(rt: &impl Abort, alloc: Global) -> Result<Dag, Fail> {
-    let mut dag = graph_of(rt, alloc, 32, &[Node::InputWord(0), Node::InputWord(1)])?;
+fn sums(alloc: Global) -> Result<Dag, Fault> {
+    let mut dag = graph_of(alloc, 32, &[Node::InputWord(0), Node::InputWord(1)])?;
     let mut last = 0;
     for _ in 2..LENGTH {
         last = put(
-            rt,
             &mut dag,
             Node::Add(WordId { index: last }, WordId { index: 1 }),
         )?;
@@ -22,14 +20,13 @@ fn sums(rt: &impl Abort, alloc: Global) -> Result<Dag, Fail> {
     Ok(dag)
 }
 
-#[test]
-fn a_long_sum(rt: HostRuntime) -> Result<(), Fail> {
-    let dag = sums(&rt, rt.alloc())?;
-    assert_eq!(rt; dag.len(), LENGTH);
+fn a_long_sum(alloc: Global) -> Result<(), Fault> {
+    let dag = sums(alloc)?;
+    expect(dag.len() == LENGTH)?;
     let sum = WordId { index: LENGTH - 1 };
-    assert!(rt; has_word(&dag, sum));
-    let env = env_of(rt.alloc(), &[], &[3, -2])?;
-    assert_eq!(rt; dag.eval_word(sum, &env)?, 3 - 2 * 99_998);
+    expect(has_word(&dag, sum))?;
+    let env = env_of(alloc, &[], &[3, -2])?;
+    expect(dag.eval_word(sum, &env)? == 3 - 2 * 99_998)?;
     Ok(())
 }
 
@@ -63,35 +60,41 @@ fn behind() -> [(Node, Value); 11] {
     ]
 }
 
-#[test]
-fn a_few_nodes_of_a_long_graph(rt: HostRuntime) -> Result<(), Fail> {
-    let mut dag = sums(&rt, rt.alloc())?;
-    let env = env_of(rt.alloc(), &[2], &[3, -2])?;
+fn a_few_nodes_of_a_long_graph(alloc: Global) -> Result<(), Fault> {
+    let mut dag = sums(alloc)?;
+    let env = env_of(alloc, &[2], &[3, -2])?;
     let few = behind();
     for (node, _) in few {
-        put(&rt, &mut dag, node)?;
+        put(&mut dag, node)?;
     }
     for (k, (node, wanted)) in few.iter().enumerate() {
-        assert_eq!(rt; value(&rt, &dag, LENGTH + k, &env)?, *wanted, "of {node:?}");
+        expect(value(&dag, LENGTH + k, &env)? == *wanted)?;
     }
     Ok(())
 }
 
 // The chain is simple but for the order of operands, and stays as long.
-#[test]
-fn a_long_sum_anew(rt: HostRuntime) -> Result<(), Fail> {
-    let mut dag = sums(&rt, rt.alloc())?;
+fn a_long_sum_anew(alloc: Global) -> Result<(), Fault> {
+    let mut dag = sums(alloc)?;
     let sum = WordId { index: LENGTH - 1 };
     let root = BoolId {
-        index: put(&rt, &mut dag, Node::Lt(sum, WordId { index: 0 }))?,
+        index: put(&mut dag, Node::Lt(sum, WordId { index: 0 }))?,
     };
-    assert!(rt; has_bool(&dag, root));
-    let made = simplify(rt.alloc(), &dag, &[root])?;
-    assert_eq!(rt; made.dag.len(), LENGTH + 1);
-    let mut copy = Dag::new(rt.alloc(), 32);
-    assert!(rt; dag.int_bits() == copy.int_bits());
+    expect(has_bool(&dag, root))?;
+    let made = simplify(alloc, &dag, &[root])?;
+    expect(made.dag.len() == LENGTH + 1)?;
+    let mut copy = Dag::new(alloc, 32);
+    expect(dag.int_bits() == copy.int_bits())?;
     let copied = copy.graft(&dag, root)?;
-    assert_eq!(rt; copied, root);
-    assert_eq!(rt; copy.len(), LENGTH + 1);
+    expect(copied == root)?;
+    expect(copy.len() == LENGTH + 1)?;
     Ok(())
+}
+
+/// Tells of the table of long graphs.
+pub fn tell(alloc: Global, report: &mut Report) -> Result<(), AllocError> {
+    report.row(a_long_sum(alloc))?;
+    report.row(a_few_nodes_of_a_long_graph(alloc))?;
+    report.row(a_long_sum_anew(alloc))?;
+    report.end("graphs of 100,000 nodes")
 }
