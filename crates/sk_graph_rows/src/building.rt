@@ -141,12 +141,17 @@ pub fn env_of(alloc: Global, choice: &[u64], input: &[i64]) -> Result<Env, Alloc
     })
 }
 
+fn put_each(dag: &mut Dag, nodes: &[Node]) -> Result<(), Fault> {
+    for node in nodes {
+        put(dag, *node)?;
+    }
+    Ok(())
+}
+
 /// The graph of these nodes, in their order.
 pub fn graph_of(alloc: Global, bits: u32, nodes: &[Node]) -> Result<Dag, Fault> {
     expect(bits >= 2 && bits <= 32)?;
     let mut dag = Dag::new(alloc, bits);
-    for node in nodes {
-        put(&mut dag, *node)?;
-    }
+    put_each(&mut dag, nodes)?;
     Ok(dag)
 }

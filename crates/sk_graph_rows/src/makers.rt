@@ -1,8 +1,8 @@
 //! Each maker and each evaluator, with ample memory.
 
-use crate::building::{env_of, expect_value, graph_of, put};
+use crate::building::{env_of, expect_value, put};
 use row_tables::{Fault, Report, expect};
-use sk_dag::{BoolId, CostId, Dag, Node, Value, WordId};
+use sk_dag::{BoolId, CostId, Dag, Env, Node, Value, WordId};
 use std::alloc::{AllocError, Global};
 
 const YES: BoolId = BoolId { index: 0 };
@@ -75,34 +75,42 @@ fn nodes() -> &'static [(Node, Value)] {
 }
 
 /// The value of each node, and that they are as many as they are different.
-fn tell_makers(alloc: Global, report: &mut Report) -> Result<(), AllocError> {
-    let mut dag = Dag::new(alloc, 6);
-    let env = env_of(alloc, &[13, u64::MAX], &[-7, 2])?;
+fn try_makers(dag: &mut Dag, env: &Env, report: &mut Report) -> Result<(), AllocError> {
     for (node, wanted) in nodes() {
-        report.row(expect_value(&mut dag, &env, *node, *wanted))?;
+        report.row(expect_value(dag, env, *node, *wanted))?;
     }
     report.row(expect(dag.len() == 40))?;
     report.end("makers of nodes")
 }
 
-fn all_nodes(alloc: Global) -> Result<Dag, Fault> {
-    let mut dag = graph_of(alloc, 6, &[])?;
+fn tell_makers(alloc: Global, report: &mut Report) -> Result<(), AllocError> {
+    let env = env_of(alloc, &[13, u64::MAX], &[-7, 2])?;
+    let mut dag = Dag::new(alloc, 6);
+    try_makers(&mut dag, &env, report)
+}
+
+fn put_all(dag: &mut Dag) -> Result<(), Fault> {
     for (node, _) in nodes() {
-        put(&mut dag, *node)?;
+        put(dag, *node)?;
     }
-    Ok(dag)
+    Ok(())
 }
 
 // An equal node is the old one.
-fn each_node_once(alloc: Global) -> Result<(), Fault> {
-    let mut dag = all_nodes(alloc)?;
+fn are_old(dag: &mut Dag) -> Result<(), Fault> {
     let mut i = 0usize;
     for (node, _) in nodes() {
-        let index = put(&mut dag, *node)?;
+        let index = put(dag, *node)?;
         expect(index == i)?;
         i = i.saturating_add(1);
     }
     expect(dag.len() == 40)
+}
+
+fn each_node_once(alloc: Global) -> Result<(), Fault> {
+    let mut dag = Dag::new(alloc, 6);
+    put_all(&mut dag)?;
+    are_old(&mut dag)
 }
 
 /// Tells of the tables of makers.

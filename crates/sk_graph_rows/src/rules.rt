@@ -156,19 +156,27 @@ fn rooted(dag: &mut Dag, index: usize) -> Result<BoolId, Fault> {
     Ok(BoolId { index })
 }
 
-// Simplifies two nodes of a graph: they become one.
-fn expect_one(alloc: Global, dag: &mut Dag, left: Node, right: Node) -> Result<(), Fault> {
-    let left_index = put(dag, left)?;
-    let right_index = put(dag, right)?;
-    let left_root = rooted(dag, left_index)?;
-    let right_root = rooted(dag, right_index)?;
-    expect(has_bool(dag, left_root))?;
-    expect(has_bool(dag, right_root))?;
-    let made = simplify(alloc, dag, &[left_root, right_root])?;
+// The root of a node that is put.
+fn put_rooted(dag: &mut Dag, node: Node) -> Result<BoolId, Fault> {
+    let index = put(dag, node)?;
+    rooted(dag, index)
+}
+
+// Simplified, both roots are one.
+fn become_one(alloc: Global, dag: &Dag, left: BoolId, right: BoolId) -> Result<(), Fault> {
+    expect(has_bool(dag, left))?;
+    expect(has_bool(dag, right))?;
+    let made = simplify(alloc, dag, &[left, right])?;
     let left_made = made.roots.as_slice().get(0);
     let right_made = made.roots.as_slice().get(1);
-    expect(left_made.is_some() && left_made == right_made)?;
-    Ok(())
+    expect(left_made.is_some() && left_made == right_made)
+}
+
+// Simplifies two nodes of a graph: they become one.
+fn expect_one(alloc: Global, dag: &mut Dag, left: Node, right: Node) -> Result<(), Fault> {
+    let left_root = put_rooted(dag, left)?;
+    let right_root = put_rooted(dag, right)?;
+    become_one(alloc, dag, left_root, right_root)
 }
 
 fn is_left_side(alloc: Global, left: Node, right: Node) -> Result<(), Fault> {
@@ -176,13 +184,29 @@ fn is_left_side(alloc: Global, left: Node, right: Node) -> Result<(), Fault> {
     expect_one(alloc, &mut dag, left, right)
 }
 
+// An operator over two words that are given becomes this word.
+fn folds_in(alloc: Global, dag: &mut Dag, column: usize, y: i64, wanted: i64) -> Result<(), Fault> {
+    let second = put(dag, Node::Word(y))?;
+    let left = operator(column, WordId { index: 0 }, WordId { index: second });
+    expect_one(alloc, dag, left, Node::Word(wanted))
+}
+
+fn folds(
+    alloc: Global,
+    bits: u32,
+    column: usize,
+    x: i64,
+    y: i64,
+    wanted: i64,
+) -> Result<(), Fault> {
+    let mut dag = graph_of(alloc, bits, &[Node::Word(x)])?;
+    folds_in(alloc, &mut dag, column, y, wanted)
+}
+
 // A row of the table of words again, over constants.
 fn is_folded(alloc: Global, bits: u32, x: i64, y: i64, wanted: &[i64; 5]) -> Result<(), Fault> {
     for i in 0..5 {
-        let mut dag = graph_of(alloc, bits, &[Node::Word(x)])?;
-        let second = put(&mut dag, Node::Word(y))?;
-        let left = operator(i, WordId { index: 0 }, WordId { index: second });
-        expect_one(alloc, &mut dag, left, Node::Word(wanted[i]))?;
+        folds(alloc, bits, i, x, y, wanted[i])?;
     }
     Ok(())
 }
@@ -242,16 +266,19 @@ fn nested() -> &'static [(&'static [Node], Node)] {
     NESTED
 }
 
-fn is_nested(alloc: Global, nodes: &[Node], wanted: Node) -> Result<(), Fault> {
-    let dag = graph_of(alloc, 6, nodes)?;
+fn becomes(alloc: Global, dag: &Dag, wanted: Node) -> Result<(), Fault> {
     let root = BoolId {
         index: dag.len().saturating_sub(1),
     };
-    expect(has_bool(&dag, root))?;
-    let made = simplify(alloc, &dag, &[root])?;
+    expect(has_bool(dag, root))?;
+    let made = simplify(alloc, dag, &[root])?;
     let index = made.roots.as_slice().get(0).map_or(0, |id| id.index);
-    expect(index < made.dag.len())?;
-    expect(*made.dag.node(index) == wanted)
+    expect(index < made.dag.len() && *made.dag.node(index) == wanted)
+}
+
+fn is_nested(alloc: Global, nodes: &[Node], wanted: Node) -> Result<(), Fault> {
+    let dag = graph_of(alloc, 6, nodes)?;
+    becomes(alloc, &dag, wanted)
 }
 
 /// Tells of the tables of rules.

@@ -2,7 +2,7 @@
 
 use crate::building::{env_of, expect_value, graph_of};
 use row_tables::{Fault, Report};
-use sk_dag::{Node, Value, WordId};
+use sk_dag::{Dag, Env, Node, Value, WordId};
 use std::alloc::{AllocError, Global};
 
 const X: WordId = WordId { index: 0 };
@@ -123,6 +123,20 @@ pub fn words() -> &'static [(u32, i64, i64, [i64; 5])] {
     WORDS
 }
 
+fn are_at_the_edge(
+    dag: &mut Dag,
+    env: &Env,
+    x: i64,
+    y: i64,
+    wanted: &[i64; 5],
+) -> Result<(), Fault> {
+    for i in 0..5 {
+        expect_value(dag, env, operator(i, X, Y), Value::Int(wanted[i]))?;
+    }
+    expect_value(dag, env, Node::Lt(X, Y), Value::Bit(x < y))?;
+    expect_value(dag, env, Node::Eq(X, Y), Value::Bit(x == y))
+}
+
 fn is_at_the_edge(
     alloc: Global,
     bits: u32,
@@ -130,13 +144,9 @@ fn is_at_the_edge(
     y: i64,
     wanted: &[i64; 5],
 ) -> Result<(), Fault> {
-    let mut dag = graph_of(alloc, bits, &[Node::InputWord(0), Node::InputWord(1)])?;
     let env = env_of(alloc, &[], &[x, y])?;
-    for i in 0..5 {
-        expect_value(&mut dag, &env, operator(i, X, Y), Value::Int(wanted[i]))?;
-    }
-    expect_value(&mut dag, &env, Node::Lt(X, Y), Value::Bit(x < y))?;
-    expect_value(&mut dag, &env, Node::Eq(X, Y), Value::Bit(x == y))
+    let mut dag = graph_of(alloc, bits, &[Node::InputWord(0), Node::InputWord(1)])?;
+    are_at_the_edge(&mut dag, &env, x, y, wanted)
 }
 
 /// Tells of the table of words.
