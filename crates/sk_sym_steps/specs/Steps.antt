@@ -1,0 +1,50 @@
+-- What steps do with shapes that are given.
+use Rattle.std.specs.Prelude.{◌≡◌, ℕ, ◌==◌, Bool, false, List, map, replicate, Option, Some, None, slice_get}
+use Rattle.sk_dag.specs.declared.env.Env.{Env}
+use Rattle.sk_dag.specs.declared.shape.Shape.{Shape}
+use Rattle.sk_dag.specs.declared.shape.Seen.{Seen}
+use Rattle.sk_dag.specs.Graph.{Graph}
+use Rattle.sk_arr.specs.Shapes.{blank, Stands, SlotsPass, AllSlotsPass}
+use Rattle.sk_heap.specs.declared.slot.Slot.{Slot}
+use Rattle.sk_prog.specs.declared.ids.StructId.{StructId}
+use Rattle.sk_prog.specs.declared.ty.Elem.{Elem}
+use Rattle.sk_prog.specs.declared.ty.Elem.TheVariants as elem
+use Rattle.sk_prog.specs.declared.value.Value.{Value}
+use Rattle.sk_model.specs.Step.{Comp}
+use Rattle.sk_sym_state.specs.declared.setting.Setting.{Setting}
+use Rattle.sk_sym_state.specs.declared.state.SymState.{SymState}
+use Rattle.sk_sym_state.specs.Seen.{IsWorth}
+use Rattle.sk_sym_state.specs.Meaning.{DoesOn}
+
+abbrev pub same_kind : StructId → Option StructId → Bool
+same_kind s None = false
+same_kind s (Some kind) = kind.index == s.index
+
+-- whether the slot with this number is there, by the structs of the slots, and one of this struct
+abbrev pub is_kind : List StructId → StructId → ℕ → Bool
+is_kind structs s n = same_kind s (slice_get structs n)
+
+-- whether a value of this type may refer to the slot
+abbrev pub may_name_kind : List StructId → Elem → ℕ → Bool
+may_name_kind structs elem.Bit n = false
+may_name_kind structs elem.Int n = false
+may_name_kind structs (elem.Reference s) n = is_kind structs s n
+
+-- both shapes are worth these values
+abbrev pub AreTwo : List Slot → Shape → Shape → Graph → Env → Value × Value → Type 0
+AreTwo heap a b g e vs = IsWorth g e heap a vs.0 × IsWorth g e heap b vs.1
+
+-- with something that is given the run goes on with what a shape is worth
+pub record EvaluatesOn {A : Type 0} (x : Setting) (d0 d1 : Graph) (s0 s1 : SymState) (Given : Graph → Env → A → Type 0) (r : Shape) (k : Env → A → Comp Value) : Type 0 where
+  pub does : DoesOn x d0 d1 s0 s1 Given (λ g e. IsWorth g e s1.heap r) k
+  pub there : Stands d1 r
+
+-- the shape is of this form, and each slot that it names may be named by this type
+pub record HasType (structs : List StructId) (t : Elem) (form : Seen) (r : Shape) : Type 0 where
+  pub formed : blank r ≡ form
+  pub named : SlotsPass (may_name_kind structs t) r
+
+-- so many shapes of this form, whose slots may be named by this type
+pub record AreOfForm (structs : List StructId) (t : Elem) (count : ℕ) (form : Seen) (list : List Shape) : Type 0 where
+  pub formed : map blank list ≡ replicate count form
+  pub named : AllSlotsPass (may_name_kind structs t) list

@@ -1,0 +1,10 @@
+//! Steps of a run over the nodes of a graph: what is paid, and what is done with records.
+#![tactic(auto)]
+
+mod cost;
+mod record;
+mod typed;
+
+pub use cost::pay;
+pub use typed::is_of_type;
+pub use record::{allocate, read_field};
