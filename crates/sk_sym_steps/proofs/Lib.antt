@@ -1,3 +1,3 @@
 pub mod Costs
 pub mod Records
-pub mod Typed
+pub mod Kinds
