@@ -1,8 +1,10 @@
 """Says what each text of the tests of expansion, sizes and fillings comes to, computed by the reference apart from the
-program: as rows of the tables in crates/sk_expansion_rows.
+program: as rows of crates/stages/data (sizes.txt, fillings.txt, spans.txt, layouts.txt).
 
     python3 expansions.py
 """
+import re
+
 from sketch import load, expand, sites, steps, nodes, fill, layout
 
 MOST_NODES, MOST_SITES, MOST_STEPS, MOST_NEWS = 262144, 4096, 262144, 256
@@ -165,8 +167,8 @@ def padded(make, base, chunk, want):
 
 def limit(name, make, count, chunk, most, opts):
     base = count(make(""), opts)
-    for more in (-1, 0, 1):
-        yield "%s: %+d" % (name, more), padded(make, base, chunk, most + more), opts
+    for more, title in ((-1, "one %s below the limit"), (0, "%ss at the limit"), (1, "one %s above it")):
+        yield title % name, padded(make, base, chunk, most + more), opts
 
 
 def nodes_of(text, opts):
@@ -179,18 +181,14 @@ def steps_of(text, opts):
     return sum(steps(expand(p, b), b, "steps"))
 
 
-LIMITS = list(limit("nodes", lambda rest: loops("repeat (64) { repeat (63) { repeat (20) { assert 1; } } } " + rest), nodes_of, 194, MOST_NODES, {}))
-LIMITS += list(limit("steps", lambda rest: loops("while (0) while (0) while (0) assert 1; " + rest), steps_of, 193, MOST_STEPS, {"unroll": 39}))
+LIMITS = list(limit("node", lambda rest: loops("repeat (64) { repeat (63) { repeat (20) { assert 1; } } } " + rest), nodes_of, 194, MOST_NODES, {}))
+LIMITS += list(limit("step", lambda rest: loops("while (0) while (0) while (0) assert 1; " + rest), steps_of, 193, MOST_STEPS, {"unroll": 39}))
 for k in (4095, 4096, 4097):
     a, b = divmod(k, 64)
     LIMITS.append(("sites: %d" % k, loops("repeat (%d) { repeat (64) { int h = ??; } } repeat (%d) { int h = ??; }" % (a, b)), {}))
 for k in (255, 256, 257):
     LIMITS.append(("records: %d" % k, "struct P { int u; } " + loops("repeat (%d) { P p = new P(u = 1); } repeat (%d) { P p = new P(u = 1); } repeat (4) { repeat (50) { P p = new P(u = 1); } }" % (k - 210, 10)), {}))
 LIMITS.append(("sixteen calls of itself in a generator", "generator int g(int x) { return " + " + ".join(["g(x)"] * 16) + "; } harness void main(int x) { assert g(x) == 0; }", {"inline": 16}))
-
-
-def rust(text):
-    return 'b"%s"' % text.replace("\\", "\\\\").replace('"', '\\"').replace("\n", "\\n")
 
 
 def measured(text, opts):
@@ -210,8 +208,20 @@ def measured(text, opts):
     return "functions %d steps %d records %d sites %d" % (len(e.funs), sum(runs), max(news, default=0), len(ss)), ss
 
 
-def bounds(opts):
-    return "[%d, %d, %d]" % (opts.get("cbits", 5), opts.get("unroll", 8), opts.get("inline", 5))
+def words(stage, opts, numbers=()):
+    """The words of a row: what is shown, with these numbers and bounds."""
+    out = [stage] + [str(n) for n in numbers]
+    for name, option in (("cbits", "--bnd-cbits"), ("unroll", "--bnd-unroll-amnt"), ("inline", "--bnd-inline-amnt")):
+        if name in opts:
+            out += [option, str(opts[name])]
+    return " ".join(out)
+
+
+def escaped(text):
+    """The text with its many equal statements as pieces, each with how often it stands."""
+    for piece in ("repeat (64) { assert 1; } ", "assert (1); ", "assert 1; "):
+        text = re.sub("(?:%s){4,}" % re.escape(piece), lambda run: "\\%d{%s}" % (len(run[0]) // len(piece), piece.replace("}", "\\}")), text)
+    return text
 
 
 def spans(text, words):
@@ -219,41 +229,36 @@ def spans(text, words):
     told = ""
     for statement, *inner in words:
         first = text.index(statement)
-        told += "%d %d " % (first, first + len(statement))
+        told += "%d %d" % (first, first + len(statement))
         for word in inner:
             # The value of a declaration stands behind its `=`.
             first_in = text.index(word, text.index("=", first) if statement[0] in "ib" else first)
-            told += "%d %d " % (first_in, first_in + len(word))
-        told += ";"
+            told += " %d %d" % (first_in, first_in + len(word))
+        told += "\n"
     return told
 
 
-def row(name, *cells):
-    print("    // %s" % name)
-    print("    (%s)," % ", ".join(cells))
+def row(title, stage, text, wanted):
+    print("\n=== %s\n%s\n---\n%s\n---\n%s" % (title, stage, text, wanted.rstrip("\n")))
 
 
 def main():
-    print("const SIZES: [(&[u8], [u32; 3], &[u8]); %d] = [" % len(SIZES))
     for name, text, opts in SIZES:
-        words, ss = measured(text, opts)
-        row(name, rust(text), bounds(opts), rust(words + "".join(" %d" % s for s in ss)))
-    print("];\n\nconst LIMITS: [(&[u8], [u32; 3], &[u8]); %d] = [" % len(LIMITS))
+        told, ss = measured(text, opts)
+        row(name, words("sizes", opts), text, told + "".join(" %d" % s for s in ss))
     for name, text, opts in LIMITS:
-        row(name, rust(text), bounds(opts), rust("Copies" if name.startswith("sixteen") else measured(text, opts)[0]))
-    print("];\n\nconst FILLINGS: [(&[u8], [u32; 3], &[u64], &[u8]); %d] = [" % len(FILLINGS))
+        told = "Copies" if name.startswith("sixteen") else measured(text, opts)[0]
+        short = escaped(text)
+        row(name, words("totals" if short == text else "totals escaped", opts), short, told)
     for name, text, opts, values in FILLINGS:
         p, b = load(text, **opts)
         e = expand(p, b)
         assert len(sites(e, b)) == len(values)  # numbers the sites too
-        row(name, rust(text), bounds(opts), "&[%s]" % ", ".join(map(str, values)), rust(layout(fill(e, values))))
-    print("];\n\nconst SPANS: [(&[u8], [u32; 3], &[u64], usize, &[u8]); %d] = [" % len(SPANS))
-    for name, text, opts, values, which, words in SPANS:
-        row(name, rust(text), bounds(opts), "&[%s]" % ", ".join(map(str, values)), str(which), rust(spans(text, words)))
-    print("];\n\nconst LAYOUTS: [(&[u8], &[u8]); %d] = [" % len(LAYOUTS))
+        row(name, words("filling", opts, values), text, layout(fill(e, values)))
+    for name, text, opts, values, which, parts in SPANS:
+        row(name, words("spans", opts, [which] + values), text, spans(text, parts))
     for name, text in LAYOUTS:
-        row(name, rust(text), rust(layout(load(text)[0])))
-    print("];")
+        row(name, "layout", text, layout(load(text)[0]))
 
 
 if __name__ == "__main__":

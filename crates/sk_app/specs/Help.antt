@@ -4,22 +4,25 @@ use Rattle.std.specs.Prelude.{ℕ, List, ◌++◌, codes}
 -- how the program is called, and its options
 abbrev pub usage_text : List ℕ
 usage_text =
-    codes "Completes sketches: programs with open parts, and harnesses that say what must hold.\n"
+    codes "Completes sketches: programs with holes, and harnesses that say what must hold.\n"
     ++ codes "\n"
-    ++ codes "sketch synth [OPTION].. < SKETCH               writes the sketch completed, or the line //@ none\n"
+    ++ codes "sketch synth [OPTION].. < SKETCH               writes the completed sketch, or the line //@ none\n"
     ++ codes "sketch exec [OPTION].. NAME VALUE.. < PROGRAM  writes what the function NAME gives for the values\n"
     ++ codes "sketch --help                                  writes this help\n"
     ++ codes "sketch --version                               writes the version\n"
     ++ codes "\n"
+    ++ codes "A sketch may use the whole language, and is to be small: synth tries every choice of hole values on\n"
+    ++ codes "every input, at most 32768 choices and as many pairs of a choice and an input.\n"
+    ++ codes "\n"
     ++ codes "An option is --name N or --name=N, and stands once.\n"
     ++ codes "\n"
-    ++ codes "  --bnd-cbits        1 to 16, else 5          bits of an open number\n"
+    ++ codes "  --bnd-cbits        1 to 16, else 5          bits of a hole ??\n"
     ++ codes "  --bnd-inbits       1 to 16, else 5          bits of an integer input\n"
     ++ codes "  --bnd-unroll-amnt  0 to 64, else 8          turns of a loop\n"
     ++ codes "  --bnd-inline-amnt  1 to 16, else 5          active calls of one function\n"
     ++ codes "  --int-bits         6 to 32, else 16         bits of int\n"
-    ++ codes "  --rounds           0 to 1000000, else 0     not used yet\n"
-    ++ codes "  --conflicts        0 to 1000000000, else 0  not used yet\n"
+    ++ codes "  --rounds           0 to 1000000, else 0     without effect\n"
+    ++ codes "  --conflicts        0 to 1000000000, else 0  without effect\n"
 
 -- the statuses with which it ends
 abbrev pub statuses_text : List ℕ
@@ -28,7 +31,7 @@ statuses_text =
     ++ codes "It ends with one of these, and from 10 on says more on standard error.\n"
     ++ codes "\n"
     ++ codes "   0  completed, or the run is done\n"
-    ++ codes "   1  no completion meets the harness on every input\n"
+    ++ codes "   1  no completion meets the harnesses and references on every input\n"
     ++ codes "   4  the run failed\n"
     ++ codes "   5  the run was skipped\n"
     ++ codes "  10  the words are no command line\n"
@@ -38,10 +41,9 @@ statuses_text =
     ++ codes "  14  standard input failed\n"
     ++ codes "  15  standard output failed\n"
     ++ codes "  16  the text has more than 1048576 bytes\n"
-    ++ codes "  17  memory was wanting\n"
+    ++ codes "  17  out of memory\n"
     ++ codes "  18  the function cannot be run\n"
-    ++ codes "  20  not there yet: check, self, --cert, and sketches beyond one harness\n"
-    ++ codes "      of int parameters, declarations, assignments and equations\n"
+    ++ codes "  20  not built: a sketch that is not small, or a line with check, self or --cert\n"
 
 abbrev pub help_text : List ℕ
 help_text = usage_text ++ statuses_text

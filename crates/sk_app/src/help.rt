@@ -9,22 +9,25 @@ use std::alloc::{AllocError, Global};
 fn usage() -> &'static [u8]
     ensures { result.now ≡ usage_text }
 {
-    b"Completes sketches: programs with open parts, and harnesses that say what must hold.
+    b"Completes sketches: programs with holes, and harnesses that say what must hold.
 
-sketch synth [OPTION].. < SKETCH               writes the sketch completed, or the line //@ none
+sketch synth [OPTION].. < SKETCH               writes the completed sketch, or the line //@ none
 sketch exec [OPTION].. NAME VALUE.. < PROGRAM  writes what the function NAME gives for the values
 sketch --help                                  writes this help
 sketch --version                               writes the version
 
+A sketch may use the whole language, and is to be small: synth tries every choice of hole values on
+every input, at most 32768 choices and as many pairs of a choice and an input.
+
 An option is --name N or --name=N, and stands once.
 
-  --bnd-cbits        1 to 16, else 5          bits of an open number
+  --bnd-cbits        1 to 16, else 5          bits of a hole ??
   --bnd-inbits       1 to 16, else 5          bits of an integer input
   --bnd-unroll-amnt  0 to 64, else 8          turns of a loop
   --bnd-inline-amnt  1 to 16, else 5          active calls of one function
   --int-bits         6 to 32, else 16         bits of int
-  --rounds           0 to 1000000, else 0     not used yet
-  --conflicts        0 to 1000000000, else 0  not used yet
+  --rounds           0 to 1000000, else 0     without effect
+  --conflicts        0 to 1000000000, else 0  without effect
 "
 }
 
@@ -36,7 +39,7 @@ fn statuses() -> &'static [u8]
 It ends with one of these, and from 10 on says more on standard error.
 
    0  completed, or the run is done
-   1  no completion meets the harness on every input
+   1  no completion meets the harnesses and references on every input
    4  the run failed
    5  the run was skipped
   10  the words are no command line
@@ -46,10 +49,9 @@ It ends with one of these, and from 10 on says more on standard error.
   14  standard input failed
   15  standard output failed
   16  the text has more than 1048576 bytes
-  17  memory was wanting
+  17  out of memory
   18  the function cannot be run
-  20  not there yet: check, self, --cert, and sketches beyond one harness
-      of int parameters, declarations, assignments and equations
+  20  not built: a sketch that is not small, or a line with check, self or --cert
 "
 }
 

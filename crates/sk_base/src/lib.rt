@@ -20,6 +20,3 @@ pub use source::{Got, Source};
 pub use span::Span;
 pub use sqlite_items::{Boxed, Items as List, at};
 pub use word::wrap;
-
-#[cfg(test)]
-mod tests;

@@ -4,10 +4,6 @@
 mod executing;
 mod fault;
 pub mod laws;
-#[cfg(test)]
-mod programs;
-#[cfg(test)]
-mod tests;
 
 pub use executing::{Executed, execute};
 pub use fault::ExecFault;

@@ -4,8 +4,6 @@
 mod expansion;
 mod fault;
 mod program;
-#[cfg(test)]
-mod tests;
 mod tree;
 
 pub use expansion::{Expansion, expansion_of, sized_expansion_of};

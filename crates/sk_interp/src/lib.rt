@@ -13,8 +13,6 @@ mod part;
 mod record;
 mod row;
 mod stop;
-#[cfg(test)]
-mod tests;
 mod value;
 
 pub use entry::exec;

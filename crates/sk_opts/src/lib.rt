@@ -15,6 +15,3 @@ mod words;
 pub use limits::bounds;
 pub use line::{Line, Set, Usage};
 pub use lines::options;
-
-#[cfg(test)]
-mod tests;

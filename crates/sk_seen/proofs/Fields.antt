@@ -1,7 +1,7 @@
 -- What reads and writes of fields are to the records of a heap.
 use Rattle.std.proofs.lemmas.Bool.{eqb-true, eq-eqb}
 use Rattle.std.proofs.lemmas.Option.{none-some, same_Some, slice_get_within, get_or_from_slice_get, slice_get-map}
-use Rattle.std.proofs.Common.{◌≡◌, ℕ, zero, suc, ◌==◌, ◌&&◌, Bool, true, false, true≢false, is_none, List, [], ◌∷◌, map, IsTrue, Option, Some, None, option_map, slice_get, slice_set, slice_index_or, refl, sym, ap, subst, ◌∙◌, if◌then◌else◌}
+use Rattle.std.proofs.Common.{◌≡◌, ℕ, zero, suc, ◌==◌, ◌&&◌, Bool, true, false, true≢false, is_none, List, [], ◌∷◌, ◌++◌, map, IsTrue, Option, Some, None, option_map, slice_get, slice_set, slice_index_or, refl, sym, ap, subst, ◌∙◌, if◌then◌else◌, length}
 use Rattle.sk_base.specs.declared.span.Span.{Span}
 use Rattle.sk_dag.specs.declared.env.Env.{Env}
 use Rattle.sk_dag.specs.declared.node.BoolId.{BoolId}
@@ -24,7 +24,7 @@ use Rattle.sk_model.specs.Heap.{record_at, blank, read_field}
 use Rattle.sk_heap.specs.declared.slot.Slot.{Slot}
 use Rattle.sk_heap.specs.Fields.{field_in, field_value}
 use Rattle.sk_heap.specs.Answers.{guard_of, slot_of, is_at, is_written, IsFieldRead, IsFieldWritten}
-use Rattle.sk_heap.proofs.Heaps.{mapped_at}
+use Rattle.sk_heap.proofs.Heaps.{get_last, mapped_at}
 use Rattle.sk_seen.specs.Values.{place_of, guard_holds, holds_in, value_of, value_in, IsLive, ShapeLive}
 use Rattle.sk_seen.specs.Heaps.{records_of, record_in, heap_value, HeapLive, HeapGrows}
 use Rattle.sk_seen.proofs.Parts.{of_null, of_slot, slot_live}
@@ -61,6 +61,14 @@ module _ {A : Type 0} where
   map_set f [] i y = refl
   map_set f (x ∷ xs) zero y = refl
   map_set f (x ∷ xs) (suc i) y = ap (λ l. f x ∷ l) (map_set f xs i y)
+
+  -- the last of a list
+  pub set_last : (xs : List A) (x y : A) → slice_set (xs ++ x ∷ []) (length xs) y ≡ xs ++ y ∷ []
+  set_last [] x y = refl
+  set_last (z ∷ xs) x y = ap (λ l. z ∷ l) (set_last xs x y)
+
+  pub index_last : (xs : List A) (x d : A) → slice_index_or (xs ++ x ∷ []) (length xs) d ≡ x
+  index_last xs x d = index_is (xs ++ x ∷ []) (length xs) x d (get_last xs x)
 
 -- a field that has a value is one of a slot
 pub field_of_slot : (g : Graph) (e : Env) (heap : List Slot) (n field : ℕ) (v : Seen) → field_value g e heap n field ≡ Some v → (slot : Slot) × (slice_get heap n ≡ Some slot) × (slice_get (shapes_value g e slot.fields) field ≡ Some v)

@@ -1,7 +1,7 @@
 -- Heaps that grow: old slots hold where they held, and what was live stays live and is worth the same.
 use Rattle.std.proofs.lemmas.Bool.{ltb-true, lt-ltb}
 use Rattle.std.proofs.lemmas.Option.{none-some, same_Some, slice_get_within}
-use Rattle.std.proofs.Common.{◌≡◌, ℕ, zero, suc, ◌<◌, ◌≤◌, true≢false, List, [], ◌∷◌, ◌++◌, map, length, IsTrue, Option, Some, None, slice_get, refl, sym, ap, ◌∙◌, arith}
+use Rattle.std.proofs.Common.{nat_lt, ◌≡◌, ℕ, zero, suc, ◌<◌, ◌≤◌, true≢false, List, [], ◌∷◌, ◌++◌, map, length, IsTrue, Option, Some, None, slice_get, refl, sym, ap, ◌∙◌, arith}
 use Rattle.sk_dag.specs.declared.env.Env.{Env}
 use Rattle.sk_dag.specs.declared.node.BoolId.{BoolId}
 use Rattle.sk_dag.specs.declared.shape.Seen.{Seen}
@@ -10,7 +10,15 @@ use Rattle.sk_dag.specs.Graph.{Graph}
 use Rattle.sk_dag.specs.Eval.{bool_value}
 use Rattle.sk_dag.specs.EvalShape.{shape_value}
 use Rattle.sk_arr.proofs.Values.{length_map}
+use Rattle.sk_dag.specs.declared.shape.Shape.TheVariants as shape
+use Rattle.sk_dag.specs.declared.shape.Targets.{Targets}
+use Rattle.sk_prog.specs.declared.ids.StructId.{StructId}
+use Rattle.sk_prog.specs.declared.ty.Elem.{Elem}
+use Rattle.sk_prog.specs.declared.ty.Elem.TheVariants as elem
+use Rattle.sk_prog.specs.declared.ty.Ty.{Ty}
 use Rattle.sk_heap.specs.declared.slot.Slot.{Slot}
+use Rattle.sk_heap.specs.Types.{elem_of}
+use Rattle.sk_heap.specs.Heaps.{is_of, may_name, IsOfType, RefersTo}
 use Rattle.sk_heap.specs.Answers.{guard_of, struct_of}
 use Rattle.sk_heap.proofs.Heaps.{StaysOf, SlotsPass-more, get_front, of_there, there_of, mapped_at}
 use Rattle.sk_seen.specs.Values.{place_of, guard_holds, holds_in, value_of, value_in, values_in, IsLive, AllLive, ShapeLive}
@@ -62,6 +70,21 @@ HeapGrows-long {old} {new} more n lt =
 
 pub within_grows : {old new : List Slot} → HeapGrows old new → (s : Shape) → IsWithin old s → IsWithin new s
 within_grows {old} {new} more s h = record { named = SlotsPass-more (λ n lt. lt-ltb n (length new) (HeapGrows-long more n (ltb-true n (length old) lt))) h.named }
+
+-- what is of a type, or refers to a struct, names slots that are there
+pub of_within : (heap : List Slot) (s : StructId) (n : ℕ) → IsTrue (is_of heap s n) → IsTrue (nat_lt n (length heap))
+of_within heap s n h = let found = of_there heap s n h in lt-ltb n (length heap) (slice_get_within heap n found.0 found.1)
+
+named_within : (heap : List Slot) (t : Elem) (n : ℕ) → IsTrue (may_name heap t n) → IsTrue (nat_lt n (length heap))
+named_within heap elem.Bit n h = absurd (true≢false (sym h))
+named_within heap elem.Int n h = absurd (true≢false (sym h))
+named_within heap (elem.Reference s) n h = of_within heap s n h
+
+pub type_within : {heap : List Slot} {t : Ty} {r : Shape} → IsOfType heap t r → IsWithin heap r
+type_within {heap} {t} h = record { named = SlotsPass-more (named_within heap (elem_of t)) h.slots }
+
+pub refers_within : {g : Graph} {heap : List Slot} {s : StructId} {target : Targets} → RefersTo g heap s target → IsWithin heap (shape.Reference target)
+refers_within {heap = heap} {s = s} h = record { named = SlotsPass-more (of_within heap s) h.slots }
 
 -- ---- what holds
 

@@ -5,8 +5,6 @@ mod arguments;
 mod fault;
 mod number;
 mod scalar;
-#[cfg(test)]
-mod tests;
 mod value;
 mod writer;
 

@@ -1,0 +1,47 @@
+//! How a line ends on a text in memory.
+use crate::settings::Settings;
+use row_files::words_of;
+use sk_app::{message, run, status};
+use sk_base::{List, MemSink, MemSource, push_number};
+use std::alloc::{AllocError, Global};
+
+/// How a line ended, and what it wrote.
+#[derive(Debug, Drop)]
+pub struct Ended {
+    /// The status, and behind a blank the message where there is one.
+    pub head: Vec<u8>,
+    pub output: Vec<u8>,
+}
+
+/// Runs a line on a text.
+pub fn run_line(
+    alloc: Global,
+    line: &[u8],
+    text: Vec<u8>,
+    settings: Settings,
+) -> Result<Ended, AllocError> {
+    let words = words_of(alloc, line)?;
+    let Settings {
+        source,
+        sink,
+        once: _,
+    } = settings;
+    let mut source = MemSource::new(List::from_vec(text), source.fails, source.step);
+    let mut sink = MemSink::new(alloc, sink.fails, sink.step);
+    let ending = run(alloc, words.as_slice(), &mut source, &mut sink);
+    let message = message(alloc, &ending)?;
+    let head = head_of(alloc, status(&ending), message.as_bytes())?;
+    let output = Vec::from_slice(alloc, sink.bytes())?;
+    Ok(Ended { head, output })
+}
+
+/// A status, and behind a blank the message where there is one.
+pub fn head_of(alloc: Global, status: u8, message: &[u8]) -> Result<Vec<u8>, AllocError> {
+    let mut head = Vec::new(alloc);
+    push_number(&mut head, u64::from(status))?;
+    if !message.is_empty() {
+        head.push(b' ')?;
+        head.extend_from_slice(message)?;
+    }
+    Ok(head)
+}

@@ -1,0 +1,14 @@
+mod Computed
+mod Joined
+mod Written
+mod Exact
+mod OneLine
+mod Numbers
+mod Pieces
+mod Scalars
+mod Marks
+mod Program
+mod Parts
+mod Uppers
+mod Whole
+mod Departure

@@ -1,0 +1,17 @@
+//! Texts of certificates, each computed by the check.
+ghost use Rattle.sk_cert.specs.Examples.{CertificateOfNothing, CertificateByObligation, CertificateOfVersionOne, CertificateOfNone, LineOfVersionThree, EndOfVersionSeven};
+
+/// Certificates: of the empty sketch; of two obligations with an input and a lower part; of version 1; and that there is
+/// no completion.
+pub fn texts_of_certificates()
+    ensures nothing { CertificateOfNothing }
+    ensures obligations { CertificateByObligation }
+    ensures first_version { CertificateOfVersionOne }
+    ensures none { CertificateOfNone }
+{}
+
+/// What is left begins with a line of version 3, and is one of version 7 without its line feed.
+pub fn lines_of_other_versions()
+    ensures three { LineOfVersionThree }
+    ensures seven { EndOfVersionSeven }
+{}

@@ -1,2 +1,0 @@
-pub mod Fillable
-pub mod Completable

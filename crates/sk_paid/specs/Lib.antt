@@ -1,0 +1,5 @@
+pub mod Orders
+pub mod Guards
+pub mod Walk
+pub mod Sizes
+pub mod Programs

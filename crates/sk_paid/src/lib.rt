@@ -1,0 +1,15 @@
+//! What depends on a choice before anything runs: the turns of the statements of a `reorder` as nodes of a graph, what calls and
+//! pays in each body with the tests under which it stands, and such tests as nodes.
+#![tactic(auto)]
+
+mod guard;
+mod met;
+mod node;
+mod order;
+mod walker;
+
+pub use guard::{Called, Owed, Test};
+pub use met::Met;
+pub use node::all_met;
+pub use order::turns_of;
+pub use walker::guards_of;
