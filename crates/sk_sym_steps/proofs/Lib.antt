@@ -1,3 +1,3 @@
 pub mod Costs
 pub mod Records
-pub mod Kinds
+pub mod Naming

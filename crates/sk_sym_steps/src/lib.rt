@@ -6,5 +6,5 @@ mod record;
 mod typed;
 
 pub use cost::pay;
-pub use typed::is_of_type;
 pub use record::{allocate, read_field};
+pub use typed::is_of_type;

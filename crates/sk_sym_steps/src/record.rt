@@ -100,10 +100,14 @@ pub fn read_field(
     let Shape::Reference(target) = reference else {
         return Err(AllocError);
     };
-    if !has_field(prog, s, field) || !are_kind(state.structs.as_slice(), s, target.slots.as_slice()) {
+    if !has_field(prog, s, field)
+        || !are_kind(state.structs.as_slice(), s, target.slots.as_slice())
+    {
         return Err(AllocError);
     }
-    let (r, null) = state.heap.read_field(setting.alloc, dag, prog, s, target, field)?;
+    let (r, null) = state
+        .heap
+        .read_field(setting.alloc, dag, prog, s, target, field)?;
     state.fail_where(setting, dag, null)?;
     Ok(r)
 }

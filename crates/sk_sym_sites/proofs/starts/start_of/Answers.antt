@@ -1,0 +1,6 @@
+use Rattle.std.proofs.Common.{ap, ◌∙◌}
+use Rattle.sk_sym_sites.proofs.Trees.{before_is}
+use Rattle.sk_sym_sites.proofs.starts.start_of.Goals as goal
+
+pub returns : goal.returns
+returns c = record { place = λ bounds values call. c.in_ok-at.ensures ∙ before_is c.args.prog.now bounds values call c.args.prog.now.funs c.args.f }
