@@ -1,0 +1,12 @@
+use Rattle.sk_arr.proofs.Standing.{array_stands}
+use Rattle.sk_sym_frames.proofs.Results.{either_list}
+use Rattle.sk_sym_frames.proofs.ended.either_list.Goals as goal
+
+pub join_shapes-requires-clause-a : goal.join_shapes-requires-clause-a
+join_shapes-requires-clause-a c = array_stands c.args.dag.now c.args.a c.requires.a
+
+pub join_shapes-requires-clause-b : goal.join_shapes-requires-clause-b
+join_shapes-requires-clause-b c = array_stands c.args.dag.now c.args.b c.requires.b
+
+pub returns-in-Array-clause-either : goal.returns-in-Array-clause-either
+returns-in-Array-clause-either c = either_list c.args.a c.args.b c.in-Array.made c.in-Array.is c.in_ok-r.ensures.choice
