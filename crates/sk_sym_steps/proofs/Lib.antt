@@ -1,3 +1,4 @@
 pub mod Costs
 pub mod Records
 pub mod Naming
+pub mod Conditions

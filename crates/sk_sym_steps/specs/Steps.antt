@@ -10,7 +10,10 @@ use Rattle.sk_prog.specs.declared.ids.StructId.{StructId}
 use Rattle.sk_prog.specs.declared.ty.Elem.{Elem}
 use Rattle.sk_prog.specs.declared.ty.Elem.TheVariants as elem
 use Rattle.sk_prog.specs.declared.value.Value.{Value}
-use Rattle.sk_model.specs.Step.{Comp}
+use Rattle.sk_base.specs.declared.span.Span.{Span}
+use Rattle.sk_model.specs.Step.{Comp, pure, fail, skip}
+use Rattle.sk_model.specs.Eval.{choose}
+use Rattle.sk_model.specs.Exec.{Flow, Onward}
 use Rattle.sk_sym_state.specs.declared.setting.Setting.{Setting}
 use Rattle.sk_sym_state.specs.declared.state.SymState.{SymState}
 use Rattle.sk_sym_state.specs.Seen.{IsWorth}
@@ -48,3 +51,10 @@ pub record HasType (structs : List StructId) (t : Elem) (form : Seen) (r : Shape
 pub record AreOfForm (structs : List StructId) (t : Elem) (count : ℕ) (form : Seen) (list : List Shape) : Type 0 where
   pub formed : map blank list ≡ replicate count form
   pub named : AllSlotsPass (may_name_kind structs t) list
+
+-- goes on where the bit holds, and else fails, or is skipped
+abbrev pub asserted : Span → Value → Comp Flow
+asserted span = choose span (pure Onward) (fail span)
+
+abbrev pub assumed : Span → Value → Comp Flow
+assumed span = choose span (pure Onward) (skip span)

@@ -1,10 +1,12 @@
-//! Steps of a run over the nodes of a graph: what is paid, and what is done with records.
+//! Steps of a run over the nodes of a graph: conditions, what is paid, and what is done with records.
 #![tactic(auto)]
 
+mod condition;
 mod cost;
 mod record;
 mod typed;
 
+pub use condition::{assert_that, assume_that};
 pub use cost::pay;
 pub use record::{allocate, read_field};
 pub use typed::is_of_type;
