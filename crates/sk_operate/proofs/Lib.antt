@@ -1,0 +1,5 @@
+pub mod Computing
+pub mod Forms
+pub mod Operating
+pub mod Elements
+pub mod BitRows

@@ -1,0 +1,17 @@
+//! What the operators of a program do with shapes: a shape, and a node that holds where they fail.
+#![tactic(auto)]
+
+mod binary;
+mod element;
+mod form;
+mod operated;
+mod reading;
+mod rows;
+mod single;
+mod words;
+
+pub use binary::operator;
+pub use element::indexed;
+pub use form::alike;
+pub use operated::Operated;
+pub use single::{to_int, unary};
