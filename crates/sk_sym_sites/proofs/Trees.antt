@@ -1,5 +1,5 @@
 -- The count of a part is how many sites it has, whatever is chosen and whatever calls do.
-use Rattle.std.proofs.Common.{◌≡◌, ℕ, zero, suc, ◌+◌, ◌-◌, Bool, true, false, List, [], ◌∷◌, map, length, Option, Some, None, refl, sym, ap, ◌∙◌}
+use Rattle.std.proofs.Common.{◌≡◌, ℕ, zero, suc, ◌+◌, ◌-◌, Bool, true, false, List, [], ◌∷◌, map, length, take, Option, Some, None, refl, sym, ap, ◌∙◌}
 use Rattle.std.specs.Prelude.{if◌then◌else◌}
 use Rattle.std.proofs.lemmas.List.{length-map}
 use Rattle.sk_base.specs.declared.span.Span.{Span}
@@ -30,7 +30,7 @@ use Rattle.sk_model.specs.Open.{open_eform, open_field, open_expr, any_open, ope
 use Rattle.sk_model.proofs.Layers.{layer_field, expr_layer, stmt_layer}
 use Rattle.sk_model.proofs.Induction.{Each, ExprCases, expr_ind, StmtCases, stmt_ind}
 use Rattle.sk_sym_sites.specs.Counts.{eform_count, expr_count, field_count, value_count, any_count, copies_count, form_count, stmt_count, stmts_count}
-use Rattle.sk_sym_sites.specs.Places.{before}
+use Rattle.sk_sym_sites.specs.Places.{funs_count}
 
 module _ (prog : Prog) (bounds : Bounds) (values : List ℕ) (call : Calls) where
   abbrev opened : PExpr → Part Does
@@ -164,7 +164,7 @@ module _ (prog : Prog) (bounds : Bounds) (values : List ℕ) (call : Calls) wher
   pub counts_body : (ss : List PStmt) → counts (map opened_stmt ss) ≡ stmts_count ss
   counts_body ss = line ss (all_count ss)
 
-  pub before_is : (funs : List Fun) (f : ℕ) → before funs f ≡ sites_before prog bounds values call funs f
+  pub before_is : (funs : List Fun) (f : ℕ) → funs_count (take f funs) ≡ sites_before prog bounds values call funs f
   before_is funs zero = refl
   before_is [] (suc f) = refl
   before_is (fun ∷ funs) (suc f) = two (sym (counts_body fun.body)) (before_is funs f)

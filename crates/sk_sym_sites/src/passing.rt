@@ -61,24 +61,6 @@ fn pass_pattern(at: &mut usize, es: &[PExpr]) -> Result<(), AllocError>
     Ok(())
 }
 
-#[cycle(pass_expr)]
-fn pass_two(at: &mut usize, a: &PExpr, b: &PExpr) -> Result<(), AllocError>
-    ensures { OnOk result (at.new ≡ at.old + (expr_count a.now + expr_count b.now)) }
-{
-    pass_expr(at, a)?;
-    pass_expr(at, b)?;
-    Ok(())
-}
-
-#[cycle(pass_expr)]
-fn pass_three(at: &mut usize, a: &PExpr, b: &PExpr, c: &PExpr) -> Result<(), AllocError>
-    ensures { OnOk result (at.new ≡ at.old + (expr_count a.now + (expr_count b.now + expr_count c.now))) }
-{
-    pass_expr(at, a)?;
-    pass_two(at, b, c)?;
-    Ok(())
-}
-
 /// Passes the sites of an expression.
 ///
 /// # Errors
@@ -100,14 +82,27 @@ pub fn pass_expr(at: &mut usize, e: &PExpr) -> Result<(), AllocError>
         PEForm::Call { f: _, args } => pass_exprs(at, args.as_slice()),
         PEForm::New { s: _, fields } => pass_fields(at, fields.as_slice()),
         PEForm::Braces(es) => pass_exprs(at, es.as_slice()),
-        PEForm::Index { base, index } => pass_two(at, base.get(), index.get()),
+        PEForm::Index { base, index } => {
+            pass_expr(at, base.get())?;
+            pass_expr(at, index.get())
+        }
         PEForm::Slice {
             base,
             from,
             length: _,
-        } => pass_two(at, base.get(), from.get()),
-        PEForm::Binary { op: _, left, right } => pass_two(at, left.get(), right.get()),
-        PEForm::Cond { cond, then, other } => pass_three(at, cond.get(), then.get(), other.get()),
+        } => {
+            pass_expr(at, base.get())?;
+            pass_expr(at, from.get())
+        }
+        PEForm::Binary { op: _, left, right } => {
+            pass_expr(at, left.get())?;
+            pass_expr(at, right.get())
+        }
+        PEForm::Cond { cond, then, other } => {
+            pass_expr(at, cond.get())?;
+            pass_expr(at, then.get())?;
+            pass_expr(at, other.get())
+        }
         PEForm::Member {
             base,
             s: _,
@@ -150,7 +145,7 @@ fn pass_copies(at: &mut usize, ss: &[PStmt]) -> Result<(), AllocError>
 }
 
 #[cycle(pass_stmt)]
-fn pass_repeat(at: &mut usize, count: &PExpr, ss: &[PStmt]) -> Result<(), AllocError>
+fn pass_repeat(at: &mut usize, ss: &[PStmt], count: &PExpr) -> Result<(), AllocError>
     ensures { OnOk result (at.new ≡ at.old + copies_count count.now (map stmt_count ss.now)) }
 {
     match &count.form {
@@ -160,8 +155,9 @@ fn pass_repeat(at: &mut usize, count: &PExpr, ss: &[PStmt]) -> Result<(), AllocE
 }
 
 #[cycle(pass_stmt)]
+#[tactic(auto, using(crate::proofs::Lengths::mapped))]
 fn pass_reorder(at: &mut usize, ss: &[PStmt]) -> Result<(), AllocError>
-    ensures { OnOk result (at.new ≡ at.old + ((length ss.now - 1) + stmts_count ss.now)) }
+    ensures { OnOk result (at.new ≡ at.old + ((length (map stmt_count ss.now) - 1) + stmts_count ss.now)) }
 {
     pass(at, ss.len().saturating_sub(1))?;
     pass_stmts(at, ss)?;
@@ -169,29 +165,13 @@ fn pass_reorder(at: &mut usize, ss: &[PStmt]) -> Result<(), AllocError>
 }
 
 #[cycle(pass_stmt)]
-fn pass_if(
-    at: &mut usize,
-    cond: &PExpr,
-    then: &PStmt,
-    other: &Option<Boxed<PStmt>>,
-) -> Result<(), AllocError>
-    ensures { OnOk result (at.new ≡ at.old + (expr_count cond.now + (stmt_count then.now + any_count (option_map stmt_count other.now)))) }
+fn pass_other(at: &mut usize, other: &Option<Boxed<PStmt>>) -> Result<(), AllocError>
+    ensures { OnOk result (at.new ≡ at.old + any_count (option_map stmt_count other.now)) }
 {
-    pass_expr(at, cond)?;
-    pass_stmt(at, then)?;
     match other {
-        None => Ok(()),
         Some(s) => pass_stmt(at, s.get()),
+        None => Ok(()),
     }
-}
-
-#[cycle(pass_stmt)]
-fn pass_while(at: &mut usize, cond: &PExpr, body: &PStmt) -> Result<(), AllocError>
-    ensures { OnOk result (at.new ≡ at.old + (expr_count cond.now + stmt_count body.now)) }
-{
-    pass_expr(at, cond)?;
-    pass_stmt(at, body)?;
-    Ok(())
 }
 
 fn pass_assign(at: &mut usize, target: &PExpr, value: &PExpr) -> Result<(), AllocError>
@@ -208,7 +188,6 @@ fn pass_assign(at: &mut usize, target: &PExpr, value: &PExpr) -> Result<(), Allo
 ///
 /// The place behind them is past what a count holds.
 #[cycle(pass_stmt)]
-#[tactic(auto, using(crate::proofs::Lengths::mapped))]
 pub fn pass_stmt(at: &mut usize, s: &PStmt) -> Result<(), AllocError>
     ensures { OnOk result (at.new ≡ at.old + stmt_count s.now) }
 {
@@ -222,13 +201,20 @@ pub fn pass_stmt(at: &mut usize, s: &PStmt) -> Result<(), AllocError>
         } => pass_value(at, value),
         PForm::Assign { target, value } => pass_assign(at, target, value),
         PForm::Call(e) => pass_expr(at, e),
-        PForm::If { cond, then, other } => pass_if(at, cond, then.get(), other),
-        PForm::While { cond, body } => pass_while(at, cond, body.get()),
+        PForm::If { cond, then, other } => {
+            pass_expr(at, cond)?;
+            pass_stmt(at, then.get())?;
+            pass_other(at, other)
+        }
+        PForm::While { cond, body } => {
+            pass_expr(at, cond)?;
+            pass_stmt(at, body.get())
+        }
         PForm::Return(e) => pass_value(at, e),
         PForm::Assert(e) => pass_expr(at, e),
         PForm::Assume(e) => pass_expr(at, e),
         PForm::Minimize(e) => pass_expr(at, e),
-        PForm::Repeat { count, copies } => pass_repeat(at, count, copies.as_slice()),
+        PForm::Repeat { count, copies } => pass_repeat(at, copies.as_slice(), count),
         PForm::MinRepeat(copies) => pass_copies(at, copies.as_slice()),
         PForm::Reorder(ss) => pass_reorder(at, ss.as_slice()),
     }
