@@ -22,14 +22,13 @@ use Rattle.sk_prog.specs.declared.prog.Fun.{Fun}
 use Rattle.sk_prog.specs.declared.prog.Prog.{Prog}
 use Rattle.sk_model.specs.Parts.{Part, counts, total}
 use Rattle.sk_model.specs.Sites.{is_hole}
-use Rattle.sk_model.specs.Stands.{hole_count}
 use Rattle.sk_model.specs.Step.{Comp}
 use Rattle.sk_model.specs.Eval.{Calls, Does}
 use Rattle.sk_model.specs.Exec.{Flow}
-use Rattle.sk_model.specs.Open.{open_eform, open_field, open_expr, any_open, open_form, open_stmt, any_part, copies_part, block_part, sites_before}
+use Rattle.sk_model.specs.Open.{open_eform, open_field, open_expr, any_open, open_form, open_stmt, copies_part, block_part, sites_before}
 use Rattle.sk_model.proofs.Layers.{layer_field, expr_layer, stmt_layer}
 use Rattle.sk_model.proofs.Induction.{Each, ExprCases, expr_ind, StmtCases, stmt_ind}
-use Rattle.sk_sym_sites.specs.Counts.{eform_count, expr_count, field_count, value_count, any_count, copies_count, form_count, stmt_count, stmts_count}
+use Rattle.sk_sym_sites.specs.Counts.{eform_count, expr_count, field_count, value_count, form_count, stmt_count, stmts_count}
 use Rattle.sk_sym_sites.specs.Places.{funs_count}
 
 module _ (prog : Prog) (bounds : Bounds) (values : List ℕ) (call : Calls) where
