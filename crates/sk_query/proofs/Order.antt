@@ -73,7 +73,7 @@ module _ (leaf : ℕ → ℕ → Leaf) (shows : Shows leaf) where
       (apart (map (leaf n) (range_with_len 0 w)) (leaves_from leaf (n + 1) ws) j l q))
       (apart (map (leaf n) (range_with_len 0 w)) (leaves_from leaf (n + 1) ws) i l p)
 
-sum_more : (w : ℕ) (ws : List ℕ) → sum (w ∷ ws) ≡ w + sum ws
+pub sum_more : (w : ℕ) (ws : List ℕ) → sum (w ∷ ws) ≡ w + sum ws
 sum_more w ws = sum_by-append (λ x. x) (w ∷ []) ws ∙ ap (λ k. k + sum ws) (zero-add w)
 
 leaves_length : (leaf : ℕ → ℕ → Leaf) (n : ℕ) (ws : List ℕ) → length (leaves_from leaf n ws) ≡ sum ws

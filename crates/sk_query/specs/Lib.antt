@@ -2,3 +2,4 @@ pub mod Numbers
 pub mod Widths
 pub mod Said
 pub mod Queries
+pub mod Laws

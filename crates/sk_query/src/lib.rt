@@ -3,6 +3,7 @@
 #![tactic(auto)]
 
 mod inputs;
+pub mod laws;
 mod leaves;
 mod listing;
 mod numbers;
