@@ -3,3 +3,4 @@ pub mod Forms
 pub mod Operating
 pub mod Elements
 pub mod BitRows
+pub mod EachBit
