@@ -1,9 +1,9 @@
 //! Values made longer.
 
-ghost use Rattle.std.specs.Prelude.{◌≡◌, ◌∷◌, [], IfOk, IsTrue, if◌then◌else◌};
+ghost use Rattle.std.specs.Prelude.{◌≡◌, ◌∷◌, [], IfOk, if◌then◌else◌};
 ghost use Rattle.sk_dag.specs.declared.shape.Shape.TheVariants as shape;
 ghost use Rattle.sk_dag.specs.Eval.{Keeps};
-ghost use Rattle.sk_arr.specs.Shapes.{AlikeTo, Stands, AllStand};
+ghost use Rattle.sk_arr.specs.Shapes.{Stands, AllStand};
 ghost use Rattle.sk_model.specs.Values.{zero_of as zero_of_type, padded as padded_of};
 ghost use Rattle.sk_model.specs.Eval.{padded_at as padded_at_of};
 ghost use Rattle.sk_prog.specs.declared.ty.Ty.TheVariants as ty;
@@ -14,7 +14,7 @@ use crate::given::zero_of_elem;
 use sk_arr::pad;
 use sk_base::List;
 use sk_dag::{Dag, Shape};
-use sk_operate::alike;
+use sk_operate::like_all;
 use sk_prog::{Elem, Ty};
 use std::alloc::{AllocError, Global};
 
@@ -73,18 +73,6 @@ fn rows_of(alloc: Global, s: Shape) -> Result<List<Shape>, AllocError>
         Shape::Array(list) => rows_in(alloc, list),
         s => only(alloc, s),
     }
-}
-
-/// Whether a shape is seen to be of the form of each of these.
-fn like_all(a: &Shape, list: &[Shape]) -> bool
-    ensures { IsTrue result → AlikeTo a.now list.now }
-{
-    for s in list {
-        if !alike(a, s) {
-            return false;
-        }
-    }
-    true
 }
 
 /// An array of these and of as many zeros as are wanting to so many. That there are more of them, or that they are of
