@@ -2,6 +2,8 @@
 #![tactic(auto)]
 
 mod activation;
+mod kind;
 mod leaf;
+mod step;
 
 pub use activation::Activation;
