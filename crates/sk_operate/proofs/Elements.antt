@@ -57,7 +57,7 @@ none_there vs i h = by (slice_get vs i) refl
     by None e = refl
     by (Some v) e = absurd (true≢false (sym (lt-ltb i (length vs) (slice_get_within vs i v e)) ∙ h))
 
-none_outside : (vs : List Seen) (x : ℤ) → not (is_within (length vs) x) ≡ true → element_of vs x ≡ None
+pub none_outside : (vs : List Seen) (x : ℤ) → not (is_within (length vs) x) ≡ true → element_of vs x ≡ None
 none_outside vs (pos i) h = none_there vs i (flipped (nat_lt i (length vs)) h)
   where
     flipped : (b : Bool) → not b ≡ true → b ≡ false
@@ -65,7 +65,7 @@ none_outside vs (pos i) h = none_there vs i (flipped (nat_lt i (length vs)) h)
     flipped false e = refl
 none_outside vs (negsuc i) h = refl
 
-element_live : (holds : ℕ → Bool) (vs : List Seen) (x : ℤ) (v : Seen) → AllLive holds vs → element_of vs x ≡ Some v → IsLive holds v
+pub element_live : (holds : ℕ → Bool) (vs : List Seen) (x : ℤ) (v : Seen) → AllLive holds vs → element_of vs x ≡ Some v → IsLive holds v
 element_live holds vs (pos i) v h at = subst (IsLive holds) (get_or_from_slice_get vs i v v at) (h.each i v (slice_get_within vs i v at))
 element_live holds vs (negsuc i) v h at = absurd (none-some v at)
 

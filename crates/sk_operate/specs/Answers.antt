@@ -3,12 +3,14 @@ use Rattle.std.specs.Prelude.{◌≡◌, ℕ, Bool, false, List}
 use Rattle.sk_base.specs.declared.span.Span.{Span}
 use Rattle.sk_dag.specs.declared.env.Env.{Env}
 use Rattle.sk_dag.specs.declared.node.BoolId.{BoolId}
+use Rattle.sk_dag.specs.declared.node.WordId.{WordId}
 use Rattle.sk_dag.specs.declared.shape.Shape.{Shape}
+use Rattle.sk_dag.specs.declared.shape.Shape.TheVariants as shape
 use Rattle.sk_dag.specs.Graph.{Graph, Grows, HasBool}
 use Rattle.sk_dag.specs.Eval.{bool_value}
 use Rattle.sk_dag.specs.EvalShape.{shape_value}
 use Rattle.sk_arr.specs.Shapes.{Stands, SlotsPass, AllSlotsPass}
-use Rattle.sk_arr.specs.Answers.{shapes_value}
+use Rattle.sk_arr.specs.Answers.{shapes_value, IsSliced}
 use Rattle.sk_prog.specs.declared.value.Value.{Value}
 use Rattle.sk_model.specs.Step.{Comp}
 use Rattle.sk_seen.specs.Values.{value_of, IsLive, AllLive}
@@ -31,3 +33,9 @@ pub record IsOperated (g : Graph) (args : List Shape) (m : Graph → Env → (�
   pub named : (test : ℕ → Bool) → AllSlotsPass test args → SlotsPass test r
   pub live : (h : Graph) → Grows g h → (e : Env) (holds : ℕ → Bool) → AllLive holds (shapes_value h e args) → bool_value h e fails ≡ false → IsLive holds (shape_value h e r)
   pub value : (h : Graph) → Grows g h → (e : Env) (holds : ℕ → Bool) → AllLive holds (shapes_value h e args) → (span : Span) → m h e holds span ≡ answered span (bool_value h e fails) (worth holds h e r)
+
+-- the array of so many elements from the one on that an index names, and whether it leaves the range
+pub record IsSlice (g : Graph) (list : List Shape) (from : WordId) (count : ℕ) (r : Shape) (outside : BoolId) : Type 0 where
+  pub parts : List Shape
+  pub whole : r ≡ shape.Array parts
+  pub sliced : IsSliced g list from count parts outside

@@ -5,21 +5,21 @@ ghost use Rattle.sk_dag.specs.Graph.{HasWord};
 ghost use Rattle.sk_dag.specs.Eval.{Keeps};
 ghost use Rattle.sk_arr.specs.Shapes.{AlikeTo, AllAlike, Stands, AllStand};
 ghost use Rattle.sk_arr.specs.Answers.{IsRead};
-ghost use Rattle.sk_model.specs.Eval.{indexed as indexed_of};
+ghost use Rattle.sk_model.specs.Eval.{indexed as indexed_of, sliced as sliced_of};
 ghost use Rattle.sk_operate.specs.Worth.{worth};
-ghost use Rattle.sk_operate.specs.Answers.{IsOperated};
+ghost use Rattle.sk_operate.specs.Answers.{IsOperated, IsSlice};
 
 use crate::form::alike;
 use crate::operated::Operated;
 use crate::reading::{row_in, word_in};
-use sk_arr::read;
+use sk_arr::{read, slice};
 use sk_base::List;
 use sk_dag::{Dag, Shape, WordId};
 use sk_folded::flag;
 use std::alloc::{AllocError, Global};
 
 /// Whether a shape is seen to be of the form of each of these.
-fn like_all(a: &Shape, list: &[Shape]) -> bool
+pub fn like_all(a: &Shape, list: &[Shape]) -> bool
     ensures { IsTrue result → AlikeTo a.now list.now }
 {
     for s in list {
@@ -32,7 +32,7 @@ fn like_all(a: &Shape, list: &[Shape]) -> bool
 
 /// Whether these are seen to be of one form.
 #[tactic(auto, using(crate::proofs::Elements::like_each))]
-fn are_alike(list: &[Shape]) -> bool
+pub fn are_alike(list: &[Shape]) -> bool
     requires { 1 ≤ length list.now }
     ensures { IsTrue result → AllAlike list.now }
 {
@@ -96,5 +96,53 @@ pub fn indexed(
     let list = row_in(a)?;
     let x = word_in(index)?;
     let made = element(alloc, dag, list, x)?;
+    Ok(made)
+}
+
+/// So many elements from the one on that an index names, as an array.
+fn elements_from(
+    alloc: Global,
+    dag: &mut Dag,
+    list: &List<Shape>,
+    from: WordId,
+    count: u32,
+) -> Result<Operated, AllocError>
+    requires from { HasWord dag.old.nodes from }
+    requires list { AllStand dag.old list.now }
+    ensures keeps { Keeps dag.old dag.new }
+    ensures sliced { IfOk result (λ made. IsSlice dag.new list.now from count made.value made.fails) }
+{
+    if count < 1 || count as usize > list.len() || !are_alike(list.as_slice()) {
+        return Err(AllocError);
+    }
+    let (made, fails) = slice(alloc, dag, list, from, count)?;
+    Ok(Operated {
+        value: Shape::Array(made),
+        fails,
+    })
+}
+
+/// So many elements of an array from the one on that an index names. It fails where they leave the range.
+///
+/// # Errors
+///
+/// Memory is wanting, the shapes are no array of elements of one form and no word, or the count is 0 or above the array's
+/// length.
+#[tactic(auto, using(sk_arr::proofs::Standing::inside))]
+pub fn sliced(
+    alloc: Global,
+    dag: &mut Dag,
+    count: u32,
+    a: &Shape,
+    index: &Shape,
+) -> Result<Operated, AllocError>
+    requires a { Stands dag.old a.now }
+    requires index { Stands dag.old index.now }
+    ensures keeps { Keeps dag.old dag.new }
+    ensures operated { IfOk result (λ made. IsOperated dag.new (a.now ∷ index.now ∷ []) (λ h e holds span. sliced_of span count (worth holds h e a.now) (worth holds h e index.now)) made.value made.fails) }
+{
+    let list = row_in(a)?;
+    let from = word_in(index)?;
+    let made = elements_from(alloc, dag, list, from, count)?;
     Ok(made)
 }

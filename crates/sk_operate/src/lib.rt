@@ -2,6 +2,7 @@
 #![tactic(auto)]
 
 mod binary;
+mod bitwise;
 mod element;
 mod form;
 mod operated;
@@ -11,7 +12,7 @@ mod single;
 mod words;
 
 pub use binary::operator;
-pub use element::indexed;
+pub use element::{are_alike, indexed, like_all, sliced};
 pub use form::alike;
 pub use operated::Operated;
 pub use single::{to_int, unary};

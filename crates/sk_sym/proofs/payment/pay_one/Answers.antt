@@ -1,0 +1,9 @@
+use Rattle.sk_sym_state.proofs.Standing.{StateStands-keeps}
+use Rattle.sk_sym.proofs.Paid.{pays_one}
+use Rattle.sk_sym.proofs.payment.pay_one.Goals as goal
+
+pub pay-requires-clause-stands : goal.pay-requires-clause-stands
+pay-requires-clause-stands c = StateStands-keeps c.in_ok-amount.ensures.keeps c.requires.stands
+
+pub returns : goal.returns
+returns c = record { pays = pays_one c.args.payment.now c.in_ok-amount.amount c.requires.stands c.in_ok-amount.ensures.keeps c.in_ok-amount.ensures.value c.in_ok-pay.ensures.pays }

@@ -1,0 +1,4 @@
+pub mod Outcome
+pub mod Beginning
+pub mod Paying
+pub mod Bodies

@@ -1,0 +1,55 @@
+//! Elements and slices of arrays: the run fails where an index leaves the range.
+
+ghost use Rattle.std.specs.Prelude.{IfOk};
+ghost use Rattle.sk_arr.specs.Shapes.{Stands};
+ghost use Rattle.sk_model.specs.Eval.{indexed as indexed_of, sliced as sliced_of};
+ghost use Rattle.sk_sym_state.specs.Stands.{StateStands};
+ghost use Rattle.sk_sym_steps.specs.Steps.{EvaluatesOn, AreTwo};
+
+use sk_base::Span;
+use sk_dag::{Dag, Shape};
+use sk_operate::{indexed, sliced};
+use sk_sym_state::{Setting, SymState};
+use std::alloc::AllocError;
+
+/// An element of an array by an index. It fails where there is none. Shapes that are no array of elements of one form and
+/// no word, which no typed program has there, count as want of memory.
+pub fn element(
+    setting: &Setting<'_>,
+    dag: &mut Dag,
+    state: &mut SymState,
+    span: Span,
+    a: &Shape,
+    index: &Shape,
+) -> Result<Shape, AllocError>
+    requires stands { StateStands dag.old setting.now.expanded.now.prog state.old }
+    requires a { Stands dag.old a.now }
+    requires index { Stands dag.old index.now }
+    ensures evaluates { IfOk result (λ r. EvaluatesOn setting.now dag.old dag.new state.old state.new (AreTwo state.old.heap a.now index.now) r (λ e vs. indexed_of span vs.0 vs.1)) }
+{
+    let made = indexed(setting.alloc, dag, a, index)?;
+    state.fail_where(setting, dag, made.fails)?;
+    Ok(made.value)
+}
+
+/// So many elements of an array from an index on, as an array. It fails where they leave the range. Shapes that are no
+/// array of elements of one form and no word, and a count that is 0 or above the array's length, which no typed program
+/// has there, count as want of memory.
+pub fn slice(
+    setting: &Setting<'_>,
+    dag: &mut Dag,
+    state: &mut SymState,
+    span: Span,
+    count: u32,
+    a: &Shape,
+    index: &Shape,
+) -> Result<Shape, AllocError>
+    requires stands { StateStands dag.old setting.now.expanded.now.prog state.old }
+    requires a { Stands dag.old a.now }
+    requires index { Stands dag.old index.now }
+    ensures evaluates { IfOk result (λ r. EvaluatesOn setting.now dag.old dag.new state.old state.new (AreTwo state.old.heap a.now index.now) r (λ e vs. sliced_of span count vs.0 vs.1)) }
+{
+    let made = sliced(setting.alloc, dag, count, a, index)?;
+    state.fail_where(setting, dag, made.fails)?;
+    Ok(made.value)
+}

@@ -1,0 +1,84 @@
+//! Operators on shapes: the run fails where they do.
+
+ghost use Rattle.std.specs.Prelude.{◌≡◌, IfOk, OnOk};
+ghost use Rattle.sk_arr.specs.Shapes.{Stands};
+ghost use Rattle.sk_model.specs.Operators.{operator as operator_of, unary_operator, to_int as to_int_of};
+ghost use Rattle.sk_sym_state.specs.Seen.{IsWorth};
+ghost use Rattle.sk_sym_state.specs.Stands.{StateStands};
+ghost use Rattle.sk_sym_steps.specs.Steps.{EvaluatesOn, AreTwo};
+
+use sk_base::Span;
+use sk_dag::{Dag, Shape};
+use sk_operate::{operator, to_int, unary};
+use sk_prog::{BinOp, UnOp};
+use sk_sym_state::{Setting, SymState};
+use std::alloc::AllocError;
+
+/// That a graph has words of so many bits. Any other, which no caller has, counts as want of memory.
+fn width_is(dag: &Dag, width: u32) -> Result<(), AllocError>
+    ensures { OnOk result (dag.now.bits ≡ width) }
+{
+    if dag.int_bits() == width {
+        return Ok(());
+    }
+    Err(AllocError)
+}
+
+/// An operator on two shapes. It fails where the operator does.
+pub fn operate(
+    setting: &Setting<'_>,
+    dag: &mut Dag,
+    state: &mut SymState,
+    width: u32,
+    span: Span,
+    op: BinOp,
+    a: &Shape,
+    b: &Shape,
+) -> Result<Shape, AllocError>
+    requires stands { StateStands dag.old setting.now.expanded.now.prog state.old }
+    requires a { Stands dag.old a.now }
+    requires b { Stands dag.old b.now }
+    ensures evaluates { IfOk result (λ r. EvaluatesOn setting.now dag.old dag.new state.old state.new (AreTwo state.old.heap a.now b.now) r (λ e vs. operator_of width span op vs.0 vs.1)) }
+{
+    width_is(dag, width)?;
+    let made = operator(setting.alloc, dag, op, a, b)?;
+    state.fail_where(setting, dag, made.fails)?;
+    Ok(made.value)
+}
+
+/// An operator before a shape.
+pub fn operate_one(
+    setting: &Setting<'_>,
+    dag: &mut Dag,
+    state: &mut SymState,
+    width: u32,
+    span: Span,
+    op: UnOp,
+    a: &Shape,
+) -> Result<Shape, AllocError>
+    requires stands { StateStands dag.old setting.now.expanded.now.prog state.old }
+    requires a { Stands dag.old a.now }
+    ensures evaluates { IfOk result (λ r. EvaluatesOn setting.now dag.old dag.new state.old state.new (λ g e. IsWorth g e state.old.heap a.now) r (λ e. unary_operator width span op)) }
+{
+    width_is(dag, width)?;
+    let made = unary(setting.alloc, dag, op, a)?;
+    state.fail_where(setting, dag, made.fails)?;
+    Ok(made.value)
+}
+
+/// The coercion of a bit to an integer.
+pub fn convert(
+    setting: &Setting<'_>,
+    dag: &mut Dag,
+    state: &mut SymState,
+    span: Span,
+    a: &Shape,
+) -> Result<Shape, AllocError>
+    requires stands { StateStands dag.old setting.now.expanded.now.prog state.old }
+    requires a { Stands dag.old a.now }
+    ensures evaluates { IfOk result (λ r. EvaluatesOn setting.now dag.old dag.new state.old state.new (λ g e. IsWorth g e state.old.heap a.now) r (λ e. to_int_of span)) }
+{
+    let made = to_int(dag, a)?;
+    state.fail_where(setting, dag, made.fails)?;
+    Ok(made.value)
+}

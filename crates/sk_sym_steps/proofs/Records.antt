@@ -1,0 +1,146 @@
+-- Records and their fields.
+use Rattle.std.proofs.Common.{◌≡◌, ℕ, ◌+◌, ◌<◌, All, Bool, List, [], ◌∷◌, ◌++◌, length, map, take, get_or, Option, Some, None, slice_get, option_map, IsTrue, refl, sym, ap, subst, ◌∙◌}
+use Rattle.std.proofs.lemmas.Option.{slice_get-map}
+use Rattle.std.proofs.lemmas.List.{take_more}
+use Rattle.std.proofs.lemmas.List.Elements.{All-append, All-cons, All-nil}
+use Rattle.sk_base.specs.declared.span.Span.{Span}
+use Rattle.sk_dag.specs.declared.env.Env.{Env}
+use Rattle.sk_dag.specs.declared.node.BoolId.{BoolId}
+use Rattle.sk_dag.specs.declared.shape.Shape.{Shape}
+use Rattle.sk_dag.specs.declared.shape.Shape.TheVariants as shape
+use Rattle.sk_dag.specs.declared.shape.Targets.{Targets}
+use Rattle.sk_dag.specs.Graph.{Graph, Grows}
+use Rattle.sk_dag.specs.Eval.{Keeps}
+use Rattle.sk_arr.specs.Held.{AllPass}
+use Rattle.sk_arr.specs.Shapes.{Stands}
+use Rattle.sk_arr.proofs.Standing.{Stands-keeps}
+use Rattle.sk_arr.proofs.Values.{reference_passes}
+use Rattle.sk_prog.specs.declared.ids.StructId.{StructId}
+use Rattle.sk_prog.specs.declared.value.Value.{Value}
+use Rattle.sk_prog.specs.declared.value.Value.TheVariants as value
+use Rattle.sk_heap.specs.declared.slot.Slot.{Slot}
+use Rattle.sk_heap.specs.Answers.{struct_of, IsAllocated, IsFieldRead}
+use Rattle.sk_heap.specs.Heaps.{is_struct, is_of, HeapStands, RefersTo}
+use Rattle.sk_heap.proofs.Heaps.{SlotsPass-more}
+use Rattle.sk_model.specs.Heap.{read_field, allocate, zeros_of}
+use Rattle.sk_seen.specs.Values.{value_in, ShapeLive}
+use Rattle.sk_seen.proofs.Allocs.{allocated_grows, allocated_heap, unallocated_heap, allocated_value, allocated_live, allocated_heap_live}
+use Rattle.sk_seen.proofs.Fields.{read_null, read_goes, read_live}
+use Rattle.sk_sym_state.specs.declared.setting.Setting.{Setting}
+use Rattle.sk_sym_state.specs.declared.state.SymState.{SymState}
+use Rattle.sk_sym_state.specs.declared.state.Ended.{Ended}
+use Rattle.sk_sym_state.specs.Seen.{IsWorth}
+use Rattle.sk_sym_state.specs.Stands.{StateStands}
+use Rattle.sk_sym_state.specs.Shows.{ResultIs, EndedIs}
+use Rattle.sk_sym_state.specs.Meaning.{IsLater, Evaluates, FailsWhere}
+use Rattle.sk_sym_state.proofs.Worth.{IsWorth-grown, AreWorth-grown}
+use Rattle.sk_sym_state.proofs.Carrying.{later_keeps, front_grown}
+use Rattle.sk_sym_state.proofs.Standing.{StateStands-keeps}
+use Rattle.sk_sym_state.proofs.Ends.{fails_or_goes}
+use Rattle.sk_seen.specs.Heaps.{HeapGrows}
+use Rattle.sk_sym_steps.specs.Steps.{same_kind, is_kind, EvaluatesOn}
+
+-- the structs of the slots tell which slots are of a struct
+kind_of : (heap : List Slot) (structs : List StructId) (s : StructId) (n : ℕ) → map struct_of heap ≡ structs → is_kind structs s n ≡ is_of heap s n
+kind_of heap structs s n are = ap (λ l. same_kind s (slice_get l n)) (sym are) ∙ ap (same_kind s) (slice_get-map struct_of heap n) ∙ by (slice_get heap n)
+  where
+    by : (o : Option Slot) → same_kind s (option_map struct_of o) ≡ is_struct s o
+    by None = refl
+    by (Some slot) = refl
+
+pub refers : {d : Graph} {heap : List Slot} {structs : List StructId} {s : StructId} {target : Targets} → map struct_of heap ≡ structs → Stands d (shape.Reference target) → AllPass (is_kind structs s) target.slots.items → RefersTo d heap s target
+refers {d} {heap} {structs} {s} {target} are stands pass = record {
+  stands = stands;
+  slots = SlotsPass-more (λ n h. sym (kind_of heap structs s n are) ∙ h) (reference_passes (is_kind structs s) target pass);
+}
+
+module _ (g : Graph) (e : Env) {a b : List Slot} (grown : HeapGrows a b) where
+  result_grown : (r : Option Shape) (v : Option Value) → ResultIs g e a r v → ResultIs g e b r v
+  result_grown r None h = tt
+  result_grown None (Some v) h = h
+  result_grown (Some r) (Some v) h = IsWorth-grown grown h
+
+  pub ended_grown : (ended : Option Ended) (v : Option Value) (refs : List Value) → EndedIs g e a ended v refs → EndedIs g e b ended v refs
+  ended_grown None v refs h = h
+  ended_grown (Some ended) v refs h = (result_grown ended.result v h.0, AreWorth-grown grown h.1)
+
+-- ---- reads
+
+pub reads_field : {x : Setting} {d0 d1 d2 : Graph} {s0 s1 : SymState} {reference r : Shape} {target : Targets} {s : StructId} {field : ℕ} {null : BoolId} (span : Span) → StateStands d0 x.expanded.now.prog s0 → reference ≡ shape.Reference target → Keeps d0 d1 → IsFieldRead d1 s0.heap x.expanded.now.prog s target field r null → FailsWhere x d1 d2 s0 s1 null
+    → EvaluatesOn x d0 d2 s0 s1 (λ g e. IsWorth g e s0.heap reference) r (λ e. read_field span field)
+reads_field {x} {d0} {d1} {d2} {s0} {s1} {reference} {r} {target} {s} {field} {null} span h is keeps read f = record {
+  does = fails_or_goes h keeps f
+      (λ g e v at l w shows holds. (span, ap (λ u. read_field span field u at) (sym (worth g e v w)) ∙ read_null read (grows g e l) e holds span at))
+      (λ g e v at l w shows failing. (
+        value_in g e s0.heap r,
+        (ap (λ u. read_field span field u at) (sym (worth g e v w)) ∙ read_goes read (grows g e l) e (live g e v w) failing span at (sym shows.heap)),
+        subst (λ heap. IsWorth g e heap r (value_in g e s0.heap r)) (sym f.heap) (record { value = refl; live = read_live read (grows g e l) e shows.lives (live g e v w) failing }),
+      ));
+  there = Stands-keeps f.moves.keeps read.stands;
+}
+  where
+    worth : (g : Graph) (e : Env) (v : Value) → IsWorth g e s0.heap reference v → value_in g e s0.heap (shape.Reference target) ≡ v
+    worth g e v w = ap (value_in g e s0.heap) (sym is) ∙ w.value
+
+    live : (g : Graph) (e : Env) (v : Value) → IsWorth g e s0.heap reference v → ShapeLive g e s0.heap (shape.Reference target)
+    live g e v w = subst (ShapeLive g e s0.heap) is w.live
+
+    grows : (g : Graph) (e : Env) → IsLater x d2 g e → Grows d1 g
+    grows g e l = (later_keeps f.moves.keeps l).grows
+
+-- ---- new records
+
+map_push : {A B : Type 0} (f : A → B) (xs : List A) (y : A) → map f (xs ++ y ∷ []) ≡ map f xs ++ f y ∷ []
+map_push f [] y = refl
+map_push f (z ∷ zs) y = ap (λ l. f z ∷ l) (map_push f zs y)
+
+pub allocates : {x : Setting} {d0 d1 : Graph} {s0 : SymState} {s : StructId} {heap : List Slot} {structs : List StructId} {target : Targets} → StateStands d0 x.expanded.now.prog s0 → Keeps d0 d1 → HeapStands d1 x.expanded.now.prog heap → IsAllocated d1 x.expanded.now.prog s0.path s s0.heap heap target → structs ≡ s0.structs ++ s ∷ []
+    → Evaluates x d0 d1 s0 (record s0 { heap = heap; structs = structs }) (shape.Reference target) (λ e. allocate x.expanded.now.prog s [])
+allocates {x} {d0} {d1} {s0} {s} {heap} {structs} {target} h keeps stands is pushed = record {
+  does = record {
+    moves = record {
+      keeps = keeps;
+      stands = record { path = now.path; failed = now.failed; skipped = now.skipped; cost = now.cost; heap = stands; structs = kinds; frame = now.frame };
+      grown = allocated_grows is;
+      stays = λ g e l p. record {
+        path = p;
+        rest = record {
+          failed = refl;
+          skipped = refl;
+          returned = refl;
+          cost = refl;
+          heap = λ t. unallocated_heap is l.grows e t p;
+          lives = allocated_heap_live is l.grows e;
+          ended = λ v refs t. ended_grown g e (allocated_grows is) s0.frame.ended v refs t;
+        };
+      };
+    };
+    runs = λ g e at l shows. record {
+      shows = record {
+        path = shows.path;
+        failed = shows.failed;
+        skipped = shows.skipped;
+        returned = shows.returned;
+        cost = shows.cost;
+        heap = allocated_heap is l.grows e shows.lives shows.path ∙ ap (λ t. t ++ zeros_of (slice_get x.expanded.now.prog.structs s.index) ∷ []) shows.heap;
+        lives = allocated_heap_live is l.grows e shows.lives;
+        slots = front_grown g e (allocated_grows is) shows.slots;
+      };
+      is = record { value = allocated_value is l.grows e shows.path ∙ ap (λ t. value.Place (length t)) shows.heap; live = allocated_live is l.grows e };
+    };
+  };
+  there = is.refers.stands;
+}
+  where
+    now : StateStands d1 x.expanded.now.prog s0
+    now = StateStands-keeps keeps h
+
+    kinds : map struct_of heap ≡ structs
+    kinds = ap (map struct_of) is.pushed ∙ map_push struct_of s0.heap is.slot ∙ (λ i. h.structs i ++ is.of_struct i ∷ []) ∙ sym pushed
+
+-- one more target passes
+pub passes_more : (test : ℕ → Bool) (targets : List (ℕ × BoolId)) (i : ℕ) (t : ℕ × BoolId) → i < length targets → t ≡ get_or targets i t → IsTrue (test t.0) → AllPass test (take i targets) → AllPass test (take (i + 1) targets)
+passes_more test targets i t l is h all = record {
+  each = subst (λ list. All (λ target. IsTrue (test target.0)) list) (sym (take_more targets i t l ∙ ap (λ y. take i targets ++ y ∷ []) (sym is)))
+      (All-append (λ target. IsTrue (test target.0)) (take i targets) (t ∷ []) all.each (All-cons (λ target. IsTrue (test target.0)) t [] h (All-nil (λ target. IsTrue (test target.0)))));
+}

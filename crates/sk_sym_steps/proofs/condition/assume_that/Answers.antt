@@ -1,0 +1,13 @@
+use Rattle.sk_arr.proofs.Standing.{bit_there}
+use Rattle.sk_sym_state.proofs.Standing.{StateStands-keeps}
+use Rattle.sk_sym_steps.proofs.Conditions.{assumes}
+use Rattle.sk_sym_steps.proofs.condition.assume_that.Goals as goal
+
+pub not-requires : goal.not-requires
+not-requires c = bit_there c.requires.a c.in-Bit.is
+
+pub skip_where-requires-clause-stands : goal.skip_where-requires-clause-stands
+skip_where-requires-clause-stands c = StateStands-keeps c.in_ok-skips.ensures.keeps c.requires.stands
+
+pub returns : goal.returns
+returns c = record { executes = assumes c.in-Bit.is c.requires.stands c.in_ok-skips.ensures.keeps c.in_ok-skips.ensures.value c.in_ok-skip_where.ensures.skips c.args.span }

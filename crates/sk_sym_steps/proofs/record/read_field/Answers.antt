@@ -1,0 +1,16 @@
+use Rattle.std.proofs.Common.{refl, subst}
+use Rattle.sk_arr.specs.Shapes.{Stands}
+use Rattle.sk_sym_state.proofs.Standing.{StateStands-keeps}
+use Rattle.sk_sym_steps.proofs.Records.{refers, reads_field}
+use Rattle.sk_sym_steps.proofs.record.read_field.Goals as goal
+
+pub read_field-requires-clause-target : goal.read_field-requires-clause-target
+read_field-requires-clause-target c =
+    let pass = rw (c.as_slice.ensures, c.as_slice-else-not-has_field.ensures) at (c.if-not-are_kind.ensures refl) in
+    refers c.requires.stands.structs (subst (Stands c.args.dag.now) c.in-Reference.is c.requires.reference) pass
+
+pub fail_where-requires-clause-stands : goal.fail_where-requires-clause-stands
+fail_where-requires-clause-stands c = StateStands-keeps c.in_ok-r.ensures.keeps c.requires.stands
+
+pub returns : goal.returns
+returns c = record { evaluates = reads_field c.args.span c.requires.stands c.in-Reference.is c.in_ok-r.ensures.keeps c.in_ok-r.ensures.read c.in_ok-fail_where.ensures.fails }

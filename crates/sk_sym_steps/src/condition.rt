@@ -1,0 +1,54 @@
+//! Conditions: a run fails or is skipped where one does not hold.
+
+ghost use Rattle.std.specs.Prelude.{OnOk};
+ghost use Rattle.sk_sym_state.specs.Seen.{IsWorth};
+ghost use Rattle.sk_arr.specs.Shapes.{Stands};
+ghost use Rattle.sk_sym_state.specs.Stands.{StateStands};
+ghost use Rattle.sk_sym_state.specs.Meaning.{ExecutesOn};
+ghost use Rattle.sk_sym_steps.specs.Steps.{asserted, assumed};
+
+use sk_base::Span;
+use sk_dag::{Dag, Shape};
+use sk_folded::not;
+use sk_sym_state::{Setting, SymState};
+use std::alloc::AllocError;
+
+/// Fails where a condition does not hold. One that is no bit, which no typed program has, counts as want of memory.
+pub fn assert_that(
+    setting: &Setting<'_>,
+    dag: &mut Dag,
+    state: &mut SymState,
+    span: Span,
+    a: &Shape,
+) -> Result<(), AllocError>
+    requires stands { StateStands dag.old setting.now.expanded.now.prog state.old }
+    requires a { Stands dag.old a.now }
+    ensures executes { OnOk result (ExecutesOn setting.now dag.old dag.new state.old state.new (λ g e. IsWorth g e state.old.heap a.now) (λ e. asserted span)) }
+{
+    let Shape::Bit(cond) = a else {
+        return Err(AllocError);
+    };
+    let fails = not(dag, *cond)?;
+    state.fail_where(setting, dag, fails)?;
+    Ok(())
+}
+
+/// Is skipped where a condition does not hold. One that is no bit, which no typed program has, counts as want of memory.
+pub fn assume_that(
+    setting: &Setting<'_>,
+    dag: &mut Dag,
+    state: &mut SymState,
+    span: Span,
+    a: &Shape,
+) -> Result<(), AllocError>
+    requires stands { StateStands dag.old setting.now.expanded.now.prog state.old }
+    requires a { Stands dag.old a.now }
+    ensures executes { OnOk result (ExecutesOn setting.now dag.old dag.new state.old state.new (λ g e. IsWorth g e state.old.heap a.now) (λ e. assumed span)) }
+{
+    let Shape::Bit(cond) = a else {
+        return Err(AllocError);
+    };
+    let skips = not(dag, *cond)?;
+    state.skip_where(setting, dag, skips)?;
+    Ok(())
+}

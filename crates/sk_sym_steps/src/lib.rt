@@ -1,0 +1,10 @@
+//! Steps of a run over the nodes of a graph: conditions, what is paid, and what is done with records.
+#![tactic(auto)]
+
+mod condition;
+mod cost;
+mod record;
+
+pub use condition::{assert_that, assume_that};
+pub use cost::pay;
+pub use record::{allocate, read_field};

@@ -1,0 +1,110 @@
+//! Records and their fields.
+
+ghost use Rattle.std.specs.Prelude.{◌≡◌, IfOk, IsTrue, []};
+ghost use Rattle.sk_arr.specs.Held.{AllPass};
+ghost use Rattle.sk_arr.specs.Shapes.{Stands};
+ghost use Rattle.sk_prog.specs.Fits.{has_struct as has_struct_of, has_field as has_field_of};
+ghost use Rattle.sk_model.specs.Heap.{read_field as reads, allocate as allocates};
+ghost use Rattle.sk_sym_state.specs.Seen.{IsWorth};
+ghost use Rattle.sk_sym_state.specs.Stands.{StateStands};
+ghost use Rattle.sk_sym_state.specs.Meaning.{Evaluates};
+ghost use Rattle.sk_sym_steps.specs.Steps.{is_kind, EvaluatesOn};
+
+use sk_base::Span;
+use sk_dag::{BoolId, Dag, Shape};
+use sk_prog::{Prog, StructId};
+use sk_sym_state::{Setting, SymState};
+use std::alloc::AllocError;
+
+/// The most slots that a heap has.
+const MOST_SLOTS: u32 = 256;
+
+/// Whether a program has a struct.
+fn has_struct(prog: &Prog, s: StructId) -> bool
+    ensures { result ≡ has_struct_of prog.now s }
+{
+    (s.index as usize) < prog.structs.len()
+}
+
+/// Whether a program has a field of a struct.
+fn has_field(prog: &Prog, s: StructId, field: u32) -> bool
+    ensures { result ≡ has_field_of prog.now s field }
+{
+    match prog.structs.as_slice().get(s.index as usize) {
+        None => false,
+        Some(found) => (field as usize) < found.fields.len(),
+    }
+}
+
+/// Whether a slot is of a struct.
+fn is_kind(structs: &[StructId], s: StructId, slot: u32) -> bool
+    ensures { result ≡ is_kind structs.now s slot }
+{
+    match structs.get(slot as usize) {
+        None => false,
+        Some(kind) => kind.index == s.index,
+    }
+}
+
+/// Whether each target is a slot of a struct.
+fn are_kind(structs: &[StructId], s: StructId, targets: &[(u32, BoolId)]) -> bool
+    ensures { IsTrue result → AllPass (is_kind structs.now s) targets.now }
+{
+    for (slot, _) in targets {
+        if !is_kind(structs, s, *slot) {
+            return false;
+        }
+    }
+    true
+}
+
+/// A new record of a struct in which each field is 0, and a reference to it. A heap that is full counts as want of memory.
+pub fn allocate(
+    setting: &Setting<'_>,
+    dag: &mut Dag,
+    state: &mut SymState,
+    s: StructId,
+) -> Result<Shape, AllocError>
+    requires stands { StateStands dag.old setting.now.expanded.now.prog state.old }
+    ensures evaluates { IfOk result (λ r. Evaluates setting.now dag.old dag.new state.old state.new r (λ e. allocates setting.now.expanded.now.prog s [])) }
+{
+    let prog = &setting.expanded.prog;
+    if state.heap.slots() >= MOST_SLOTS || !has_struct(prog, s) {
+        return Err(AllocError);
+    }
+    let path = state.path;
+    let target = state.heap.alloc_under(setting.alloc, dag, prog, path, s)?;
+    state.structs.push(s)?;
+    Ok(Shape::Reference(target))
+}
+
+/// A field of the record that a reference is at. It fails where the reference is null. A shape that is no reference to
+/// records of the struct, which no typed program has there, counts as want of memory.
+pub fn read_field(
+    setting: &Setting<'_>,
+    dag: &mut Dag,
+    state: &mut SymState,
+    span: Span,
+    s: StructId,
+    field: u32,
+    reference: &Shape,
+) -> Result<Shape, AllocError>
+    requires stands { StateStands dag.old setting.now.expanded.now.prog state.old }
+    requires reference { Stands dag.old reference.now }
+    ensures evaluates { IfOk result (λ r. EvaluatesOn setting.now dag.old dag.new state.old state.new (λ g e. IsWorth g e state.old.heap reference.now) r (λ e. reads span field)) }
+{
+    let prog = &setting.expanded.prog;
+    let Shape::Reference(target) = reference else {
+        return Err(AllocError);
+    };
+    if !has_field(prog, s, field)
+        || !are_kind(state.structs.as_slice(), s, target.slots.as_slice())
+    {
+        return Err(AllocError);
+    }
+    let (r, null) = state
+        .heap
+        .read_field(setting.alloc, dag, prog, s, target, field)?;
+    state.fail_where(setting, dag, null)?;
+    Ok(r)
+}

@@ -1,0 +1,7 @@
+//! Runs the expressions and statements of a program over the nodes of a graph.
+#![tactic(auto)]
+
+mod activation;
+mod leaf;
+
+pub use activation::Activation;
