@@ -1,10 +1,12 @@
 -- One layer of what the parts of a program do.
 use Rattle.std.proofs.Common.{◌≡◌, ◌≢◌, ℕ, ◌+◌, List, [], ◌∷◌, ◌++◌, map, take, length, get_or, Option, Some, None, true, false, refl, sym, ap, subst, ◌∙◌, ◌<◌, arith, append_assoc}
+use Rattle.std.specs.Prelude.{slice_get}
 use Rattle.std.proofs.lemmas.List.{take_more}
 use Rattle.sk_base.specs.declared.span.Span.{Span}
 use Rattle.sk_base.specs.declared.name.Name.{Name}
 use Rattle.sk_dag.specs.declared.env.Env.{Env}
 use Rattle.sk_prog.specs.declared.ids.ConstId.{ConstId}
+use Rattle.sk_prog.specs.declared.ids.StructId.{StructId}
 use Rattle.sk_prog.specs.declared.ty.Ty.{Ty}
 use Rattle.sk_prog.specs.declared.value.Value.{Value}
 use Rattle.sk_prog.specs.declared.value.Value.TheVariants as value
@@ -22,18 +24,19 @@ use Rattle.sk_prog.specs.declared.stmt.PForm.TheOpen as S
 use Rattle.sk_prog.specs.declared.stmt.PForm.TheViews as W
 use Rattle.sk_model.specs.Parts.{Part, counts, in_turn}
 use Rattle.sk_model.specs.Step.{State, Step, Goes, Fails, Skips, Comp, and_then, ◌>>=◌, pure}
-use Rattle.sk_model.specs.Heap.{write}
-use Rattle.sk_model.specs.Eval.{Does, binary, choose}
+use Rattle.sk_model.specs.Heap.{read, write}
+use Rattle.sk_model.specs.Eval.{Does, literal, const_value, binary, choose}
 use Rattle.sk_model.specs.Operators.{operator}
 use Rattle.sk_model.specs.Exec.{Flow, Onward, Returns, unless_returned, one_by_one, onward, declare}
 use Rattle.sk_model.specs.Open.{open_eform, open_field, open_form}
-use Rattle.sk_model.proofs.Layers.{layer_number, layer_true, layer_false, layer_null, layer_var, layer_const, layer_paren, layer_unary, layer_binary, layer_cond, layer_to_int, layer_pad, layer_of_block, layer_of_if, layer_of_if_else, stmt_layer}
+use Rattle.sk_model.proofs.Layers.{layer_number, layer_true, layer_false, layer_null, layer_var, layer_const, layer_hole, layer_paren, layer_unary, layer_member, layer_index, layer_slice, layer_braces, layer_binary, layer_cond, layer_to_int, layer_pad, layer_of_block, layer_of_if, layer_of_if_else, stmt_layer}
 use Rattle.sk_sym_walk.specs.declared.activation.Activation.{Activation}
-use Rattle.sk_sym_walk.specs.declared.kind.Act.TheVariants as act
-use Rattle.sk_sym_walk.specs.declared.kind.Double.TheVariants as double
-use Rattle.sk_sym_walk.specs.declared.kind.Single.TheVariants as single
+use Rattle.sk_sym_forms.specs.declared.act.Act.TheVariants as act
+use Rattle.sk_sym_forms.specs.declared.double.Double.TheVariants as double
+use Rattle.sk_sym_forms.specs.declared.single.Single.TheVariants as single
+use Rattle.sk_sym_forms.specs.Forms.{act_does}
 use Rattle.sk_sym_walk.specs.Walk.{prog_of, values_at, calls_at, expr_part, stmt_part, all_part, eval_part, exec_all_at}
-use Rattle.sk_sym_walk.specs.Parts.{siteless, then_part, then_parts, either_part, given, leaf_does, act_does, single_part, double_part, binary_part, cond_part, act_part, other_part, branch_part}
+use Rattle.sk_sym_walk.specs.Parts.{siteless, then_part, then_parts, either_part, given, hole_part, single_part, double_part, binary_part, braces_part, cond_part, act_part, other_part, branch_part}
 use Rattle.sk_sym_walk.proofs.Sequences.{SamePart, same_part}
 
 -- ---- expressions
@@ -51,26 +54,26 @@ module _ (a : Activation) (span : Span) (x : PExpr) where
   abbrev with_form : Env → PEForm → Part (Comp Value)
   with_form env f = eval_part a span (record { span = x.span; ty = x.ty; form = f }) env
 
-  leaf_as : (f : PEForm) → x.form ≡ f → ((env : Env) → with_form env f ≡ siteless (λ e. leaf_does a span f x.ty) env) → SamePart (siteless (λ e. leaf_does a span x.form x.ty)) (eval_part a span x)
-  leaf_as f is layer = same_part (λ env. ap (with_form env) is ∙ layer env ∙ ap (λ f. siteless (λ e. leaf_does a span f x.ty) env) (sym is))
+  pub same_number : (n : ℕ) → x.form ≡ eform.Number n → SamePart (siteless (λ e. pure (literal a.bounds.int_bits x.ty n))) (eval_part a span x)
+  same_number n is = same_part (λ env. ap (with_form env) is ∙ ap valued (layer_number (Option Ty → Part Does) (Part Does) (Part (ℕ × Does)) (step env) (λ e. e.form e.ty) (field_step env) x.span x.ty n))
 
-  pub same_number : (n : ℕ) → x.form ≡ eform.Number n → SamePart (siteless (λ e. leaf_does a span x.form x.ty)) (eval_part a span x)
-  same_number n is = leaf_as (eform.Number n) is (λ env. ap valued (layer_number (Option Ty → Part Does) (Part Does) (Part (ℕ × Does)) (step env) (λ e. e.form e.ty) (field_step env) x.span x.ty n))
+  pub same_true : x.form ≡ eform.True → SamePart (given true) (eval_part a span x)
+  same_true is = same_part (λ env. ap (with_form env) is ∙ ap valued (layer_true (Option Ty → Part Does) (Part Does) (Part (ℕ × Does)) (step env) (λ e. e.form e.ty) (field_step env) x.span x.ty))
 
-  pub same_true : x.form ≡ eform.True → SamePart (siteless (λ e. leaf_does a span x.form x.ty)) (eval_part a span x)
-  same_true is = leaf_as (eform.True) is (λ env. ap valued (layer_true (Option Ty → Part Does) (Part Does) (Part (ℕ × Does)) (step env) (λ e. e.form e.ty) (field_step env) x.span x.ty))
+  pub same_false : x.form ≡ eform.False → SamePart (given false) (eval_part a span x)
+  same_false is = same_part (λ env. ap (with_form env) is ∙ ap valued (layer_false (Option Ty → Part Does) (Part Does) (Part (ℕ × Does)) (step env) (λ e. e.form e.ty) (field_step env) x.span x.ty))
 
-  pub same_false : x.form ≡ eform.False → SamePart (siteless (λ e. leaf_does a span x.form x.ty)) (eval_part a span x)
-  same_false is = leaf_as (eform.False) is (λ env. ap valued (layer_false (Option Ty → Part Does) (Part Does) (Part (ℕ × Does)) (step env) (λ e. e.form e.ty) (field_step env) x.span x.ty))
+  pub same_null : x.form ≡ eform.Null → SamePart (siteless (λ e. pure value.Null)) (eval_part a span x)
+  same_null is = same_part (λ env. ap (with_form env) is ∙ ap valued (layer_null (Option Ty → Part Does) (Part Does) (Part (ℕ × Does)) (step env) (λ e. e.form e.ty) (field_step env) x.span x.ty))
 
-  pub same_null : x.form ≡ eform.Null → SamePart (siteless (λ e. leaf_does a span x.form x.ty)) (eval_part a span x)
-  same_null is = leaf_as (eform.Null) is (λ env. ap valued (layer_null (Option Ty → Part Does) (Part Does) (Part (ℕ × Does)) (step env) (λ e. e.form e.ty) (field_step env) x.span x.ty))
+  pub same_var : (slot : ℕ) (n : Name) → x.form ≡ eform.Var slot n → SamePart (siteless (λ e. read slot)) (eval_part a span x)
+  same_var slot n is = same_part (λ env. ap (with_form env) is ∙ ap valued (layer_var (Option Ty → Part Does) (Part Does) (Part (ℕ × Does)) (step env) (λ e. e.form e.ty) (field_step env) x.span x.ty slot n))
 
-  pub same_var : (slot : ℕ) (n : Name) → x.form ≡ eform.Var slot n → SamePart (siteless (λ e. leaf_does a span x.form x.ty)) (eval_part a span x)
-  same_var slot n is = leaf_as (eform.Var slot n) is (λ env. ap valued (layer_var (Option Ty → Part Does) (Part Does) (Part (ℕ × Does)) (step env) (λ e. e.form e.ty) (field_step env) x.span x.ty slot n))
+  pub same_const : (k : ConstId) → x.form ≡ eform.Const k → SamePart (siteless (λ e. pure (const_value (slice_get (prog_of a).consts k.index)))) (eval_part a span x)
+  same_const k is = same_part (λ env. ap (with_form env) is ∙ ap valued (layer_const (Option Ty → Part Does) (Part Does) (Part (ℕ × Does)) (step env) (λ e. e.form e.ty) (field_step env) x.span x.ty k))
 
-  pub same_const : (k : ConstId) → x.form ≡ eform.Const k → SamePart (siteless (λ e. leaf_does a span x.form x.ty)) (eval_part a span x)
-  same_const k is = leaf_as (eform.Const k) is (λ env. ap valued (layer_const (Option Ty → Part Does) (Part Does) (Part (ℕ × Does)) (step env) (λ e. e.form e.ty) (field_step env) x.span x.ty k))
+  pub same_hole : (bits : Option ℕ) → x.form ≡ eform.Hole bits → SamePart (hole_part a x.ty) (eval_part a span x)
+  same_hole bits is = same_part (λ env. ap (with_form env) is ∙ ap valued (layer_hole (Option Ty → Part Does) (Part Does) (Part (ℕ × Does)) (step env) (λ e. e.form e.ty) (field_step env) x.span x.ty bits))
 
   pub same_paren : (y : PExpr) → x.form ≡ eform.Paren y → SamePart (eval_part a span y) (eval_part a span x)
   same_paren y is = same_part (λ env. ap (with_form env) is ∙ ap valued (layer_paren (Option Ty → Part Does) (Part Does) (Part (ℕ × Does)) (step env) (λ e. e.form e.ty) (field_step env) x.span x.ty y))
@@ -83,6 +86,18 @@ module _ (a : Activation) (span : Span) (x : PExpr) where
 
   pub same_pad : (y : PExpr) → x.form ≡ eform.Pad y → SamePart (single_part a span (single.Pad x.ty) y) (eval_part a span x)
   same_pad y is = same_part (λ env. ap (with_form env) is ∙ ap valued (layer_pad (Option Ty → Part Does) (Part Does) (Part (ℕ × Does)) (step env) (λ e. e.form e.ty) (field_step env) x.span x.ty y))
+
+  pub same_member : (y : PExpr) (d : StructId) (k : ℕ) → x.form ≡ eform.Member y d k → SamePart (single_part a span (single.Member d k) y) (eval_part a span x)
+  same_member y d k is = same_part (λ env. ap (with_form env) is ∙ ap valued (layer_member (Option Ty → Part Does) (Part Does) (Part (ℕ × Does)) (step env) (λ e. e.form e.ty) (field_step env) x.span x.ty y d k))
+
+  pub same_index : (y z : PExpr) → x.form ≡ eform.Index y z → SamePart (double_part a span double.Index y z) (eval_part a span x)
+  same_index y z is = same_part (λ env. ap (with_form env) is ∙ ap valued (layer_index (Option Ty → Part Does) (Part Does) (Part (ℕ × Does)) (step env) (λ e. e.form e.ty) (field_step env) x.span x.ty y z))
+
+  pub same_slice : (y z : PExpr) (n : ℕ) → x.form ≡ eform.Slice y z n → SamePart (double_part a span (double.Slice n) y z) (eval_part a span x)
+  same_slice y z n is = same_part (λ env. ap (with_form env) is ∙ ap valued (layer_slice (Option Ty → Part Does) (Part Does) (Part (ℕ × Does)) (step env) (λ e. e.form e.ty) (field_step env) x.span x.ty y z n))
+
+  pub same_braces : (ys : List PExpr) → x.form ≡ eform.Braces ys → SamePart (braces_part a span x.ty ys) (eval_part a span x)
+  same_braces ys is = same_part (λ env. ap (with_form env) is ∙ ap valued (layer_braces (Option Ty → Part Does) (Part Does) (Part (ℕ × Does)) (step env) (λ e. e.form e.ty) (field_step env) x.span x.ty ys))
 
   pub same_binary : (o : BinOp) (y z : PExpr) → x.form ≡ eform.Binary o y z → SamePart (binary_part a span o y z) (eval_part a span x)
   same_binary o y z is = same_part (λ env. ap (with_form env) is ∙ ap valued (layer_binary (Option Ty → Part Does) (Part Does) (Part (ℕ × Does)) (step env) (λ e. e.form e.ty) (field_step env) x.span x.ty o y z))
@@ -207,15 +222,15 @@ module _ (a : Activation) (s : PStmt) where
 
 -- ---- lists of statements
 
-counts_push : {A : Type 0} (ps : List (Part A)) (p : Part A) → counts (ps ++ p ∷ []) ≡ counts ps + p.count
+pub counts_push : {A : Type 0} (ps : List (Part A)) (p : Part A) → counts (ps ++ p ∷ []) ≡ counts ps + p.count
 counts_push [] p = omega arith
 counts_push (q ∷ qs) p = omega (arith, counts_push qs p)
 
-turn_push : {A : Type 0} (ps : List (Part A)) (p : Part A) (i : ℕ) → in_turn (ps ++ p ∷ []) i ≡ in_turn ps i ++ p.at (i + counts ps) ∷ []
+pub turn_push : {A : Type 0} (ps : List (Part A)) (p : Part A) (i : ℕ) → in_turn (ps ++ p ∷ []) i ≡ in_turn ps i ++ p.at (i + counts ps) ∷ []
 turn_push [] p i = let e : i ≡ i + 0 = omega arith in ap (λ j. p.at j ∷ []) e
 turn_push (q ∷ qs) p i = let e : (i + q.count) + counts qs ≡ i + (q.count + counts qs) = omega arith in ap (λ l. q.at i ∷ l) (turn_push qs p (i + q.count) ∙ ap (λ j. in_turn qs (i + q.count) ++ p.at j ∷ []) e)
 
-map_push : {A B : Type 0} (f : A → B) (xs : List A) (x : A) → map f (xs ++ x ∷ []) ≡ map f xs ++ f x ∷ []
+pub map_push : {A B : Type 0} (f : A → B) (xs : List A) (x : A) → map f (xs ++ x ∷ []) ≡ map f xs ++ f x ∷ []
 map_push f [] x = refl
 map_push f (y ∷ ys) x = ap (λ l. f y ∷ l) (map_push f ys x)
 

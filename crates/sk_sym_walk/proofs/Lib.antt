@@ -2,3 +2,4 @@ pub mod Sequences
 pub mod Ways
 pub mod Places
 pub mod Layers
+pub mod Lists

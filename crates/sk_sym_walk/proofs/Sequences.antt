@@ -161,6 +161,9 @@ executes_nothing {d = d} h = record { moves = moves_none (Keeps-refl d) h; runs 
 pub siteless_executed : {a : Activation} {d0 d1 : Graph} {s0 s1 : SymState} {i : ℕ} {m : Env → Comp Flow} → Executes a.setting d0 d1 s0 s1 m → IsExecuted a d0 d1 s0 s1 i i (siteless m)
 siteless_executed h = record { executes = h; place = record { place = λ e. omega arith } }
 
+pub siteless_evaluated : {a : Activation} {d0 d1 : Graph} {s0 s1 : SymState} {i : ℕ} {r : Shape} {m : Env → Comp Value} → Evaluates a.setting d0 d1 s0 s1 r m → IsEvaluated a d0 d1 s0 s1 i i (siteless m) r
+siteless_evaluated h = record { evaluates = h; place = record { place = λ e. omega arith } }
+
 -- a bit that is known
 pub given_evaluated : {a : Activation} {d : Graph} {s : SymState} {i : ℕ} {c : BoolId} {b : Bool} → StateStands d a.setting.expanded.now.prog s → HasBool d.nodes c → Stands d (shape.Bit c) → ((g : Graph) → Grows d g → (e : Env) → bool_value g e c ≡ b) → IsEvaluated a d d s s i i (given b) (shape.Bit c)
 given_evaluated {d = d} h there stands known = record {

@@ -1,5 +1,5 @@
 -- Parts that are put together from smaller ones, and what the walk answers for a part.
-use Rattle.std.specs.Prelude.{◌≡◌, ℕ, ◌+◌, ◌&&◌, Bool, true, false, List, Option, Some, None, slice_get}
+use Rattle.std.specs.Prelude.{◌≡◌, ℕ, ◌+◌, ◌&&◌, Bool, true, false, List, map, Option, Some, None}
 use Rattle.sk_base.specs.declared.span.Span.{Span}
 use Rattle.sk_dag.specs.declared.env.Env.{Env}
 use Rattle.sk_dag.specs.declared.node.BoolId.{BoolId}
@@ -12,29 +12,26 @@ use Rattle.sk_prog.specs.declared.value.Value.{Value}
 use Rattle.sk_prog.specs.declared.value.Value.TheVariants as value
 use Rattle.sk_prog.specs.declared.expr.BinOp.{BinOp}
 use Rattle.sk_prog.specs.declared.expr.PExpr.{PExpr}
-use Rattle.sk_prog.specs.declared.expr.PEForm.{PEForm}
-use Rattle.sk_prog.specs.declared.expr.PEForm.TheVariants as eform
 use Rattle.sk_prog.specs.declared.stmt.PStmt.{PStmt}
-use Rattle.sk_model.specs.Parts.{Part}
-use Rattle.sk_model.specs.Step.{Comp, ◌>>=◌, pure, fail, skip}
-use Rattle.sk_model.specs.Operators.{operator, unary_operator, to_int}
-use Rattle.sk_model.specs.Heap.{read, read_field, write}
-use Rattle.sk_model.specs.Eval.{literal, const_value, padded_at, indexed, sliced, choose, binary}
-use Rattle.sk_model.specs.Exec.{Flow, Onward, Returns, onward, pay}
+use Rattle.sk_model.specs.Parts.{Part, counts, in_turn}
+use Rattle.sk_model.specs.Step.{Comp, ◌>>=◌, pure}
+use Rattle.sk_model.specs.Eval.{choose, binary, padded_at, in_order}
+use Rattle.sk_model.specs.Exec.{Flow, Onward}
+use Rattle.sk_model.specs.Open.{hole_value}
+use Rattle.sk_model.specs.Stands.{hole_count}
 use Rattle.sk_sym_state.specs.declared.branch.Side.{Side}
 use Rattle.sk_sym_state.specs.declared.setting.Setting.{Setting}
 use Rattle.sk_sym_state.specs.declared.state.SymState.{SymState}
 use Rattle.sk_sym_state.specs.Meaning.{DoesOn, Executes, ExecutesOn, Evaluates}
 use Rattle.sk_sym_state.specs.Branching.{IsBit, AreJoined}
 use Rattle.sk_sym_steps.specs.Steps.{EvaluatesOn}
+use Rattle.sk_sym_leaves.specs.Lists.{EvaluateAll}
+use Rattle.sk_sym_forms.specs.declared.act.Act.{Act}
+use Rattle.sk_sym_forms.specs.declared.double.Double.{Double}
+use Rattle.sk_sym_forms.specs.declared.single.Single.{Single}
+use Rattle.sk_sym_forms.specs.Forms.{single_does, double_does, act_does}
 use Rattle.sk_sym_walk.specs.declared.activation.Activation.{Activation}
-use Rattle.sk_sym_walk.specs.declared.kind.Act.{Act}
-use Rattle.sk_sym_walk.specs.declared.kind.Act.TheVariants as act
-use Rattle.sk_sym_walk.specs.declared.kind.Double.{Double}
-use Rattle.sk_sym_walk.specs.declared.kind.Double.TheVariants as double
-use Rattle.sk_sym_walk.specs.declared.kind.Single.{Single}
-use Rattle.sk_sym_walk.specs.declared.kind.Single.TheVariants as single
-use Rattle.sk_sym_walk.specs.Walk.{prog_of, eval_part, stmt_part, IsBehind}
+use Rattle.sk_sym_walk.specs.Walk.{values_at, expr_part, eval_part, stmt_part, IsBehind}
 
 -- ---- parts
 
@@ -60,37 +57,9 @@ given b = siteless (λ e. pure (value.Bit b))
 
 -- ---- forms
 
--- what an expression without parts gives
-abbrev pub leaf_does : Activation → Span → PEForm → Option Ty → Comp Value
-leaf_does a span (eform.Number n) t = pure (literal a.bounds.int_bits t n)
-leaf_does a span eform.True t = pure (value.Bit true)
-leaf_does a span eform.False t = pure (value.Bit false)
-leaf_does a span eform.Null t = pure value.Null
-leaf_does a span (eform.Var slot x) t = read slot
-leaf_does a span (eform.Const c) t = pure (const_value (slice_get (prog_of a).consts c.index))
-leaf_does a span _ t = fail span
-
--- what is done with the value of an expression's part
-abbrev pub single_does : ℕ → Span → Single → Value → Comp Value
-single_does width span (single.Unary op) v = unary_operator width span op v
-single_does width span single.ToInt v = to_int span v
-single_does width span (single.Pad t) v = pure (padded_at t v)
-single_does width span (single.Member s field) v = read_field span field v
-
--- what is done with the values of two
-abbrev pub double_does : ℕ → Span → Double → Value → Value → Comp Value
-double_does width span (double.Operator op) v w = operator width span op v w
-double_does width span double.Index v w = indexed span v w
-double_does width span (double.Slice n) v w = sliced span n v w
-
--- what a statement does with the value of its expression
-abbrev pub act_does : Span → Act → Value → Comp Flow
-act_does span act.Assert = choose span (pure Onward) (fail span)
-act_does span act.Assume = choose span (pure Onward) (skip span)
-act_does span act.Minimize = pay span
-act_does span act.Drop = λ v. pure Onward
-act_does span act.Return = λ v. pure (Returns (Some v))
-act_does span (act.Declare slot) = λ v. onward (write slot v)
+-- a hole at a type
+abbrev pub hole_part : Activation → Option Ty → Env → Part (Comp Value)
+hole_part a t e = record { count = hole_count t; at = λ i. pure (hole_value (values_at a e) a.bounds.int_bits t i) }
 
 abbrev pub single_part : Activation → Span → Single → PExpr → Env → Part (Comp Value)
 single_part a span what x = then_part (eval_part a span x) (λ e. single_does a.bounds.int_bits span what)
@@ -121,6 +90,13 @@ ways_part a span s o = either_part span (stmt_part a s) (other_part a o)
 
 abbrev pub branch_part : Activation → Span → PExpr → PStmt → Option PStmt → Env → Part (Comp Flow)
 branch_part a span c s o = then_parts (eval_part a span c) (ways_part a span s o)
+
+-- expressions from left to right
+abbrev pub list_part : Activation → Span → List PExpr → Env → Part (Comp (List Value))
+list_part a span xs e = record { count = counts (map (λ x. expr_part a x e) xs); at = λ i. in_order span (in_turn (map (λ x. expr_part a x e) xs) i) }
+
+abbrev pub braces_part : Activation → Span → Option Ty → List PExpr → Env → Part (Comp Value)
+braces_part a span t xs e = record { count = (list_part a span xs e).count; at = λ i. (list_part a span xs e).at i >>= (λ vs. pure (padded_at t (value.Array vs))) }
 
 -- ---- answers
 
@@ -156,3 +132,8 @@ pub record IsGuarded (a : Activation) (d0 d1 : Graph) (s0 s1 : SymState) (i j : 
 pub record AreJoinedWith (x : Setting) (d0 d1 : Graph) (s0 s1 : SymState) (cond : BoolId) (gone : Side) (a b r : Shape) : Type 0 where
   pub joined : AreJoined x d0 d1 s0 s1 cond gone
   pub choice : IsChoice d1 cond a b r
+
+-- shapes that are worth the values of a list of expressions
+pub record AreEvaluated (a : Activation) (d0 d1 : Graph) (s0 s1 : SymState) (i j : ℕ) (part : Env → Part (Comp (List Value))) (list : List Shape) : Type 0 where
+  pub evaluate : EvaluateAll a.setting d0 d1 s0 s1 list (λ e. (part e).at i)
+  pub place : IsBehind part i j

@@ -6,15 +6,15 @@ ghost use Rattle.sk_sym_state.specs.Stands.{StateStands};
 ghost use Rattle.sk_sym_state.specs.Meaning.{Executes};
 ghost use Rattle.sk_sym_state.specs.Branching.{IsBit};
 ghost use Rattle.sk_sym_walk.specs.Walk.{exec_all_at, eval_part, stmt_part, all_part, IsBehind};
-ghost use Rattle.sk_sym_walk.specs.Parts.{IsEvaluated, IsEvaluatedOn, IsGuarded, IsExecuted, IsExecutedOn, given, either_part, single_part, double_part, binary_part, pick_part, cond_part, act_part, other_part, ways_part, branch_part};
+ghost use Rattle.sk_sym_walk.specs.Parts.{IsEvaluated, IsEvaluatedOn, IsGuarded, IsExecuted, IsExecutedOn, AreEvaluated, given, either_part, single_part, double_part, binary_part, pick_part, cond_part, act_part, other_part, ways_part, branch_part, list_part, braces_part};
 
-use crate::kind::{Act, Double, Single};
-use crate::leaf::{act, apply, apply_two, declare_zero, give_nothing, hole, leaf};
+use crate::leaf::{hole, leaf};
 use crate::step::{is_over, joined, pass_other};
-use sk_base::{Bounds, Boxed, Span};
+use sk_base::{Bounds, Boxed, List, Span};
 use sk_dag::{BoolId, Dag, Shape};
 use sk_folded::{and, known_bool, not, or};
-use sk_prog::{BinOp, PEForm, PExpr, PForm, PStmt};
+use sk_prog::{BinOp, PEForm, PExpr, PForm, PStmt, Ty};
+use sk_sym_forms::{Act, Double, Single, apply, apply_two, declare_zero, give_nothing, perform};
 use sk_sym_sites::{pass_expr, pass_stmt};
 use sk_sym_state::{Setting, SymState};
 use std::alloc::AllocError;
@@ -63,6 +63,38 @@ impl Activation<'_> {
             }
             PEForm::ToInt(of) => self.single(room, dag, state, at, span, Single::ToInt, of.get()),
             PEForm::Pad(of) => self.single(room, dag, state, at, span, Single::Pad(e.ty), of.get()),
+            PEForm::Member { base, s, field } => self.single(
+                room,
+                dag,
+                state,
+                at,
+                span,
+                Single::Member(*s, *field),
+                base.get(),
+            ),
+            PEForm::Index { base, index } => self.double(
+                room,
+                dag,
+                state,
+                at,
+                span,
+                Double::Index,
+                base.get(),
+                index.get(),
+            ),
+            PEForm::Slice { base, from, length } => self.double(
+                room,
+                dag,
+                state,
+                at,
+                span,
+                Double::Slice(*length),
+                base.get(),
+                from.get(),
+            ),
+            PEForm::Braces(parts) => {
+                self.braces(room, dag, state, at, span, e.ty, parts.as_slice())
+            }
             PEForm::Binary { op, left, right } => {
                 self.binary(room, dag, state, at, span, *op, left.get(), right.get())
             }
@@ -97,7 +129,15 @@ impl Activation<'_> {
         ensures evaluated { IfOk result (λ r. IsEvaluated self.now dag.old dag.new state.old state.new at.old at.new (single_part self.now span what of.now) r) }
     {
         let a = self.eval(room, dag, state, at, span, of)?;
-        let r = apply(self, dag, state, span, what, &a)?;
+        let r = apply(
+            &self.setting,
+            dag,
+            state,
+            self.bounds.int_bits,
+            span,
+            what,
+            a,
+        )?;
         Ok(r)
     }
 
@@ -120,7 +160,16 @@ impl Activation<'_> {
     {
         let a = self.eval(room, dag, state, at, span, left)?;
         let b = self.eval(room, dag, state, at, span, right)?;
-        let r = apply_two(self, dag, state, span, what, &a, &b)?;
+        let r = apply_two(
+            &self.setting,
+            dag,
+            state,
+            self.bounds.int_bits,
+            span,
+            what,
+            &a,
+            &b,
+        )?;
         Ok(r)
     }
 
@@ -341,6 +390,58 @@ impl Activation<'_> {
         Ok(r)
     }
 
+    /// The values of expressions, from left to right.
+    #[cycle(eval)]
+    #[inline(never)]
+    fn all(
+        &self,
+        room: u32,
+        dag: &mut Dag,
+        state: &mut SymState,
+        at: &mut usize,
+        span: Span,
+        parts: &[PExpr],
+    ) -> Result<List<Shape>, AllocError>
+        requires stands { StateStands dag.old self.now.setting.expanded.now.prog state.old }
+        ensures evaluated { IfOk result (λ made. AreEvaluated self.now dag.old dag.new state.old state.new at.old at.new (list_part self.now span parts.now) made) }
+    {
+        let mut made = List::new(self.setting.alloc);
+        for part in parts {
+            let one = self.eval(room, dag, state, at, span, part)?;
+            made.push(one)?;
+        }
+        Ok(made)
+    }
+
+    /// An array of elements that are written out, at its type.
+    #[cycle(eval)]
+    #[inline(never)]
+    fn braces(
+        &self,
+        room: u32,
+        dag: &mut Dag,
+        state: &mut SymState,
+        at: &mut usize,
+        span: Span,
+        ty: Option<Ty>,
+        parts: &[PExpr],
+    ) -> Result<Shape, AllocError>
+        requires stands { StateStands dag.old self.now.setting.expanded.now.prog state.old }
+        ensures evaluated { IfOk result (λ r. IsEvaluated self.now dag.old dag.new state.old state.new at.old at.new (braces_part self.now span ty parts.now) r) }
+    {
+        let made = self.all(room, dag, state, at, span, parts)?;
+        let r = apply(
+            &self.setting,
+            dag,
+            state,
+            self.bounds.int_bits,
+            span,
+            Single::Pad(ty),
+            Shape::Array(made),
+        )?;
+        Ok(r)
+    }
+
     /// Runs statements one after another, until one returns. The first of their sites has the place `at`, which moves behind
     /// the last. `room` is how many levels of statements and expressions may nest, past which the answer is want of memory.
     ///
@@ -429,7 +530,7 @@ impl Activation<'_> {
         ensures executed { OnOk result (IsExecuted self.now dag.old dag.new state.old state.new at.old at.new (act_part self.now span what e.now)) }
     {
         let v = self.eval(room, dag, state, at, span, e)?;
-        act(self, dag, state, span, what, v)?;
+        perform(&self.setting, dag, state, span, what, v)?;
         Ok(())
     }
 

@@ -2,7 +2,6 @@
 #![tactic(auto)]
 
 mod activation;
-mod kind;
 mod leaf;
 mod step;
 

@@ -1,16 +1,18 @@
 use Rattle.std.proofs.Common.{◌≡◌, ◌+◌, true, false, arith, refl, sym, ap, subst, ◌∙◌}
+use Rattle.std.proofs.lemmas.List.{take_all}
 use Rattle.sk_dag.specs.declared.env.Env.{Env}
 use Rattle.sk_dag.specs.Graph.{Graph, Grows, BoolSort}
 use Rattle.sk_dag.specs.Eval.{bool_value}
 use Rattle.sk_dag.proofs.EvalLemmas.{Keeps-trans}
 use Rattle.sk_arr.proofs.Makers.{Keeps-refl}
-use Rattle.sk_arr.proofs.Standing.{Stands-keeps, bit_there, bit_stands}
+use Rattle.sk_arr.proofs.Standing.{Stands-keeps, bit_there, bit_stands, array_stands}
 use Rattle.sk_sym_state.proofs.Standing.{StateStands-keeps, SideStands-keeps, turned_stands, gone_stands}
 use Rattle.sk_sym_walk.specs.Walk.{eval_part}
-use Rattle.sk_sym_walk.specs.Parts.{given}
+use Rattle.sk_sym_walk.specs.Parts.{given, list_part, AreEvaluated}
 use Rattle.sk_sym_walk.proofs.Sequences.{ok_more, evaluated_as, bit_worth, evaluated_then, evaluated_parts, two_evaluated, given_evaluated}
 use Rattle.sk_sym_walk.proofs.Ways.{first_evaluated, second_evaluated, both_evaluated, guarded_is, also_evaluated, otherwise_evaluated}
-use Rattle.sk_sym_walk.proofs.Layers.{same_paren, same_unary, same_to_int, same_pad, same_binary, same_cond, same_eager, same_also, same_otherwise}
+use Rattle.sk_sym_walk.proofs.Layers.{same_paren, same_unary, same_to_int, same_pad, same_member, same_index, same_slice, same_braces, same_binary, same_cond, same_eager, same_also, same_otherwise}
+use Rattle.sk_sym_walk.proofs.Lists.{list_none, list_more, braces_evaluated}
 use Rattle.sk_sym_walk.proofs.Places.{expr_behind}
 use Rattle.sk_sym_walk.proofs.activation.Activation.+eval.Goals as goal
 
@@ -63,6 +65,63 @@ pub eval-returns-in-Cond : goal.eval-returns-in-Cond
 eval-returns-in-Cond t c =
     let is = rw (← c.get-in-Cond.ensures, ← c.get-in-Cond-2.ensures, ← c.get-in-Cond-3.ensures) at c.in-Cond.is in
     record { evaluated = ok_more c.cond.result (λ r. evaluated_as (same_cond c.args.self.now c.args.span c.args.e.now c.get-in-Cond.result.now c.get-in-Cond-2.result.now c.get-in-Cond-3.result.now is)) c.cond.ensures.evaluated }
+
+pub eval-single-requires-in-Member : goal.eval-single-requires-in-Member
+eval-single-requires-in-Member t c = (omega arith, c.requires.stands)
+
+pub eval-double-requires : goal.eval-double-requires
+eval-double-requires t c = (omega arith, c.requires.stands)
+
+pub eval-double-requires-in-Slice : goal.eval-double-requires-in-Slice
+eval-double-requires-in-Slice t c = (omega arith, c.requires.stands)
+
+pub eval-braces-requires : goal.eval-braces-requires
+eval-braces-requires t c = (omega arith, c.requires.stands)
+
+pub eval-returns-in-Member : goal.eval-returns-in-Member
+eval-returns-in-Member t c =
+    let is = rw (← c.get-in-Member.ensures) at c.in-Member.is in
+    record { evaluated = ok_more c.single-in-Member.result (λ r. evaluated_as (same_member c.args.self.now c.args.span c.args.e.now c.get-in-Member.result.now c.in-Member.s c.in-Member.field is)) c.single-in-Member.ensures.evaluated }
+
+pub eval-returns-in-Index : goal.eval-returns-in-Index
+eval-returns-in-Index t c =
+    let is = rw (← c.get-in-Index.ensures, ← c.get-in-Index-2.ensures) at c.in-Index.is in
+    record { evaluated = ok_more c.double.result (λ r. evaluated_as (same_index c.args.self.now c.args.span c.args.e.now c.get-in-Index.result.now c.get-in-Index-2.result.now is)) c.double.ensures.evaluated }
+
+pub eval-returns-in-Slice : goal.eval-returns-in-Slice
+eval-returns-in-Slice t c =
+    let is = rw (← c.get-in-Slice.ensures, ← c.get-in-Slice-2.ensures) at c.in-Slice.is in
+    record { evaluated = ok_more c.double-in-Slice.result (λ r. evaluated_as (same_slice c.args.self.now c.args.span c.args.e.now c.get-in-Slice.result.now c.get-in-Slice-2.result.now c.in-Slice.length is)) c.double-in-Slice.ensures.evaluated }
+
+pub eval-returns-in-Braces : goal.eval-returns-in-Braces
+eval-returns-in-Braces t c =
+    let is = rw (← c.as_slice.ensures) at c.in-Braces.is in
+    record { evaluated = ok_more c.braces.result (λ r. evaluated_as (same_braces c.args.self.now c.args.span c.args.e.now c.as_slice.result.now is)) c.braces.ensures.evaluated }
+
+-- ---- lists
+
+pub all-eval-requires : goal.all-eval-requires
+all-eval-requires t c = (omega arith, c.loop-part.invariant.evaluate.does.moves.stands)
+
+pub all-loop-part-init : goal.all-loop-part-init
+all-loop-part-init t c = rw c.new-made.ensures (list_none c.args.span c.requires.stands)
+
+pub all-loop-part-preserved : goal.all-loop-part-preserved
+all-loop-part-preserved t c = rw c.in_ok-push.ensures.ok (list_more c.args.self.now c.args.span c.args.parts.now c.loop-part.part-index c.part-item.result c.loop-part-test.true c.part-item.is c.loop-part.invariant c.in_ok-one.ensures.evaluated)
+
+pub all-returns : goal.all-returns
+all-returns t c =
+    let whole = take_all c.loop-part.part-index c.args.parts.now (omega arith) in
+    record { evaluated = subst (λ xs. AreEvaluated c.args.self.now c.args.dag.now c.loop-part.dag c.args.state.now c.loop-part.state c.args.at.now c.loop-part.at (list_part c.args.self.now c.args.span xs) c.loop-part.made) whole c.loop-part.invariant }
+
+pub braces-all-requires : goal.braces-all-requires
+braces-all-requires t c = (omega arith, c.requires.stands)
+
+pub braces-apply-requires-clause-a : goal.braces-apply-requires-clause-a
+braces-apply-requires-clause-a t c = array_stands _ _ c.in_ok-made.ensures.evaluated.evaluate.there
+
+pub braces-returns : goal.braces-returns
+braces-returns t c = record { evaluated = braces_evaluated c.args.span c.args.ty c.args.parts.now c.in_ok-made.ensures.evaluated c.in_ok-r.ensures.evaluates }
 
 -- ---- parts, one after another
 

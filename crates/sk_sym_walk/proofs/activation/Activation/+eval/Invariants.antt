@@ -1,4 +1,5 @@
-use Rattle.std.proofs.Common.{◌+◌, ◌*◌}
+use Rattle.std.proofs.Common.{◌+◌, ◌*◌, take}
+use Rattle.sk_sym_walk.specs.Parts.{list_part, AreEvaluated}
 use Rattle.sk_sym_walk.proofs.activation.Activation.+eval.Given as goal
 
 abbrev pub decreases-eval : goal.decreases-eval
@@ -30,3 +31,13 @@ decreases-binary l = 8 * l.room + 3
 
 abbrev pub decreases-cond : goal.decreases-cond
 decreases-cond l = 8 * l.room + 3
+
+abbrev pub decreases-all : goal.decreases-all
+decreases-all l = 8 * l.room + 1
+
+abbrev pub decreases-braces : goal.decreases-braces
+decreases-braces l = 8 * l.room + 2
+
+-- the expressions so far are evaluated
+abbrev pub invariant-all-loop-part : goal.invariant-all-loop-part
+invariant-all-loop-part l = AreEvaluated l.self l.fn.dag l.dag l.fn.state l.state l.fn.at l.at (list_part l.self l.span (take l.part-index l.parts)) l.made
