@@ -1,7 +1,6 @@
 //! Variables.
 
-ghost use Rattle.std.specs.Prelude.{◌≡◌, IfOk};
-ghost use Rattle.sk_dag.specs.Graph.{Graph};
+ghost use Rattle.std.specs.Prelude.{IfOk};
 ghost use Rattle.sk_model.specs.Heap.{read};
 ghost use Rattle.sk_sym_state.specs.Stands.{StateStands};
 ghost use Rattle.sk_sym_state.specs.Meaning.{Evaluates};

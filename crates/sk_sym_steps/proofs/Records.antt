@@ -41,7 +41,7 @@ use Rattle.sk_seen.specs.Heaps.{HeapGrows}
 use Rattle.sk_sym_steps.specs.Steps.{same_kind, is_kind, EvaluatesOn}
 
 -- the structs of the slots tell which slots are of a struct
-kind_of : (heap : List Slot) (structs : List StructId) (s : StructId) (n : ℕ) → map struct_of heap ≡ structs → is_kind structs s n ≡ is_of heap s n
+pub kind_of : (heap : List Slot) (structs : List StructId) (s : StructId) (n : ℕ) → map struct_of heap ≡ structs → is_kind structs s n ≡ is_of heap s n
 kind_of heap structs s n are = ap (λ l. same_kind s (slice_get l n)) (sym are) ∙ ap (same_kind s) (slice_get-map struct_of heap n) ∙ by (slice_get heap n)
   where
     by : (o : Option Slot) → same_kind s (option_map struct_of o) ≡ is_struct s o

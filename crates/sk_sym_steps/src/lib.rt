@@ -7,4 +7,4 @@ mod record;
 
 pub use condition::{assert_that, assume_that};
 pub use cost::pay;
-pub use record::{allocate, read_field};
+pub use record::{allocate, are_kind, read_field};

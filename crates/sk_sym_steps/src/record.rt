@@ -47,7 +47,7 @@ fn is_kind(structs: &[StructId], s: StructId, slot: u32) -> bool
 }
 
 /// Whether each target is a slot of a struct.
-fn are_kind(structs: &[StructId], s: StructId, targets: &[(u32, BoolId)]) -> bool
+pub fn are_kind(structs: &[StructId], s: StructId, targets: &[(u32, BoolId)]) -> bool
     ensures { IsTrue result → AllPass (is_kind structs.now s) targets.now }
 {
     for (slot, _) in targets {

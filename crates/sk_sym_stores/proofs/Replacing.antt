@@ -1,0 +1,120 @@
+-- A part of a value is replaced.
+use Rattle.std.proofs.Common.{◌≡◌, ℕ, Bool, true, false, true≢false, List, [], ◌∷◌, map, Some, None, option_map, refl, sym, ap, subst, ◌∙◌}
+use Rattle.std.specs.Prelude.{not, ◌||◌, option_and_then, if◌then◌else◌}
+use Rattle.std.proofs.lemmas.List.Elements.{All-head, All-tail}
+use Rattle.sk_dag.specs.declared.env.Env.{Env}
+use Rattle.sk_dag.specs.declared.node.BoolId.{BoolId}
+use Rattle.sk_dag.specs.declared.node.WordId.{WordId}
+use Rattle.sk_dag.specs.declared.shape.Shape.{Shape}
+use Rattle.sk_dag.specs.declared.shape.Shape.TheVariants as shape
+use Rattle.sk_dag.specs.declared.shape.Seen.TheVariants as seen
+use Rattle.sk_dag.specs.Graph.{Graph, Grows, HasBool, HasWord, WordSort}
+use Rattle.sk_dag.specs.Eval.{bool_value, word_value, Keeps}
+use Rattle.sk_dag.specs.EvalShape.{shape_value}
+use Rattle.sk_arr.specs.Shapes.{blank, Alike, Stands, SlotsPass}
+use Rattle.sk_arr.specs.Places.{is_within, element_of, replaced_at}
+use Rattle.sk_arr.specs.Answers.{shapes_value, IsCopy, IsRead}
+use Rattle.sk_arr.proofs.Standing.{Stands-keeps, AllStand-keeps, array_stands}
+use Rattle.sk_arr.proofs.Values.{value_array, blank_array, length_map, parts_pass, array_passes}
+use Rattle.sk_prog.specs.declared.value.Value.TheVariants as value
+use Rattle.sk_model.specs.Values.{replaced}
+use Rattle.sk_seen.specs.Values.{place_of, value_of, IsLive}
+use Rattle.sk_seen.proofs.Parts.{array_live, live_array}
+use Rattle.sk_operate.specs.Worth.{worth}
+use Rattle.sk_operate.proofs.Operating.{worth_array}
+use Rattle.sk_operate.proofs.Elements.{element_as, none_outside, element_live}
+use Rattle.sk_sym_stores.specs.Locations.{AreWords}
+use Rattle.sk_sym_stores.specs.Replaced.{IsReplaced, HasElement, IsFirstIndex}
+use Rattle.sk_sym_stores.proofs.Elements.{set_at, replaced_in, map_replaced, replaced_live}
+
+-- ---- indexes
+
+pub words_keep : {a b : Graph} {list : List WordId} → Keeps a b → AreWords a list → AreWords b list
+words_keep {list = list} k h = record { each = λ i d l. k.sorts _ WordSort (h.each i d l) }
+
+pub first_word : {d : Graph} {indexes more : List WordId} {index : WordId} → IsFirstIndex indexes index more → AreWords d indexes → HasWord d.nodes index
+first_word {d} {indexes} {more} {index} is h = All-head (HasWord d.nodes) index more (subst (AreWords d) is.front h).each
+
+pub more_words : {d : Graph} {indexes more : List WordId} {index : WordId} → IsFirstIndex indexes index more → AreWords d indexes → AreWords d more
+more_words {d} {indexes} {more} {index} is h = record { each = All-tail (HasWord d.nodes) index more (subst (AreWords d) is.front h).each }
+
+-- ---- no index
+
+pub replaced_whole : {g d : Graph} {indexes : List WordId} {whole part r : Shape} {fails : BoolId} → indexes ≡ [] → Stands d part → Keeps d g → Alike part whole → ((h : Graph) → Stands h part → IsCopy h part r) → HasBool g.nodes fails → ((h : Graph) → Grows g h → (e : Env) → bool_value h e fails ≡ false) → IsReplaced g indexes whole part r fails
+replaced_whole {g} {d} {indexes} {whole} {part} {r} {fails} none stands keeps alike copy there never =
+    let is : IsCopy g part r = copy g (Stands-keeps keeps stands) in
+    record {
+      stands = is.stands;
+      there = there;
+      alike = is.alike ∙ alike;
+      named = λ test p q. is.named test q;
+      live = λ h more e holds p q n. subst (IsLive holds) (sym (is.value h e)) q;
+      value = λ h more e holds.
+          ap (λ l. replaced (map (word_value h e) l) (worth holds h e whole) (worth holds h e part)) none
+          ∙ ap (λ v. Some (value_of (place_of holds) v)) (sym (is.value h e))
+          ∙ ap (λ (b : Bool). if b then None else Some (worth holds h e r)) (sym (never h more e));
+    }
+
+-- ---- one index more
+
+module _ {d1 d2 d3 d4 : Graph} {indexes more : List WordId} {index : WordId} {list : List Shape} {whole part old new r : Shape} {outside inside fails : BoolId} (first : IsFirstIndex indexes index more) (is : whole ≡ shape.Array list)
+    (read : IsRead d1 list index old outside) (one : Keeps d1 d2) (rest : IsReplaced d2 more old part new inside) (two : Keeps d2 d3) (made : HasElement d3 list index new r) (three : Keeps d3 d4)
+    (there : HasBool d4.nodes fails) (either : (h : Graph) → Grows d4 h → (e : Env) → bool_value h e fails ≡ (bool_value h e outside || bool_value h e inside)) where
+  whole_passes : (test : ℕ → Bool) → SlotsPass test whole → SlotsPass test part → SlotsPass test r
+  whole_passes test p q =
+      let all = parts_pass test list (subst (SlotsPass test) is p) in
+      subst (SlotsPass test) (sym made.whole) (array_passes test made.parts (made.named test all (rest.named test (read.named test all) q)))
+
+  seen_whole : (h : Graph) (e : Env) → shape_value h e whole ≡ seen.Array (shapes_value h e list)
+  seen_whole h e = ap (shape_value h e) is ∙ value_array h e list
+
+  seen_made : (h : Graph) → Grows d4 h → (e : Env) → shape_value h e r ≡ seen.Array (replaced_at (shapes_value h e list) (word_value h e index) (shape_value h e new))
+  seen_made h m e = ap (shape_value h e) made.whole ∙ value_array h e made.parts ∙ ap (λ l. seen.Array l) (made.written h (three.later h m) e)
+
+  made_live : (h : Graph) → Grows d4 h → (e : Env) (holds : ℕ → Bool) → IsLive holds (shape_value h e whole) → IsLive holds (shape_value h e part) → (b c : Bool) → bool_value h e outside ≡ b → bool_value h e inside ≡ c → (b || c) ≡ false → IsLive holds (shape_value h e r)
+  made_live h m e holds p q false false o n f =
+      let all = array_live holds (shapes_value h e list) (subst (IsLive holds) (seen_whole h e) p) in
+      let h3 = three.later h m in
+      let h2 = two.later h h3 in
+      let was = element_live holds (shapes_value h e list) (word_value h e index) (shape_value h e old) all (read.value h (one.later h h2) e o) in
+      let now = rest.live h h2 e holds was q n in
+      subst (IsLive holds) (sym (seen_made h m e)) (live_array holds (replaced_at (shapes_value h e list) (word_value h e index) (shape_value h e new)) (replaced_live holds (shapes_value h e list) (word_value h e index) (shape_value h e new) all now))
+  made_live h m e holds p q true c o n f = absurd (true≢false f)
+  made_live h m e holds p q false true o n f = absurd (true≢false f)
+
+  made_value : (h : Graph) → Grows d4 h → (e : Env) (holds : ℕ → Bool) (b c : Bool) → bool_value h e outside ≡ b → bool_value h e inside ≡ c
+      → option_and_then (λ v. option_and_then (λ w. Some (value.Array (set_at (map (value_of (place_of holds)) (shapes_value h e list)) (word_value h e index) w))) (replaced (map (word_value h e) more) v (worth holds h e part))) (option_map (value_of (place_of holds)) (element_of (shapes_value h e list) (word_value h e index)))
+      ≡ (if b || c then None else Some (worth holds h e r))
+  made_value h m e holds true c o n =
+      let gone = none_outside (shapes_value h e list) (word_value h e index) (ap (λ n. not (is_within n (word_value h e index))) (length_map (shape_value h e) list) ∙ sym (read.left h (one.later h (two.later h (three.later h m))) e) ∙ o) in
+      ap (λ t. option_and_then (λ v. option_and_then (λ w. Some (value.Array (set_at (map (value_of (place_of holds)) (shapes_value h e list)) (word_value h e index) w))) (replaced (map (word_value h e) more) v (worth holds h e part))) (option_map (value_of (place_of holds)) t)) gone
+  made_value h m e holds false c o n =
+      let h2 = two.later h (three.later h m) in
+      let found = read.value h (one.later h h2) e o in
+      let ws = map (value_of (place_of holds)) (shapes_value h e list) in
+      ap (λ t. option_and_then (λ v. option_and_then (λ w. Some (value.Array (set_at ws (word_value h e index) w))) (replaced (map (word_value h e) more) v (worth holds h e part))) (option_map (value_of (place_of holds)) t)) found
+      ∙ ap (λ t. option_and_then (λ w. Some (value.Array (set_at ws (word_value h e index) w))) t) (rest.value h h2 e holds)
+      ∙ by c n
+    where
+      by : (c : Bool) → bool_value h e inside ≡ c → option_and_then (λ w. Some (value.Array (set_at (map (value_of (place_of holds)) (shapes_value h e list)) (word_value h e index) w))) (if bool_value h e inside then None else Some (worth holds h e new)) ≡ (if false || c then None else Some (worth holds h e r))
+      by true n = ap (λ (b : Bool). option_and_then (λ w. Some (value.Array (set_at (map (value_of (place_of holds)) (shapes_value h e list)) (word_value h e index) w))) (if b then None else Some (worth holds h e new))) n
+      by false n =
+          ap (λ (b : Bool). option_and_then (λ w. Some (value.Array (set_at (map (value_of (place_of holds)) (shapes_value h e list)) (word_value h e index) w))) (if b then None else Some (worth holds h e new))) n
+          ∙ ap (λ l. Some (value.Array l)) (sym (map_replaced (place_of holds) (shapes_value h e list) (word_value h e index) (shape_value h e new)) ∙ ap (map (value_of (place_of holds))) (sym (made.written h (three.later h m) e)))
+          ∙ ap (λ v. Some v) (sym (worth_array holds h e made.parts made.whole))
+
+  pub replaced_more : IsReplaced d4 indexes whole part r fails
+  replaced_more = record {
+    stands = subst (Stands d4) (sym made.whole) (array_stands d4 made.parts (AllStand-keeps three made.stand));
+    there = there;
+    alike = ap blank made.whole ∙ blank_array made.parts ∙ ap (λ l. seen.Array l) made.alike ∙ sym (blank_array list) ∙ sym (ap blank is);
+    named = whole_passes;
+    live = λ h m e holds p q f. made_live h m e holds p q (bool_value h e outside) (bool_value h e inside) refl refl (sym (either h m e) ∙ f);
+    value = λ h m e holds.
+        ap (λ l. replaced (map (word_value h e) l) (worth holds h e whole) (worth holds h e part)) first.front
+        ∙ ap (λ v. replaced (word_value h e index ∷ map (word_value h e) more) v (worth holds h e part)) (worth_array holds h e list is)
+        ∙ replaced_in (word_value h e index) (map (word_value h e) more) (map (value_of (place_of holds)) (shapes_value h e list)) (worth holds h e part)
+        ∙ ap (λ t. option_and_then (λ v. option_and_then (λ w. Some (value.Array (set_at (map (value_of (place_of holds)) (shapes_value h e list)) (word_value h e index) w))) (replaced (map (word_value h e) more) v (worth holds h e part))) t) (element_as (place_of holds) (shapes_value h e list) (word_value h e index))
+        ∙ made_value h m e holds (bool_value h e outside) (bool_value h e inside) refl refl
+        ∙ ap (λ (b : Bool). if b then None else Some (worth holds h e r)) (sym (either h m e));
+  }

@@ -1,0 +1,5 @@
+pub mod Locations
+pub mod Replaced
+pub mod Kinds
+pub mod Stores
+pub mod Records

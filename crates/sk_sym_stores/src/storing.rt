@@ -1,0 +1,162 @@
+//! Stores at the locations that targets name.
+
+ghost use Rattle.std.specs.Prelude.{OnOk};
+ghost use Rattle.sk_arr.specs.Shapes.{Stands};
+ghost use Rattle.sk_model.specs.Exec.{onward};
+ghost use Rattle.sk_model.specs.Heap.{store as stored};
+ghost use Rattle.sk_sym_state.specs.Stands.{StateStands};
+ghost use Rattle.sk_sym_state.specs.Meaning.{ExecutesOn};
+ghost use Rattle.sk_dag.specs.declared.shape.Shape.TheVariants.{Reference};
+ghost use Rattle.sk_heap.specs.Heaps.{RefersTo};
+ghost use Rattle.sk_sym_stores.specs.declared.location.Root.TheVariants.{Variable, Field};
+ghost use Rattle.sk_sym_stores.specs.Kinds.{MayHold};
+ghost use Rattle.sk_sym_stores.specs.Locations.{AreWords, LocationStands};
+ghost use Rattle.sk_sym_stores.specs.Stores.{IsStored, Stores};
+
+use crate::kind::may_hold;
+use crate::location::{Location, Root};
+use crate::replacement::replaced;
+use sk_base::Span;
+use sk_dag::{Dag, Shape, Targets, WordId};
+use sk_folded::or;
+use sk_prog::StructId;
+use sk_sym_state::{Setting, SymState};
+use sk_sym_steps::are_kind;
+use std::alloc::AllocError;
+
+/// Stores a value in a variable, or in a part of it.
+fn store_variable(
+    setting: &Setting<'_>,
+    dag: &mut Dag,
+    state: &mut SymState,
+    span: Span,
+    slot: u32,
+    indexes: &[WordId],
+    value: &Shape,
+) -> Result<(), AllocError>
+    requires stands { StateStands dag.old setting.now.expanded.now.prog state.old }
+    requires indexes { AreWords dag.old indexes.now }
+    requires value { Stands dag.old value.now }
+    ensures stores { OnOk result (Stores setting.now dag.old dag.new state.old state.new span (record { root = Variable slot; indexes = indexes.now }) value.now) }
+{
+    let whole = state.read(setting.alloc, slot)?;
+    let made = replaced(setting.alloc, dag, indexes, &whole, value)?;
+    state.fail_where(setting, dag, made.fails)?;
+    state.assign(slot, made.value)?;
+    Ok(())
+}
+
+/// Stores a value in a field of the slot that a reference is at, or in a part of it.
+fn store_target(
+    setting: &Setting<'_>,
+    dag: &mut Dag,
+    state: &mut SymState,
+    span: Span,
+    target: &Targets,
+    kind: StructId,
+    field: u32,
+    indexes: &[WordId],
+    value: &Shape,
+) -> Result<(), AllocError>
+    requires stands { StateStands dag.old setting.now.expanded.now.prog state.old }
+    requires target { RefersTo dag.old state.old.heap kind target.now }
+    requires may { MayHold setting.now.expanded.now.prog state.old.structs kind field value.now }
+    requires indexes { AreWords dag.old indexes.now }
+    requires value { Stands dag.old value.now }
+    ensures stores { OnOk result (Stores setting.now dag.old dag.new state.old state.new span (record { root = Field (Reference target.now) kind field; indexes = indexes.now }) value.now) }
+{
+    let prog = &setting.expanded.prog;
+    let (whole, null) = state
+        .heap
+        .read_field(setting.alloc, dag, prog, kind, target, field)?;
+    let made = replaced(setting.alloc, dag, indexes, &whole, value)?;
+    let fails = or(dag, null, made.fails)?;
+    state.fail_where(setting, dag, fails)?;
+    let path = state.path;
+    state
+        .heap
+        .write_field_under(setting.alloc, dag, path, target, field, &made.value)?;
+    Ok(())
+}
+
+/// Stores a value in a field of what a reference stands for, or in a part of it. It fails where the reference is null.
+pub(crate) fn store_field(
+    setting: &Setting<'_>,
+    dag: &mut Dag,
+    state: &mut SymState,
+    span: Span,
+    reference: &Shape,
+    kind: StructId,
+    field: u32,
+    indexes: &[WordId],
+    value: &Shape,
+) -> Result<(), AllocError>
+    requires stands { StateStands dag.old setting.now.expanded.now.prog state.old }
+    requires reference { Stands dag.old reference.now }
+    requires indexes { AreWords dag.old indexes.now }
+    requires value { Stands dag.old value.now }
+    ensures stores { OnOk result (Stores setting.now dag.old dag.new state.old state.new span (record { root = Field reference.now kind field; indexes = indexes.now }) value.now) }
+{
+    let prog = &setting.expanded.prog;
+    let Shape::Reference(target) = reference else {
+        return Err(AllocError);
+    };
+    if !may_hold(prog, state.structs.as_slice(), kind, field, value)
+        || !are_kind(state.structs.as_slice(), kind, target.slots.as_slice())
+    {
+        return Err(AllocError);
+    }
+    store_target(
+        setting, dag, state, span, target, kind, field, indexes, value,
+    )
+}
+
+/// Stores a value at a location. It fails where the location begins at a field of null, and where an index leaves its
+/// array.
+///
+/// # Errors
+///
+/// Memory is wanting, or the shapes are not of the forms and structs that a typed program has there.
+pub fn store(
+    setting: &Setting<'_>,
+    dag: &mut Dag,
+    state: &mut SymState,
+    span: Span,
+    location: &Location,
+    value: &Shape,
+) -> Result<(), AllocError>
+    requires stands { StateStands dag.old setting.now.expanded.now.prog state.old }
+    requires location { LocationStands dag.old location.now }
+    requires value { Stands dag.old value.now }
+    ensures stores { OnOk result (Stores setting.now dag.old dag.new state.old state.new span location.now value.now) }
+{
+    let indexes = location.indexes.as_slice();
+    match &location.root {
+        Root::Variable(slot) => store_variable(setting, dag, state, span, *slot, indexes, value),
+        Root::Field {
+            reference,
+            kind,
+            field,
+        } => store_field(
+            setting, dag, state, span, reference, *kind, *field, indexes, value,
+        ),
+    }
+}
+
+/// An assignment of a value to a location, as `store` does it.
+pub fn assign(
+    setting: &Setting<'_>,
+    dag: &mut Dag,
+    state: &mut SymState,
+    span: Span,
+    location: &Location,
+    value: &Shape,
+) -> Result<(), AllocError>
+    requires stands { StateStands dag.old setting.now.expanded.now.prog state.old }
+    requires location { LocationStands dag.old location.now }
+    requires value { Stands dag.old value.now }
+    ensures executes { OnOk result (ExecutesOn setting.now dag.old dag.new state.old state.new (IsStored state.old.heap location.now value.now) (λ e p. onward (stored span p.0 p.1))) }
+{
+    store(setting, dag, state, span, location, value)?;
+    Ok(())
+}
