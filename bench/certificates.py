@@ -281,6 +281,7 @@ def row(title, way, text):
 
 
 HEAD = b"//@ none\n//@ certificate 2\n//@ inputs 1\n"
+MANY = b"//@ none\n//@ certificate 2\n//@ inputs 0\n"
 PART = b"//@ lower 2 1 1\n//@ names 1 2\n//@ c 1 -2\n//@ l\n//@ end\n"
 
 # Texts in one piece: the title, and the text.
@@ -318,6 +319,10 @@ WHOLE = [
     ("a name twice", HEAD + b"//@ input 0\n" + PART.replace(b"names 1 2", b"names 1 1")),
     ("fewer clauses than are said", HEAD + b"//@ input 0\n" + PART.replace(b"lower 2 1 1", b"lower 2 2 1")),
     ("more clauses than are said", HEAD + b"//@ input 0\n" + PART.replace(b"lower 2 1 1", b"lower 2 0 1")),
+    ("as many variables as 64 bits number", MANY + b"//@ lower 18446744073709551615 0 0\n//@ names\n//@ end\n"),
+    ("the greatest variable, in a clause, a log and names", MANY + b"//@ lower 18446744073709551615 1 1\n//@ names 18446744073709551615\n//@ c 18446744073709551615\n//@ l -18446744073709551615\n//@ end\n"),
+    ("a name past the greatest variable", MANY + b"//@ lower 18446744073709551615 0 0\n//@ names 18446744073709551616\n//@ end\n"),
+    ("very many variables, and fewer clauses than are said", MANY + b"//@ lower 18446744073709551615 2 0\n//@ names\n//@ c 1\n//@ end\n"),
     ("bytes behind the last line", SEEDS[3] + b"\n"),
     ("version 0", SEEDS[0].replace(b"certificate 2", b"certificate 0")),
     ("version 3", SEEDS[0].replace(b"certificate 2", b"certificate 3")),

@@ -129,25 +129,13 @@ fn find_header(alloc: Global, lines: &[&str]) -> Result<(usize, Header), Fault>
     })
 }
 
-// So many variables, and no clauses.
-fn variables(alloc: Global, vars: usize) -> Result<Clauses, AllocError>
-    ensures { IfOk result (λ p. p ≡ record { vars = vars; clauses = [] }) }
-{
-    let mut clauses = Clauses::new(alloc);
-    for v in 0..vars {
-        let made = clauses.fresh()?;
-        prove!(made == v);
-    }
-    Ok(clauses)
-}
-
 // So many variables, and the clauses.
 #[tactic(auto, using(crate::proofs::ReadLemmas::problems))]
 fn problem_of(alloc: Global, vars: usize, list: &ClauseList) -> Result<Clauses, AllocError>
     requires { AreWithin vars list.now }
     ensures { IfOk result (λ p. p ≡ record { vars = vars; clauses = list.now }) }
 {
-    let mut clauses = variables(alloc, vars)?;
+    let mut clauses = Clauses::with_vars(alloc, vars);
     for i in 0..list.len() {
         clauses.push(list.get(i))?;
     }

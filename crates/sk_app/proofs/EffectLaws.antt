@@ -21,7 +21,8 @@ use Rattle.sk_check.specs.declared.fault.TypeFault.{TypeFault}
 use Rattle.sk_sizes.specs.declared.fault.SizeFault.{SizeFault}
 use Rattle.sk_front.specs.declared.fault.TextFault.{TextFault}
 use Rattle.sk_front.specs.Front.{IsUntyped, IsTooLarge}
-use Rattle.sk_front.specs.Texts.{most_bytes, IsTextFault}
+use Rattle.sk_front.specs.Texts.{most_bytes, byte_of, HasSpan, IsTextFault}
+use Rattle.sk_front.proofs.TextLaws.{byte_within}
 use Rattle.sk_app.specs.Streams.{Appends, AppendsPrefix, TakesFew}
 use Rattle.sk_app.specs.Built.{IsBuilt, IsNotBuilt}
 use Rattle.sk_app.specs.ResultText.{IsCompletion, IsNone}
@@ -422,6 +423,12 @@ module _ {words : List (List ℕ)} {r : Ending} {f : Effect} (a : Answers words 
       told_of (ending.NotTyped fault) refl IsUntyped
       (λ set s. told_as words r f set s (ending.NotTyped fault) (IsUntyped set) (λ text h. h.1) e)
       (λ set name values s. by_exec.told_by set name values r f (IsUntyped set) (λ text w. by_exec.not_typed_by set name values r f fault e text w) s.runs) e
+
+  pub text_place : (fault : TextFault) → r ≡ ending.NotText fault → IfSome f.left_old (λ text. byte_of fault ≤ length text)
+  text_place fault e = mapped f.left_old (IsTextFault fault) (λ text. byte_of fault ≤ length text) (λ text h. byte_within text fault h) (not_text fault e)
+
+  pub type_place : (fault : TypeFault) → r ≡ ending.NotTyped fault → IfSome f.left_old (λ text. HasSpan text fault.span)
+  type_place fault e = (text_of words r f (ending.NotTyped fault) refl (λ set. IfSome f.left_old (λ text. HasSpan text fault.span)) (λ set s. s.place fault e) (λ set name values s. s.place fault e) the e).holds
 
   pub too_large : (reason : SizeFault) → r ≡ ending.TooLarge reason → ForText words (λ set. IfSome f.left_old (λ text. IsTooLarge set text reason))
   too_large reason e =

@@ -6,10 +6,14 @@ use Rattle.std.specs.declared.vec.Vec.{Vec}
 use Rattle.sk_base.specs.Stream.{Rose}
 use Rattle.sk_check.specs.declared.fault.TypeFault.{TypeFault}
 use Rattle.sk_sizes.specs.declared.fault.SizeFault.{SizeFault}
+use Rattle.sk_model.specs.declared.outcome.Outcome.{Outcome}
+use Rattle.sk_model.specs.declared.outcome.Outcome.TheVariants as outcome
 use Rattle.sk_opts.specs.declared.line.Set.{Set}
 use Rattle.sk_front.specs.declared.fault.TextFault.{TextFault}
-use Rattle.sk_front.specs.Texts.{most_bytes, IsTextFault}
-use Rattle.sk_front.specs.Front.{IsUntyped, IsTooLarge}
+use Rattle.sk_front.specs.declared.fault.SketchFault.{SketchFault}
+use Rattle.sk_front.specs.declared.fault.SketchFault.TheVariants as fault
+use Rattle.sk_front.specs.Texts.{most_bytes, HasSpan, IsTextFault}
+use Rattle.sk_front.specs.Front.{IsUntyped, IsTooLarge, IsPlacedFault}
 use Rattle.sk_app.specs.declared.prepare.Found.{Found}
 use Rattle.sk_app.specs.declared.prepare.Found.TheVariants as found
 use Rattle.sk_app.specs.declared.prepare.Prepared.{Prepared}
@@ -18,9 +22,9 @@ use Rattle.sk_app.specs.declared.ending.Ending.{Ending}
 use Rattle.sk_app.specs.declared.ending.Ending.TheVariants as ending
 use Rattle.sk_app.specs.Built.{IsTaken, IsNotBuilt}
 use Rattle.sk_app.specs.Prepared.{Finds, IsPrepared}
-use Rattle.sk_app.specs.Streams.{AppendsPrefix}
-use Rattle.sk_app.specs.Ends.{IsDelivered, delivered, cut, no_room, WritesPart, IsToldOf}
-use Rattle.sk_app.specs.Effects.{IsResult}
+use Rattle.sk_app.specs.Streams.{IsWhole, AppendsPrefix}
+use Rattle.sk_app.specs.Ends.{IsDelivered, delivered, cut, no_room, WritesPart, IsToldOf, ending_of}
+use Rattle.sk_app.specs.Effects.{IsResult, refusal}
 
 module _ (set : Set) where
   -- what was found of the text is what the ending tells of it
@@ -31,7 +35,11 @@ module _ (set : Set) where
 
   pub told_not_typed : (left : Option (List ℕ)) (fault : TypeFault) → IfSome left (Finds set (found.NotTyped fault)) → IfSome left (λ text. (length text ≤ most_bytes) × IsUntyped set text)
   told_not_typed None fault h = tt
-  told_not_typed (Some text) fault h = (h.short, h.found)
+  told_not_typed (Some text) fault h = (h.short, h.found.0)
+
+  pub placed_not_typed : (left : Option (List ℕ)) (a b : TypeFault) → IfSome left (Finds set (found.NotTyped a)) → ending.NotTyped a ≡ ending.NotTyped b → IfSome left (λ text. HasSpan text b.span)
+  placed_not_typed None a b h e = tt
+  placed_not_typed (Some text) a b h e = let same : a ≡ b = cc in subst (λ x. HasSpan text x.span) same h.found.1
 
   pub told_too_large : (left : Option (List ℕ)) (reason : SizeFault) → IfSome left (Finds set (found.TooLarge reason)) → IfSome left (λ text. IsTooLarge set text reason)
   told_too_large None reason h = tt
@@ -90,3 +98,27 @@ module _ (set : Set) (a b c d : ℕ) where
   told_completion (Some text) out r bytes old new h by =
       let taken : IsTaken set text = record { bounds = h.found.bounds; e = h.found.e; built = h.found.only.built } in
       told_done text r ending.Completed bytes old new taken taken by
+
+-- Places of faults of types
+
+-- writing a text ends with no fault of types
+pub delivers_no_fault : {A : Type 0} (r done : Ending) (out : List ℕ) (c d : ℕ) (old new : Option (List ℕ)) (f : TypeFault) → (done ≡ ending.NotTyped f → ⊥) → IsDelivered r done out c d old new → r ≡ ending.NotTyped f → A
+delivers_no_fault r done out c d old new f x h e = elim h [ delivered is w ↦ absurd (x (sym is ∙ e)) | cut is w ↦ (let q = sym is ∙ e in cc) | no_room is same ↦ (let q = sym is ∙ e in cc) ]
+
+no_fault_of_run : (o : Outcome) (f : TypeFault) → ending_of o ≡ ending.NotTyped f → ⊥
+no_fault_of_run (outcome.Done result refs cost) f e = cc
+no_fault_of_run (outcome.Failed span) f e = cc
+no_fault_of_run (outcome.Skipped span) f e = cc
+
+pub run_no_fault : {A : Type 0} (r done : Ending) (o : Outcome) (out : List ℕ) (c d : ℕ) (old new : Option (List ℕ)) (f : TypeFault) → done ≡ ending_of o → IsDelivered r done out c d old new → r ≡ ending.NotTyped f → A
+run_no_fault r done o out c d old new f is h e = delivers_no_fault r done out c d old new f (λ q. no_fault_of_run o f (sym is ∙ q)) h e
+
+pub refused_place : (text : List ℕ) (t : SketchFault) (r : Ending) (f : TypeFault) → IsPlacedFault text t → r ≡ refusal t → r ≡ ending.NotTyped f → HasSpan text f.span
+refused_place text (fault.NotTyped a) r f h is e = let q = sym is ∙ e in let same : a ≡ f = cc in subst (λ x. HasSpan text x.span) same h
+refused_place text (fault.NotText a) r f h is e = let q = sym is ∙ e in cc
+refused_place text (fault.TooLarge a) r f h is e = let q = sym is ∙ e in cc
+refused_place text fault.Memory r f h is e = let q = sym is ∙ e in cc
+
+pub whole_place : (left : Option (List ℕ)) (text : List ℕ) (f : TypeFault) → IsWhole text left → HasSpan text f.span → IfSome left (λ t. HasSpan t f.span)
+whole_place None text f w h = tt
+whole_place (Some t) text f w h = subst (λ x. HasSpan x f.span) (sym w.whole) h

@@ -1,4 +1,4 @@
--- The texts that the program takes so far, under the options of a line.
+-- The texts that the program takes, under the options of a line.
 use Rattle.std.specs.Prelude.{ℕ, ◌≡◌, List}
 use Rattle.sk_base.specs.declared.bounds.Bounds.{Bounds}
 use Rattle.sk_tree.specs.declared.item.Tree.{Tree}
@@ -8,7 +8,7 @@ use Rattle.sk_opts.specs.declared.line.Set.{Set}
 use Rattle.sk_front.specs.Front.{IsSizedTo}
 use Rattle.sk_trials.specs.Counts.{IsSmall}
 
--- With these options the text is one that the program takes so far: it means this program under these bounds, with e as
+-- With these options the text is one that the program takes: it means this program under these bounds, with e as
 -- its expansion, within the limits; and e is small enough to try every choice on every input.
 pub record IsBuilt (set : Set) (text : List ℕ) (bounds : Bounds) (e : Expanded) : Type 0 where
   pub tree : Tree
@@ -27,7 +27,7 @@ pub record IsTaken (set : Set) (text : List ℕ) : Type 0 where
   pub e : Expanded
   pub built : IsBuilt set text bounds e
 
--- With these options the text means a program within the limits, and is not taken so far: its expansion is not small.
+-- With these options the text means a program within the limits, and is not taken: its expansion is not small.
 pub record IsNotBuilt (set : Set) (text : List ℕ) : Type 0 where
   pub tree : Tree
   pub bounds : Bounds

@@ -9,6 +9,8 @@ use Rattle.sk_model.specs.declared.outcome.Outcome.{Outcome}
 use Rattle.sk_front.specs.declared.fault.SketchFault.{SketchFault}
 use Rattle.sk_front.specs.declared.fault.SketchFault.TheVariants as fault
 use Rattle.sk_front.specs.Front.{IsFaultOfExpansion}
+use Rattle.sk_front.specs.Texts.{HasSpan}
+use Rattle.sk_check.specs.declared.fault.TypeFault.{TypeFault}
 use Rattle.sk_sizes.specs.declared.fault.SizeFault.{SizeFault}
 use Rattle.sk_sizes.specs.declared.fault.SizeFault.TheVariants as size
 use Rattle.sk_direct.specs.declared.fault.ExecFault.{ExecFault}
@@ -68,12 +70,17 @@ is_of_synth _ = true
 abbrev pub IsResult : Set → List ℕ → List ℕ → Type 0
 IsResult set text out = IsCompletion set text out ⊎ IsNone set text out
 
+-- a fault of types is told at a span of the text
+abbrev pub TellsSpan : Ending → Option (List ℕ) → Type 0
+TellsSpan result left = (fault : TypeFault) → result ≡ NotTyped fault → IfSome left (λ text. HasSpan text fault.span)
+
 -- a call for a line `synth` with these options
 pub record Synthesises (set : Set) (result : Ending) (f : Effect) : Type 0 where
   pub ends : IsTrue (is_of_synth result)
   pub completed : result ≡ Completed → IfSome f.left_old (λ text. Writes (IsCompletion set text) f.held_old f.held_new)
   pub none : result ≡ NoCompletion → IfSome f.left_old (λ text. Writes (IsNone set text) f.held_old f.held_new)
   pub told : IfSome f.left_old (λ text. IsToldOf set text result f.read_faults_old f.read_faults_new f.write_faults_old f.write_faults_new)
+  pub place : TellsSpan result f.left_old
   pub read_fault : result ≡ ReadFault → Rose f.read_faults_old f.read_faults_new
   pub write_fault : result ≡ WriteFault → Rose f.write_faults_old f.write_faults_new
   pub prefix : result ≡ WriteFault → IfSome f.left_old (λ text. WritesPart (IsResult set text) f.held_old f.held_new)
@@ -120,6 +127,7 @@ pub data RunsSource (set : Set) (name : List ℕ) (values : List (List ℕ)) (re
 -- a call for a line `exec` with these options, this name and these values
 pub record Executes (set : Set) (name : List ℕ) (values : List (List ℕ)) (result : Ending) (f : Effect) : Type 0 where
   pub runs : RunsSource set name values result f
+  pub place : TellsSpan result f.left_old
   pub few : TakesFew f.left_old f.left_new
 
 -- what a call does for a line

@@ -119,7 +119,7 @@ EndsNoLine NotALine = Unit {0}
 EndsNoLine Memory = Unit {0}
 EndsNoLine _ = ⊥
 
--- So is a line for which the program does nothing so far.
+-- So is a line for which the program does nothing.
 abbrev pub EndsUnbuiltLine : Ending → Type 0
 EndsUnbuiltLine NotBuilt = Unit {0}
 EndsUnbuiltLine Memory = Unit {0}

@@ -1,4 +1,4 @@
--- What the program does so far with the line that words spell.
+-- What the program does with the line that words spell.
 use Rattle.std.specs.Prelude.{ℕ, ◌⊎◌, Bool, true, false, IsTrue, List}
 use Rattle.sk_base.specs.declared.bounds.Budget.{Budget}
 use Rattle.sk_opts.specs.declared.line.Set.{Set}
@@ -44,7 +44,7 @@ pub record ForText (words : List (List ℕ)) (Holds : Set → Type 0) : Type 0 w
   pub takes : TakesText words set
   pub holds : Holds set
 
--- whether the program does nothing for a line so far: its command is not there yet, or it asks for a certificate
+-- whether the program does nothing for a line: it is `check` or `self`, or it asks for a certificate
 abbrev pub is_unbuilt : Line → Bool
 is_unbuilt (line.Synth set budget cert) = cert
 is_unbuilt (line.Exec set name values) = false

@@ -6,7 +6,7 @@ use Rattle.sk_model.specs.declared.expanded.Expanded.{Expanded}
 use Rattle.sk_opts.specs.declared.line.Set.{Set}
 use Rattle.sk_opts.specs.Ranges.{AreInRanges}
 use Rattle.sk_sites.specs.Small.{AreSmall}
-use Rattle.sk_front.specs.Texts.{most_bytes, IsTextFault}
+use Rattle.sk_front.specs.Texts.{most_bytes, HasSpan, IsTextFault}
 use Rattle.sk_front.specs.Front.{IsUntyped, IsTooLarge}
 use Rattle.sk_app.specs.declared.complete.Building.{Building}
 use Rattle.sk_app.specs.declared.complete.Building.TheVariants as built
@@ -27,14 +27,14 @@ pub record IsReady (set : Set) (text : List ℕ) (bounds : Bounds) (e : Expanded
 -- what is built of a text with these options, or why nothing is
 abbrev pub IsBuilding : Set → Building → List ℕ → Type 0
 IsBuilding set (built.NotText fault) text = IsTextFault fault text
-IsBuilding set (built.NotTyped fault) text = IsUntyped set text
+IsBuilding set (built.NotTyped fault) text = IsUntyped set text × HasSpan text fault.span
 IsBuilding set (built.TooLarge reason) text = IsTooLarge set text reason
 IsBuilding set built.NotBuilt text = IsNotBuilt set text
 IsBuilding set (built.Whole bounds e) text = IsReady set text bounds e
 
 abbrev pub IsFound : Set → Found → List ℕ → Type 0
 IsFound set (found.NotText fault) text = IsTextFault fault text
-IsFound set (found.NotTyped fault) text = IsUntyped set text
+IsFound set (found.NotTyped fault) text = IsUntyped set text × HasSpan text fault.span
 IsFound set (found.TooLarge reason) text = IsTooLarge set text reason
 IsFound set found.NotBuilt text = IsNotBuilt set text
 IsFound set (found.Nothing out) text = IsNone set text out.items

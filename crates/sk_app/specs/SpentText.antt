@@ -1,5 +1,4 @@
--- What is written where a budget is spent. The lines of a certificate, where one is asked for, are still to
--- be defined.
+-- What is written where a budget is spent, with no certificate asked for.
 use Rattle.std.specs.Prelude.{ℕ, true, false, List, [], ◌++◌, Bool, codes}
 use Rattle.std.specs.Fmt.{decimal, signed_decimal}
 use Rattle.std.specs.List.{flat_map, join_by}

@@ -11,7 +11,7 @@ ghost use Rattle.sk_opts.specs.Ranges.{IsInRanges, LineIsInRanges};
 ghost use Rattle.sk_app.specs.Built.{IsBuilt, IsNotBuilt};
 ghost use Rattle.sk_app.specs.ResultText.{IsCompletion, IsNone};
 ghost use Rattle.sk_app.specs.Streams.{Appends, AppendsPrefix, TakesFew};
-ghost use Rattle.sk_front.specs.Texts.{most_bytes, IsTextFault};
+ghost use Rattle.sk_front.specs.Texts.{most_bytes, byte_of, HasSpan, IsTextFault};
 ghost use Rattle.sk_front.specs.Front.{IsUntyped, IsTooLarge};
 ghost use Rattle.sk_front.specs.declared.fault.TextFault.{TextFault};
 ghost use Rattle.sk_check.specs.declared.fault.TypeFault.{TypeFault};
@@ -23,7 +23,7 @@ ghost use Rattle.sk_direct.specs.Direct.{IsNotRun, IsRunText};
 ghost use Rattle.sk_app.specs.Help.{help_text, version_text};
 ghost use Rattle.sk_app.specs.Lines.{IsNoLine, IsSynth, ForSynth, IsExec, ForExec, TakesText, ForText, IsUnbuiltLine};
 ghost use Rattle.sk_app.specs.Ends.{IsDelivered, Writes, WritesPart, writes_nothing, IsToldOf, EndsBuilt, EndsFaulty, EndsUntyped, EndsLarge, EndsLong, EndsUnbuilt, EndsRun, EndsNotRun, EndsNoLine, EndsUnbuiltLine, EndsHelp, EndsVersion};
-ghost use Rattle.sk_app.specs.Effects.{is_of_synth, is_of_expansion, IsResult, IsRunResult, IsOutput, Serves, Answers};
+ghost use Rattle.sk_app.specs.Effects.{is_of_synth, is_of_expansion, IsResult, TellsSpan, IsRunResult, IsOutput, Serves, Answers};
 
 use crate::direct::run_source;
 use crate::ending::Ending;
@@ -51,6 +51,7 @@ fn synth<S: Source, K: Sink>(alloc: Global, set: &Set, source: &mut S, sink: &mu
     ensures completed { result ≡ Ending.Completed → IfSome (S.left source.old) (λ text. Writes (IsCompletion set.now text) (K.held sink.old) (K.held sink.new)) }
     ensures none { result ≡ Ending.NoCompletion → IfSome (S.left source.old) (λ text. Writes (IsNone set.now text) (K.held sink.old) (K.held sink.new)) }
     ensures told { IfSome (S.left source.old) (λ text. IsToldOf set.now text result (S.faults source.old) (S.faults source.new) (K.faults sink.old) (K.faults sink.new)) }
+    ensures place { TellsSpan result (S.left source.old) }
     ensures read_fault { result ≡ Ending.ReadFault → Rose (S.faults source.old) (S.faults source.new) }
     ensures write_fault { result ≡ Ending.WriteFault → Rose (K.faults sink.old) (K.faults sink.new) }
     ensures prefix { result ≡ Ending.WriteFault → IfSome (S.left source.old) (λ text. WritesPart (IsResult set.now text) (K.held sink.old) (K.held sink.new)) }
@@ -133,10 +134,10 @@ fn answer<S: Source, K: Sink>(
     }
 }
 
-/// Runs a command: the words are those behind the program's own name. So far a line `synth` reads a sketch from the
-/// source, completes it, and writes the result to the sink; a line `exec` runs a function of it, and writes what comes of
-/// that; `--help` and `--version` write their texts; any other line
-/// ends with `NotBuilt`.
+/// Runs a command: the words are those behind the program's own name. A line `synth` reads a sketch from the source,
+/// completes it, and writes the result to the sink; a line `exec` runs a function of it, and writes what comes of that;
+/// `--help` and `--version` write their texts. A line `check` or `self`, or one that asks for a certificate, ends with
+/// `NotBuilt`.
 ///
 /// What is said of the text holds where the source tells what is left, and what is said of what the sink
 /// holds where the sink tells it. Want of memory may come at any step.
@@ -166,11 +167,16 @@ pub fn run<S: Source, K: Sink>(
 
     // The text has this fault: its first as bytes, or what its tokens read as.
     ensures not_text { (fault : TextFault) → result ≡ Ending.NotText fault → IfSome (S.left source.old) (IsTextFault fault) }
+    // It is told at a byte of the text, or at its end.
+    ensures text_place { (fault : TextFault) → result ≡ Ending.NotText fault → IfSome (S.left source.old) (λ text. byte_of fault ≤ length text) }
     // The tree of the text means no program with the options of the line.
     ensures not_typed { (fault : TypeFault) → result ≡ Ending.NotTyped fault → ForText (map string_bytes words.now) (λ set. IfSome (S.left source.old) (IsUntyped set)) }
+    // It is told at the span of an expression or a statement of the text, which lies within it, or at none, as 0 to 0.
+    ensures type_place { (fault : TypeFault) → result ≡ Ending.NotTyped fault → IfSome (S.left source.old) (λ text. HasSpan text fault.span) }
     // The expansion of its program passes this limit, and none before it.
     ensures too_large { (reason : SizeFault) → result ≡ Ending.TooLarge reason → ForText (map string_bytes words.now) (λ set. IfSome (S.left source.old) (λ text. IsTooLarge set text reason)) }
-    // The program does nothing for the line so far; or the text means a program within the limits, and is not taken.
+    // The line is one for which the program does nothing: `check`, `self`, or one that asks for a certificate; or the text
+    // means a program within the limits, whose expansion is not small enough to try every choice on every input.
     ensures not_built { result ≡ Ending.NotBuilt → IsUnbuiltLine (map string_bytes words.now) ⊎ ForSynth (map string_bytes words.now) (λ set. IfSome (S.left source.old) (IsNotBuilt set)) }
     ensures too_long { result ≡ Ending.TooLong → IfSome (S.left source.old) (λ text. most_bytes < length text) }
     ensures read_fault { result ≡ Ending.ReadFault → Rose (S.faults source.old) (S.faults source.new) }

@@ -26,7 +26,7 @@ pub enum Building {
     NotTyped(TypeFault),
     /// The program that it means is too large.
     TooLarge(SizeFault),
-    /// It is none that is taken so far.
+    /// Its expansion is not small enough to try every choice on every input.
     NotBuilt,
     /// The bounds and the expansion.
     Whole { bounds: Bounds, expanded: Expanded },

@@ -1,8 +1,9 @@
 //! A line `exec`: runs a function of the text of a source.
 
 ghost use Rattle.std.specs.Prelude.{◌≡◌, ◌≤◌, length};
+ghost use Rattle.sk_check.specs.declared.fault.TypeFault.{TypeFault};
 ghost use Rattle.sk_opts.specs.Ranges.{IsInRanges};
-ghost use Rattle.sk_front.specs.Texts.{most_bytes};
+ghost use Rattle.sk_front.specs.Texts.{most_bytes, HasSpan};
 ghost use Rattle.sk_app.specs.Ends.{ending_of};
 ghost use Rattle.sk_app.specs.Effects.{refusal, RunsText, Executes};
 
@@ -50,7 +51,8 @@ fn run_text<K: Sink>(
 ) -> Ending
     requires short { length text.now ≤ most_bytes }
     requires set { IsInRanges set.now }
-    ensures { RunsText set.now name.now values.now text.now result (K.faults sink.old) (K.faults sink.new) (K.held sink.old) (K.held sink.new) }
+    ensures runs { RunsText set.now name.now values.now text.now result (K.faults sink.old) (K.faults sink.new) (K.held sink.old) (K.held sink.new) }
+    ensures place { (fault : TypeFault) → result ≡ Ending.NotTyped fault → HasSpan text.now fault.span }
 {
     match execute(alloc, set, name, values, text) {
         Err(fault) => refusal(fault),

@@ -50,8 +50,8 @@ pub enum Ending {
     TooLong,
     /// Memory was wanting.
     Memory,
-    /// The line is one for which the program does nothing so far, or the text means a program within the limits and is
-    /// none that is taken so far.
+    /// The line is one for which the program does nothing: `check`, `self`, or one that asks for a certificate; or the text
+    /// means a program within the limits whose expansion is not small enough to try every choice on every input.
     NotBuilt,
 }
 

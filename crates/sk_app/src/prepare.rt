@@ -23,7 +23,7 @@ pub enum Found {
     NotTyped(TypeFault),
     /// The program that it means is too large.
     TooLarge(SizeFault),
-    /// It is none that the program takes so far.
+    /// Its expansion is not small enough to try every choice on every input.
     NotBuilt,
     /// There is no completion: the result text that says so.
     Nothing(Vec<u8>),

@@ -1,6 +1,8 @@
 //! Standard input as a source, and standard output as a sink. They tell nothing of content.
 
-ghost use Rattle.std.specs.Prelude.{ℕ, List, Option, None, ◌≡◌, ◌≤◌, ◌<◌, length};
+ghost use Rattle.std.specs.Prelude.{ℕ, List, Option, None, ◌≡◌, ◌≤◌, ◌<◌, length, take};
+ghost use Rattle.std.specs.Io.KnownBytes.{Appends, Consumes, IsAtEnd};
+ghost use Rattle.sk_base.specs.Stream.{Counts, IsRead, IsWritten};
 
 use sk_base::{Got, Put, Sink, Source};
 use std::alloc::AllocError;
@@ -27,7 +29,14 @@ impl<R: Read> Source for StdSource<R> {
 
     ghost left = { λ source. None };
 
-    fn read(&mut self, into: &mut [u8]) -> Got {
+    /// Where the reader tells what remains: the end is told only where nothing does, and the bytes are the next of it.
+    fn read(&mut self, into: &mut [u8]) -> Got
+        requires { 0 < length into.old }
+        ensures count { Counts self.old.faults self.new.faults }
+        ensures got { IsRead result into.new self.old.faults self.new.faults None None }
+        ensures end { result ≡ Got.End → IsAtEnd (R.remaining self.new.reader) }
+        ensures bytes { (n : ℕ) → result ≡ Got.Bytes n → Consumes (R.remaining self.old.reader) (R.remaining self.new.reader) (take n into.new) }
+    {
         let faults = self.faults;
         match self.reader.read(into) {
             Ok(0) => Got::End,
@@ -67,7 +76,14 @@ impl<W: Write> Sink for StdSink<W> {
         Ok(())
     }
 
-    fn write(&mut self, bytes: &[u8]) -> Put {
+    /// Where the writer tells what it holds: so many bytes are appended to it as the answer says.
+    fn write(&mut self, bytes: &[u8]) -> Put
+        requires some { 0 < length bytes.now }
+        requires room { length bytes.now ≤ 18446744073709551615 }
+        ensures count { Counts self.old.faults self.new.faults }
+        ensures put { IsWritten result bytes.now self.old.faults self.new.faults None None 18446744073709551615 18446744073709551615 }
+        ensures wrote { (n : ℕ) → result ≡ Put.Wrote n → Appends (W.contents self.old.writer) (W.contents self.new.writer) (take n bytes.now) }
+    {
         let faults = self.faults;
         match self.writer.write(bytes) {
             Ok(0) | Err(_) => {

@@ -16,7 +16,7 @@ left_within text n h =
     let e : n ≡ length d.left = d.size in
     omega arith
 
-departs_at : (text : List ℕ) (n line : ℕ) → whole text ≡ Err n → line ≡ line_feeds (take (length text - n) text) + 1 → DepartsAt text line (drop (length text - n) text)
+pub departs_at : (text : List ℕ) (n line : ℕ) → whole text ≡ Err n → line ≡ line_feeds (take (length text - n) text) + 1 → DepartsAt text line (drop (length text - n) text)
 departs_at text n line h k =
     let d = whole_departs text n h in
     let s : length text ≡ length d.front + length d.left = ap length d.departs.is ∙ length-append d.front d.left in

@@ -1,4 +1,4 @@
--- Texts of certificates, and lines of another version.
+-- Texts of certificates, where texts depart from the form, and lines of another version.
 use Rattle.std.specs.Prelude.{◌≡◌, ℕ, pos, true, false, List, [], ◌∷◌, Some, None, codes}
 use Rattle.sk_clause.specs.declared.lit.Lit.{Lit}
 use Rattle.sk_model.specs.declared.expanded.Choice.{Choice}
@@ -6,7 +6,8 @@ use Rattle.sk_cert.specs.declared.certificate.Proof.{Proof}
 use Rattle.sk_cert.specs.declared.certificate.CertInput.{CertInput}
 use Rattle.sk_cert.specs.declared.certificate.Certificate.{Certificate}
 use Rattle.sk_cert.specs.Certificates.{certificate_text}
-use Rattle.sk_cert.specs.Departing.{IsOtherVersion}
+use Rattle.sk_cert.specs.declared.fault.CertFault.TheVariants as fault
+use Rattle.sk_cert.specs.Departing.{BeginsCertificate, DepartsAt, IsOtherVersion, IsFault}
 
 abbrev pub holes : List ℕ → Choice
 holes values = record { values = values }
@@ -55,6 +56,28 @@ no_choice = record { version = 2; text = []; choice = None; value = 0; inputs = 
 
 abbrev pub CertificateOfNone : Type 0
 CertificateOfNone = certificate_text no_choice ≡ codes "//@ none\n//@ certificate 2\n//@ inputs 1\n//@ input 0\n//@ lower 1 2 1\n//@ names 1\n//@ c 1\n//@ c -1\n//@ l\n//@ end\n"
+
+-- Where a text departs
+
+-- two lines of the certificate of a sketch without obligations
+abbrev pub TwoLinesBegin : Type 0
+TwoLinesBegin = BeginsCertificate (codes "//@ completion\n//@ value 0\n")
+
+-- a zero before a digit, in the second line
+abbrev pub DepartsByZero : Type 0
+DepartsByZero = DepartsAt (codes "//@ completion\n//@ value 00\n//@ holes\n") 2 (codes "//@ value 00\n//@ holes\n")
+
+-- a text of whole lines that ends too early departs in the line behind its last
+abbrev pub DepartsBehindLast : Type 0
+DepartsBehindLast = DepartsAt (codes "//@ completion\n//@ value 0\n") 3 []
+
+-- no line of another version
+abbrev pub FaultOfZero : Type 0
+FaultOfZero = IsFault (codes "//@ completion\n//@ value 00\n//@ holes\n") (fault.NoForm 2)
+
+-- version 3 where the version is to stand
+abbrev pub FaultOfVersion : Type 0
+FaultOfVersion = IsFault (codes "//@ none\n//@ certificate 3\n") (fault.Version 2)
 
 -- Another version, as a line and without its line feed
 

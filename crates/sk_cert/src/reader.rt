@@ -13,7 +13,7 @@ use crate::parse::{
 use sk_base::List;
 use sk_clause::{ClauseList, Clauses, Lit};
 use sk_cnf::Encoded;
-use std::alloc::{AllocError, Global};
+use std::alloc::Global;
 
 // Where the first line of a text ends.
 pub fn line_end(text: &[u8]) -> Option<usize>
@@ -185,18 +185,6 @@ fn clause_rows<'a>(
     Ok((clauses, rest))
 }
 
-// So many variables, and no clauses.
-fn variables(alloc: Global, vars: u64) -> Result<Clauses, AllocError>
-    ensures { IfOk result (λ p. p ≡ record { vars = vars; clauses = [] }) }
-{
-    let mut clauses = Clauses::new(alloc);
-    for v in 0..vars {
-        let made = clauses.fresh()?;
-        prove!(made as u64 == v);
-    }
-    Ok(clauses)
-}
-
 // The formula of so many clauses over so many variables.
 #[tactic(auto, using(crate::proofs::Repeated::steps))]
 fn formula_rows<'a>(
@@ -208,7 +196,7 @@ fn formula_rows<'a>(
     ensures rows { Gives (λ x. (x.0.clauses, x.1.now)) result (repeated (one (clause_in (codes "c") vars)) count text.now) }
     ensures vars { IfOk result (λ x. x.0.vars ≡ vars) }
 {
-    let mut clauses = variables(alloc, vars)?;
+    let mut clauses = Clauses::with_vars(alloc, vars as usize);
     let mut rest = text;
     for i in 0..count {
         let (clause, behind) = clause_at(alloc, b"c", vars, rest)?;

@@ -8,15 +8,14 @@ use std::marker::Model;
 
 /// Variables, numbered from 0, and clauses over them. Contracts see the number of variables and the list of clauses.
 ///
-/// It keeps one byte for each variable, so their number ends only with memory.
+/// The variables take no memory: they are counted, up to `usize::MAX`.
 #[derive(Debug, Drop)]
 pub struct Clauses {
-    vars: Vec<u8>,
+    vars: usize,
     list: ClauseList,
 }
 
 impl Model for Clauses {
-    ghost use Rattle.std.specs.Prelude.{length};
     ghost use Rattle.sk_clause.specs.Code.{coded_problem};
     ghost use Rattle.sk_clause.specs.Problem.{Problem, AreWithin};
 
@@ -24,9 +23,9 @@ impl Model for Clauses {
 
     ghost coded = { coded_problem };
 
-    ghost view = { λ a. record { vars = length a.vars.items; clauses = a.list } };
+    ghost view = { λ a. record { vars = a.vars; clauses = a.list } };
 
-    ghost invariant = { λ a. AreWithin (length a.vars.items) a.list };
+    ghost invariant = { λ a. AreWithin a.vars a.list };
 }
 
 #[tactic(auto, using(crate::proofs::ProblemLemmas::problem))]
@@ -37,19 +36,33 @@ impl Clauses {
         ensures clauses { result.clauses ≡ [] }
     {
         Clauses {
-            vars: Vec::new(alloc),
+            vars: 0,
             list: ClauseList::new(alloc),
         }
     }
 
-    /// Makes a new variable, and gives its number, which is the number of variables before. For want of memory all
-    /// stays as it was.
+    /// So many variables, and no clauses. It takes no memory.
+    pub fn with_vars(alloc: Global, vars: usize) -> Clauses
+        ensures vars { result.vars ≡ vars }
+        ensures clauses { result.clauses ≡ [] }
+    {
+        Clauses {
+            vars,
+            list: ClauseList::new(alloc),
+        }
+    }
+
+    /// Makes a new variable, and gives its number, which is the number of variables before. Where there are
+    /// `usize::MAX` of them already, the answer is want of memory, and all stays as it was.
     pub fn fresh(&mut self) -> Result<usize, AllocError>
         ensures ok { IfOk result (λ var. (var ≡ self.old.vars) × (self.new ≡ record self.old { vars = self.old.vars + 1 })) }
         ensures err { OnErr result (self.new ≡ self.old) }
     {
-        let var = self.vars.len();
-        self.vars.push(0)?;
+        let var = self.vars;
+        let Some(more) = var.checked_add(1) else {
+            return Err(AllocError);
+        };
+        self.vars = more;
         Ok(var)
     }
 
@@ -66,7 +79,7 @@ impl Clauses {
     pub fn vars(&self) -> usize
         ensures { result ≡ self.now.vars }
     {
-        self.vars.len()
+        self.vars
     }
 
     /// The number of clauses.

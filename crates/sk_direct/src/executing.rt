@@ -8,7 +8,7 @@ ghost use Rattle.sk_model.specs.Expand.{is_generator};
 ghost use Rattle.sk_opts.specs.Ranges.{IsInRanges, AreInRanges};
 ghost use Rattle.sk_front.specs.Texts.{most_bytes};
 ghost use Rattle.sk_front.specs.declared.fault.SketchFault.{SketchFault};
-ghost use Rattle.sk_front.specs.Front.{IsFaultOfExpansion, IsCause, IsToldAs, IsMemory};
+ghost use Rattle.sk_front.specs.Front.{IsFaultOfExpansion, IsPlacedFault, IsCause, IsToldAs, IsMemory};
 ghost use Rattle.sk_direct.specs.declared.fault.ExecFault.{ExecFault};
 ghost use Rattle.sk_direct.specs.Direct.{IsFilled, IsCalled, IsAnswer, IsNotRun, IsRunText, IsExecuted, IsRefusedAs, IsRunAs};
 
@@ -135,6 +135,7 @@ pub fn execute(
     requires set { IsInRanges set.now }
     ensures found { IfOk result (IsExecuted set.now name.now words.now text.now) }
     ensures fault { IfErr result (IsFaultOfExpansion set.now text.now) }
+    ensures place { IfErr result (IsPlacedFault text.now) }
     ensures only { (told : SketchFault) → IsCause (IsFaultOfExpansion set.now text.now) told → MatchResult result (λ _. ⊥) (IsToldAs told) }
     ensures not_run { (reason : ExecFault) → IsNotRun set.now name.now words.now text.now reason → MatchResult result (IsRefusedAs reason) IsMemory }
     ensures run { (outcome : Outcome) (out : List ℕ) → IsRunText set.now name.now words.now text.now outcome out → MatchResult result (IsRunAs outcome out) IsMemory }

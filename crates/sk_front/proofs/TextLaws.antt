@@ -1,5 +1,5 @@
 -- A text reads as one tree, or has one fault.
-use Rattle.std.proofs.Common.{◌≡◌, ℕ, max, ◌+◌, ◌≤◌, List, [], ◌∷◌, ◌++◌, length, Option, Some, None, refl, sym, ap, ◌∙◌, subst, arith, length-append, IsTrue}
+use Rattle.std.proofs.Common.{◌≡◌, ℕ, max, ◌+◌, ◌≤◌, List, [], ◌∷◌, ◌++◌, length, Option, Some, None, refl, sym, ap, ◌∙◌, subst, arith, length-append, IsTrue, ◌⊎◌, inl, inr}
 use Rattle.sk_tree.specs.declared.shape.Shape.{Shape}
 use Rattle.sk_tree.specs.declared.shape.Shape.TheVariants as shape
 use Rattle.sk_tree.specs.declared.token.Token.{Token}
@@ -7,6 +7,10 @@ use Rattle.sk_tree.specs.declared.item.Tree.{Tree}
 use Rattle.sk_tree.specs.Shapes.{shape_of}
 use Rattle.sk_tree.specs.Tokens.{Divides, token_of, tokens_of, AreTokens, Fault, BadByte, OpenComment, LiteralTooLarge, OpenString, IsFirstFault}
 use Rattle.sk_tree.specs.Reads.{HasTooManyStrings, HasBadAlternative}
+use Rattle.sk_check.specs.declared.fault.TypeFault.{TypeFault}
+use Rattle.sk_check.specs.declared.fault.Typing.{Typing}
+use Rattle.sk_check.specs.declared.fault.Typing.TheVariants as typing
+use Rattle.sk_program.specs.Places.{tree_has, nowhere, IsPlaced}
 use Rattle.sk_lexer.specs.declared.fault.LexFault.{LexFault}
 use Rattle.sk_lexer.specs.declared.fault.LexFault.TheVariants as lex
 use Rattle.sk_lexer.proofs.Pieces.{one_list, one_fault, not_both}
@@ -17,7 +21,7 @@ use Rattle.sk_parser.specs.declared.fault.ParseFault.TheVariants as parse
 use Rattle.sk_parser.specs.Parses.{IsTreeOf, ReadsAsNone, ReadsWithTooMany, ReadsWithBad, is_no_reading, is_too_many, is_bad, place_of as fault_place, greatest_end}
 use Rattle.sk_front.specs.declared.fault.TextFault.{TextFault}
 use Rattle.sk_front.specs.declared.fault.TextFault.TheVariants.{Lex, Parse}
-use Rattle.sk_front.specs.Texts.{HasTree, IsLexFault, IsParseFault, IsTextFault, IsSameKind, IsSameFault}
+use Rattle.sk_front.specs.Texts.{HasTree, HasSpan, IsLexFault, IsParseFault, IsTextFault, IsSameKind, IsSameFault, byte_of}
 use Rattle.sk_front.specs.Reading.{Refuses, IsFaultOfTokens}
 use Rattle.sk_front.specs.Front.{IsFaultOfTree}
 use Rattle.sk_front.specs.declared.fault.SketchFault.{SketchFault}
@@ -191,3 +195,22 @@ same_fault text (Lex f) (Lex g) x y = same_lex text f g x y
 same_fault text (Parse f) (Parse g) x y = same_parse text f g x y
 same_fault text (Lex f) (Parse g) x y = let ts = tokens_of_parse text g y in absurd (no_lex text ts.0 f ts.1 x)
 same_fault text (Parse f) (Lex g) x y = let ts = tokens_of_parse text f x in absurd (no_lex text ts.0 g ts.1 y)
+
+-- Places
+
+-- a fault is told at a byte of the text, or at its end
+pub byte_within : (text : List ℕ) (f : TextFault) → IsTextFault f text → byte_of f ≤ length text
+byte_within text (Lex (lex.BadByte at)) h = omega (arith, h.place)
+byte_within text (Lex (lex.OpenComment at)) h = omega (arith, h.place)
+byte_within text (Lex (lex.LiteralTooLarge at)) h = omega (arith, h.place)
+byte_within text (Lex (lex.OpenString at)) h = omega (arith, h.place)
+byte_within text (Lex lex.Memory) h = absurd h
+byte_within text (Parse (parse.NoReading at)) h = h.place
+byte_within text (Parse (parse.TooManyStrings at)) h = h.place
+byte_within text (Parse (parse.BadAlternative at)) h = h.place
+byte_within text (Parse parse.Memory) h = absurd h
+
+-- a fault of types that stands in the tree, or that is told without a place, and that lies within the text
+pub has_span : (text : List ℕ) (tree : Tree) (f a g : TypeFault) (why : Typing) → HasTree text tree → why ≡ typing.Fault f → f ≡ a → IsPlaced tree why → (g.span ≡ a.span) ⊎ (g.span ≡ nowhere) → g.span.from ≤ g.span.to → g.span.to ≤ length text → HasSpan text g.span
+has_span text tree f a g why reads same also is (inl e) order within = record { tree = tree; reads = reads; place = subst (λ s. IsTrue (tree_has s tree) ⊎ (s ≡ nowhere)) (sym e) (subst (λ x. IsPlaced tree (typing.Fault x)) also (subst (IsPlaced tree) same is)); order = order; within = within }
+has_span text tree f a g why reads same also is (inr e) order within = record { tree = tree; reads = reads; place = inr e; order = order; within = within }

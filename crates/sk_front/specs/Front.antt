@@ -20,7 +20,7 @@ use Rattle.sk_front.specs.declared.fault.SketchFault.{SketchFault}
 use Rattle.sk_front.specs.declared.fault.SketchFault.TheVariants as fault
 use Rattle.sk_front.specs.declared.program.Typed.{Typed}
 use Rattle.sk_front.specs.declared.expansion.Expansion.{Expansion}
-use Rattle.sk_front.specs.Texts.{most_bytes, HasTree, IsTextFault, IsSameFault}
+use Rattle.sk_front.specs.Texts.{most_bytes, HasTree, HasSpan, IsTextFault, IsSameFault}
 
 -- The text is short enough and reads as this tree; these are the bounds that the options and the tree give; and the tree
 -- means this program under them.
@@ -122,6 +122,11 @@ IsFaultOfExpansion set text fault = IsFaultOfProgram set text fault
 abbrev pub IsFaultOfSizes : Set → List ℕ → SketchFault → Type 0
 IsFaultOfSizes set text (fault.TooLarge reason) = IsTooLarge set text reason
 IsFaultOfSizes set text fault = IsFaultOfProgram set text fault
+
+-- Where a fault of types is told. A fault of bytes and tokens has its place in its cause, and the others have none.
+abbrev pub IsPlacedFault : List ℕ → SketchFault → Type 0
+IsPlacedFault text (fault.NotTyped told) = HasSpan text told.span
+IsPlacedFault text _ = ⊤
 
 -- Two faults of one name. Faults of the bytes have one place; of the others no definition says which place is told.
 abbrev pub IsSame : SketchFault → SketchFault → Type 0

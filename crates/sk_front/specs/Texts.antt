@@ -1,5 +1,6 @@
--- Which texts read as a tree, and what is wrong with a text that reads as none.
-use Rattle.std.specs.Prelude.{◌≡◌, ℕ, ◌≤◌, List, length}
+-- Which texts read as a tree, what is wrong with a text that reads as none, and where faults are told.
+use Rattle.std.specs.Prelude.{◌≡◌, ℕ, ◌≤◌, ◌⊎◌, IsTrue, List, length}
+use Rattle.sk_base.specs.declared.span.Span.{Span}
 use Rattle.sk_tree.specs.declared.token.Token.{Token}
 use Rattle.sk_tree.specs.declared.item.Tree.{Tree}
 use Rattle.sk_tree.specs.Tokens.{AreTokens, BadByte, OpenComment, LiteralTooLarge, OpenString, IsFirstFault}
@@ -7,7 +8,8 @@ use Rattle.sk_lexer.specs.declared.fault.LexFault.{LexFault}
 use Rattle.sk_lexer.specs.declared.fault.LexFault.TheVariants as lex
 use Rattle.sk_parser.specs.declared.fault.ParseFault.{ParseFault}
 use Rattle.sk_parser.specs.declared.fault.ParseFault.TheVariants as parse
-use Rattle.sk_parser.specs.Parses.{IsTreeOf, ReadsAsNone, ReadsWithTooMany, ReadsWithBad}
+use Rattle.sk_parser.specs.Parses.{IsTreeOf, ReadsAsNone, ReadsWithTooMany, ReadsWithBad, place_of}
+use Rattle.sk_program.specs.Places.{tree_has, nowhere}
 use Rattle.sk_front.specs.declared.fault.TextFault.{TextFault}
 use Rattle.sk_front.specs.declared.fault.TextFault.TheVariants.{Lex, Parse}
 
@@ -62,3 +64,23 @@ abbrev pub IsSameFault : TextFault → TextFault → Type 0
 IsSameFault (Lex a) (Lex b) = a ≡ b
 IsSameFault (Parse a) (Parse b) = IsSameKind a b
 IsSameFault _ _ = ⊥
+
+-- Places
+
+-- the byte at which a fault of a text is told
+abbrev pub byte_of : TextFault → ℕ
+byte_of (Lex (lex.BadByte at)) = at
+byte_of (Lex (lex.OpenComment at)) = at
+byte_of (Lex (lex.LiteralTooLarge at)) = at
+byte_of (Lex (lex.OpenString at)) = at
+byte_of (Lex lex.Memory) = 0
+byte_of (Parse fault) = place_of fault
+
+-- The span is that of an expression or a statement of the tree as which the text reads, or it is 0 to 0, which stands for no
+-- place; and it lies within the text.
+pub record HasSpan (text : List ℕ) (span : Span) : Type 0 where
+  pub tree : Tree
+  pub reads : HasTree text tree
+  pub place : IsTrue (tree_has span tree) ⊎ (span ≡ nowhere)
+  pub order : span.from ≤ span.to
+  pub within : span.to ≤ length text

@@ -8,7 +8,7 @@ ghost use Rattle.sk_model.specs.declared.expanded.Expanded.{Expanded};
 ghost use Rattle.sk_opts.specs.Ranges.{IsInRanges};
 ghost use Rattle.sk_front.specs.declared.fault.SketchFault.{SketchFault};
 ghost use Rattle.sk_front.specs.Texts.{most_bytes};
-ghost use Rattle.sk_front.specs.Front.{IsExpandedTo, IsSizedTo, IsExpansion, Expands, ExpandsWithin, IsFaultOfExpansion, IsFaultOfSizes, IsCause, IsToldAs, IsMemory, too_large};
+ghost use Rattle.sk_front.specs.Front.{IsExpandedTo, IsSizedTo, IsExpansion, Expands, ExpandsWithin, IsFaultOfExpansion, IsFaultOfSizes, IsPlacedFault, IsCause, IsToldAs, IsMemory, too_large};
 
 use crate::fault::SketchFault;
 use crate::program::program_of;
@@ -53,6 +53,7 @@ pub fn expansion_of(alloc: Global, set: &Set, text: &[u8]) -> Result<Expansion, 
     requires set { IsInRanges set.now }
     ensures found { IfOk result (Expands set.now text.now) }
     ensures fault { IfErr result (IsFaultOfExpansion set.now text.now) }
+    ensures place { IfErr result (IsPlacedFault text.now) }
     ensures only { (told : SketchFault) → IsCause (IsFaultOfExpansion set.now text.now) told → MatchResult result (λ _. ⊥) (IsToldAs told) }
     ensures taken { (t : Tree) (b : Bounds) (p : Prog) (e : Expanded) → IsExpandedTo set.now text.now t b p e → MatchResult result (IsExpansion t b p e) IsMemory }
 {
@@ -65,6 +66,7 @@ fn expanded(alloc: Global, set: &Set, text: &[u8]) -> Result<Expansion, SketchFa
     requires set { IsInRanges set.now }
     ensures found { IfOk result (Expands set.now text.now) }
     ensures fault { IfErr result (IsFaultOfExpansion set.now text.now) }
+    ensures place { IfErr result (IsPlacedFault text.now) }
 {
     let typed = match program_of(alloc, set, text) {
         Ok(typed) => typed,
@@ -92,6 +94,7 @@ pub fn sized_expansion_of(alloc: Global, set: &Set, text: &[u8]) -> Result<Expan
     requires set { IsInRanges set.now }
     ensures found { IfOk result (ExpandsWithin set.now text.now) }
     ensures fault { IfErr result (IsFaultOfSizes set.now text.now) }
+    ensures place { IfErr result (IsPlacedFault text.now) }
     ensures only { (told : SketchFault) → IsCause (IsFaultOfSizes set.now text.now) told → MatchResult result (λ _. ⊥) (IsToldAs told) }
     ensures taken { (t : Tree) (b : Bounds) (p : Prog) (e : Expanded) → IsSizedTo set.now text.now t b p e → MatchResult result (IsExpansion t b p e) IsMemory }
 {
@@ -104,6 +107,7 @@ fn sized(alloc: Global, set: &Set, text: &[u8]) -> Result<Expansion, SketchFault
     requires set { IsInRanges set.now }
     ensures found { IfOk result (ExpandsWithin set.now text.now) }
     ensures fault { IfErr result (IsFaultOfSizes set.now text.now) }
+    ensures place { IfErr result (IsPlacedFault text.now) }
 {
     let expansion = match expansion_of(alloc, set, text) {
         Ok(expansion) => expansion,

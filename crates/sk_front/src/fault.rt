@@ -10,9 +10,13 @@ use std::alloc::AllocError;
 use thiserror::Error;
 
 /// What is wrong with a text, with a byte of it: its first fault as bytes, or why its tokens read as no tree.
-#[derive(Debug, Drop, Clone, Copy, PartialEq, Eq)]
+#[derive(Debug, Drop, Clone, Copy, PartialEq, Eq, Error)]
 pub enum TextFault {
+    /// Its first fault as bytes.
+    #[error(transparent)]
     Lex(LexFault),
+    /// Its tokens read as no tree.
+    #[error(transparent)]
     Parse(ParseFault),
 }
 

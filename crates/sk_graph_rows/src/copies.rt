@@ -1,7 +1,8 @@
 //! Copies of graphs into others.
-use crate::building::{env_of, graph_of, has_bool};
+use crate::building::{env_of, graph_of};
+use row_tables::{Fault, Report, expect, has_bool};
 use sk_dag::{BoolId, Dag, Node, WordId};
-use std::test::Fail;
+use std::alloc::{AllocError, Global};
 
 // `lt (add x y) x`, and two nodes beside it that the comparison does not stand on.
 const NODES: [Node; 6] = [
@@ -16,39 +17,51 @@ const NODES: [Node; 6] = [
 const ROOT: BoolId = BoolId { index: 4 };
 
 // A copy into an equal graph adds nothing.
-#[test]
-fn copied_into_an_equal_graph(rt: HostRuntime) -> Result<(), Fail> {
-    let other = graph_of(&rt, rt.alloc(), 6, &NODES)?;
-    let mut dag = graph_of(&rt, rt.alloc(), 6, &NODES)?;
-    assert!(rt; dag.int_bits() == other.int_bits() && has_bool(&other, ROOT));
-    let copy = dag.graft(&other, ROOT)?;
-    assert_eq!(rt; copy, ROOT);
-    assert_eq!(rt; dag.len(), 6);
-    Ok(())
+fn adds_nothing(dag: &mut Dag, other: &Dag) -> Result<(), Fault> {
+    expect(dag.int_bits() == other.int_bits() && has_bool(other, ROOT))?;
+    let copy = dag.graft(other, ROOT)?;
+    expect(copy == ROOT)?;
+    expect(dag.len() == 6)
+}
+
+fn copied_into_an_equal_graph(alloc: Global) -> Result<(), Fault> {
+    let other = graph_of(alloc, 6, &NODES)?;
+    let mut dag = graph_of(alloc, 6, &NODES)?;
+    adds_nothing(&mut dag, &other)
 }
 
 // A copy into another graph shares what is there, under other numbers, and leaves behind what the
 // root does not stand on: 31 + 1 is below 31 at 6 bits.
-#[test]
-fn copied_into_another_graph(rt: HostRuntime) -> Result<(), Fail> {
-    let other = graph_of(&rt, rt.alloc(), 6, &NODES)?;
-    let mut dag = graph_of(&rt, rt.alloc(), 6, &[Node::Flag(true), Node::InputWord(1)])?;
-    assert!(rt; dag.int_bits() == other.int_bits() && has_bool(&other, ROOT));
-    let copy = dag.graft(&other, ROOT)?;
-    assert_eq!(rt; dag.len(), 5);
-    let env = env_of(rt.alloc(), &[], &[31, 1])?;
-    assert_eq!(rt; dag.eval_bool(copy, &env)?, true);
-    Ok(())
+fn shares(alloc: Global, dag: &mut Dag, other: &Dag) -> Result<(), Fault> {
+    expect(dag.int_bits() == other.int_bits() && has_bool(other, ROOT))?;
+    let copy = dag.graft(other, ROOT)?;
+    expect(dag.len() == 5)?;
+    let env = env_of(alloc, &[], &[31, 1])?;
+    let below = dag.eval_bool(copy, &env)?;
+    expect(below)
 }
 
-#[test]
-fn marks(rt: HostRuntime) -> Result<(), Fail> {
-    let dag = graph_of(&rt, rt.alloc(), 6, &NODES)?;
-    assert!(rt; has_bool(&dag, ROOT));
+fn copied_into_another_graph(alloc: Global) -> Result<(), Fault> {
+    let other = graph_of(alloc, 6, &NODES)?;
+    let mut dag = graph_of(alloc, 6, &[Node::Flag(true), Node::InputWord(1)])?;
+    shares(alloc, &mut dag, &other)
+}
+
+fn marks_in(dag: &Dag) -> Result<(), Fault> {
+    expect(has_bool(dag, ROOT))?;
     let marks = dag.reached(&[ROOT])?;
-    assert_eq!(rt;
-        marks.as_slice(),
-        [true, false, true, true, true, false].as_slice()
-    );
-    Ok(())
+    expect(marks.as_slice() == [true, false, true, true, true, false].as_slice())
+}
+
+fn marks(alloc: Global) -> Result<(), Fault> {
+    let dag = graph_of(alloc, 6, &NODES)?;
+    marks_in(&dag)
+}
+
+/// Tells of the table of copies.
+pub fn tell(alloc: Global, report: &mut Report) -> Result<(), AllocError> {
+    report.row(copied_into_an_equal_graph(alloc))?;
+    report.row(copied_into_another_graph(alloc))?;
+    report.row(marks(alloc))?;
+    report.end("copies of graphs")
 }

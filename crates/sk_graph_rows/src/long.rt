@@ -1,36 +1,40 @@
 //! Chains of 100,000 nodes.
-use crate::building::{env_of, graph_of, has_bool, has_word, put, value};
+use crate::building::{env_of, graph_of, put, value};
+use row_tables::{Fault, Report, expect, has_bool, has_word};
 use sk_dag::{BoolId, CostId, Dag, Node, Value, WordId};
 use sk_simplify::simplify;
-use std::alloc::Global;
-use std::process::Abort;
-use std::test::Fail;
+use std::alloc::{AllocError, Global};
 
 const LENGTH: usize = 100_000;
 
 // x, y, and x with y added again and again: the sum is x + 99,998 * y.
-fn sums(rt: &impl Abort, alloc: Global) -> Result<Dag, Fail> {
-    let mut dag = graph_of(rt, alloc, 32, &[Node::InputWord(0), Node::InputWord(1)])?;
+fn add_sums(dag: &mut Dag) -> Result<(), Fault> {
     let mut last = 0;
     for _ in 2..LENGTH {
-        last = put(
-            rt,
-            &mut dag,
-            Node::Add(WordId { index: last }, WordId { index: 1 }),
-        )?;
+        let sum = Node::Add(WordId { index: last }, WordId { index: 1 });
+        last = put(dag, sum)?;
     }
+    Ok(())
+}
+
+fn sums(alloc: Global) -> Result<Dag, Fault> {
+    let mut dag = graph_of(alloc, 32, &[Node::InputWord(0), Node::InputWord(1)])?;
+    add_sums(&mut dag)?;
     Ok(dag)
 }
 
-#[test]
-fn a_long_sum(rt: HostRuntime) -> Result<(), Fail> {
-    let dag = sums(&rt, rt.alloc())?;
-    assert_eq!(rt; dag.len(), LENGTH);
+fn is_long_sum(alloc: Global, dag: &Dag) -> Result<(), Fault> {
+    expect(dag.len() == LENGTH)?;
     let sum = WordId { index: LENGTH - 1 };
-    assert!(rt; has_word(&dag, sum));
-    let env = env_of(rt.alloc(), &[], &[3, -2])?;
-    assert_eq!(rt; dag.eval_word(sum, &env)?, 3 - 2 * 99_998);
-    Ok(())
+    expect(has_word(dag, sum))?;
+    let env = env_of(alloc, &[], &[3, -2])?;
+    let found = dag.eval_word(sum, &env)?;
+    expect(found == 3 - 2 * 99_998)
+}
+
+fn a_long_sum(alloc: Global) -> Result<(), Fault> {
+    let dag = sums(alloc)?;
+    is_long_sum(alloc, &dag)
 }
 
 // A few nodes behind the chain, none of which stands on it, with the values that x = 3, y = -2 and a hole of value 2 give.
@@ -63,35 +67,68 @@ fn behind() -> [(Node, Value); 11] {
     ]
 }
 
-#[test]
-fn a_few_nodes_of_a_long_graph(rt: HostRuntime) -> Result<(), Fail> {
-    let mut dag = sums(&rt, rt.alloc())?;
-    let env = env_of(rt.alloc(), &[2], &[3, -2])?;
-    let few = behind();
+fn put_all(dag: &mut Dag, few: &[(Node, Value)]) -> Result<(), Fault> {
     for (node, _) in few {
-        put(&rt, &mut dag, node)?;
-    }
-    for (k, (node, wanted)) in few.iter().enumerate() {
-        assert_eq!(rt; value(&rt, &dag, LENGTH + k, &env)?, *wanted, "of {node:?}");
+        put(dag, *node)?;
     }
     Ok(())
 }
 
-// The chain is simple but for the order of operands, and stays as long.
-#[test]
-fn a_long_sum_anew(rt: HostRuntime) -> Result<(), Fail> {
-    let mut dag = sums(&rt, rt.alloc())?;
-    let sum = WordId { index: LENGTH - 1 };
-    let root = BoolId {
-        index: put(&rt, &mut dag, Node::Lt(sum, WordId { index: 0 }))?,
-    };
-    assert!(rt; has_bool(&dag, root));
-    let made = simplify(rt.alloc(), &dag, &[root])?;
-    assert_eq!(rt; made.dag.len(), LENGTH + 1);
-    let mut copy = Dag::new(rt.alloc(), 32);
-    assert!(rt; dag.int_bits() == copy.int_bits());
-    let copied = copy.graft(&dag, root)?;
-    assert_eq!(rt; copied, root);
-    assert_eq!(rt; copy.len(), LENGTH + 1);
+fn are_worth(alloc: Global, dag: &Dag, few: &[(Node, Value)]) -> Result<(), Fault> {
+    let env = env_of(alloc, &[2], &[3, -2])?;
+    let mut index = LENGTH;
+    for (_, wanted) in few {
+        let found = value(dag, index, &env)?;
+        expect(found == *wanted)?;
+        index = index.saturating_add(1);
+    }
     Ok(())
+}
+
+fn a_few_nodes_of_a_long_graph(alloc: Global) -> Result<(), Fault> {
+    let mut dag = sums(alloc)?;
+    let few = behind();
+    put_all(&mut dag, &few)?;
+    are_worth(alloc, &dag, &few)
+}
+
+// A copy is as long, and its root has the same number.
+fn is_copied(copy: &mut Dag, dag: &Dag, root: BoolId) -> Result<(), Fault> {
+    expect(dag.int_bits() == copy.int_bits() && has_bool(dag, root))?;
+    let copied = copy.graft(dag, root)?;
+    expect(copied == root)?;
+    expect(copy.len() == LENGTH + 1)
+}
+
+fn is_copied_anew(alloc: Global, dag: &Dag, root: BoolId) -> Result<(), Fault> {
+    let mut copy = Dag::new(alloc, 32);
+    is_copied(&mut copy, dag, root)
+}
+
+// The chain is simple but for the order of operands, and stays as long.
+fn is_simple(alloc: Global, dag: &Dag, root: BoolId) -> Result<(), Fault> {
+    expect(has_bool(dag, root))?;
+    let made = simplify(alloc, dag, &[root])?;
+    expect(made.dag.len() == LENGTH + 1)
+}
+
+fn compare_sum(dag: &mut Dag) -> Result<BoolId, Fault> {
+    let sum = WordId { index: LENGTH - 1 };
+    let index = put(dag, Node::Lt(sum, WordId { index: 0 }))?;
+    Ok(BoolId { index })
+}
+
+fn a_long_sum_anew(alloc: Global) -> Result<(), Fault> {
+    let mut dag = sums(alloc)?;
+    let root = compare_sum(&mut dag)?;
+    is_simple(alloc, &dag, root)?;
+    is_copied_anew(alloc, &dag, root)
+}
+
+/// Tells of the table of long graphs.
+pub fn tell(alloc: Global, report: &mut Report) -> Result<(), AllocError> {
+    report.row(a_long_sum(alloc))?;
+    report.row(a_few_nodes_of_a_long_graph(alloc))?;
+    report.row(a_long_sum_anew(alloc))?;
+    report.end("graphs of 100,000 nodes")
 }

@@ -1,8 +1,9 @@
 //! Each maker and each evaluator, with ample memory.
 
-use crate::building::{env_of, graph_of, put, value};
-use sk_dag::{BoolId, CostId, Node, Value, WordId};
-use std::test::Fail;
+use crate::building::{env_of, expect_value, put};
+use row_tables::{Fault, Report, expect};
+use sk_dag::{BoolId, CostId, Dag, Env, Node, Value, WordId};
+use std::alloc::{AllocError, Global};
 
 const YES: BoolId = BoolId { index: 0 };
 
@@ -73,30 +74,48 @@ fn nodes() -> &'static [(Node, Value)] {
     NODES
 }
 
-#[test]
-fn each_maker(rt: HostRuntime) -> Result<(), Fail> {
-    let mut dag = graph_of(&rt, rt.alloc(), 6, &[])?;
-    let env = env_of(rt.alloc(), &[13, u64::MAX], &[-7, 2])?;
+/// The value of each node, and that they are as many as they are different.
+fn try_makers(dag: &mut Dag, env: &Env, report: &mut Report) -> Result<(), AllocError> {
     for (node, wanted) in nodes() {
-        let index = put(&rt, &mut dag, *node)?;
-        assert_eq!(rt; value(&rt, &dag, index, &env)?, *wanted, "{node:?}");
+        report.row(expect_value(dag, env, *node, *wanted))?;
     }
-    assert_eq!(rt; dag.len(), 40);
+    report.row(expect(dag.len() == 40))?;
+    report.end("makers of nodes")
+}
+
+fn tell_makers(alloc: Global, report: &mut Report) -> Result<(), AllocError> {
+    let env = env_of(alloc, &[13, u64::MAX], &[-7, 2])?;
+    let mut dag = Dag::new(alloc, 6);
+    try_makers(&mut dag, &env, report)
+}
+
+fn put_all(dag: &mut Dag) -> Result<(), Fault> {
+    for (node, _) in nodes() {
+        put(dag, *node)?;
+    }
     Ok(())
 }
 
 // An equal node is the old one.
-#[test]
-fn each_node_once(rt: HostRuntime) -> Result<(), Fail> {
-    let mut dag = graph_of(&rt, rt.alloc(), 6, &[])?;
-    for (node, _) in nodes() {
-        put(&rt, &mut dag, *node)?;
-    }
+fn are_old(dag: &mut Dag) -> Result<(), Fault> {
     let mut i = 0usize;
     for (node, _) in nodes() {
-        assert_eq!(rt; put(&rt, &mut dag, *node)?, i, "{node:?}");
+        let index = put(dag, *node)?;
+        expect(index == i)?;
         i = i.saturating_add(1);
     }
-    assert_eq!(rt; dag.len(), 40);
-    Ok(())
+    expect(dag.len() == 40)
+}
+
+fn each_node_once(alloc: Global) -> Result<(), Fault> {
+    let mut dag = Dag::new(alloc, 6);
+    put_all(&mut dag)?;
+    are_old(&mut dag)
+}
+
+/// Tells of the tables of makers.
+pub fn tell(alloc: Global, report: &mut Report) -> Result<(), AllocError> {
+    tell_makers(alloc, report)?;
+    report.row(each_node_once(alloc))?;
+    report.end("each node once")
 }

@@ -1,12 +1,11 @@
 //! What each rule of the simplifier makes of its left side.
 
-use crate::building::{graph_of, has_bool, has_cost, has_word, put};
+use crate::building::{graph_of, put};
 use crate::words::{operator, words};
+use row_tables::{Fault, Report, expect, has_bool, has_cost, has_word};
 use sk_dag::{BoolId, CostId, Dag, Node, WordId};
 use sk_simplify::simplify;
-use std::alloc::Global;
-use std::process::Abort;
-use std::test::Fail;
+use std::alloc::{AllocError, Global};
 
 // The nodes that every row may speak of, under their numbers: no rule fits any of them.
 const LEAVES: &[Node] = &[
@@ -144,62 +143,70 @@ fn rows() -> &'static [(Node, Node)] {
 }
 
 // A truth value that tells a node from every other: the node itself, or a comparison of it.
-fn rooted(rt: &impl Abort, dag: &mut Dag, index: usize) -> Result<BoolId, Fail> {
+fn rooted(dag: &mut Dag, index: usize) -> Result<BoolId, Fault> {
     if has_word(dag, WordId { index }) {
-        let other = put(rt, dag, Node::InputWord(9))?;
-        let root = put(rt, dag, Node::Lt(WordId { index }, WordId { index: other }))?;
+        let other = put(dag, Node::InputWord(9))?;
+        let root = put(dag, Node::Lt(WordId { index }, WordId { index: other }))?;
         return Ok(BoolId { index: root });
     }
     if has_cost(dag, CostId { index }) {
-        let root = put(rt, dag, Node::CostLe(CostId { index }, 9))?;
+        let root = put(dag, Node::CostLe(CostId { index }, 9))?;
         return Ok(BoolId { index: root });
     }
     Ok(BoolId { index })
 }
 
-// Simplifies two nodes of a graph: they become one.
-fn expect_one(
-    rt: &impl Abort,
-    alloc: Global,
-    dag: &mut Dag,
-    left: Node,
-    right: Node,
-) -> Result<(), Fail> {
-    let left_index = put(rt, dag, left)?;
-    let right_index = put(rt, dag, right)?;
-    let left_root = rooted(rt, dag, left_index)?;
-    let right_root = rooted(rt, dag, right_index)?;
-    assert!(rt; has_bool(dag, left_root));
-    assert!(rt; has_bool(dag, right_root));
-    let made = simplify(alloc, dag, &[left_root, right_root])?;
+// The root of a node that is put.
+fn put_rooted(dag: &mut Dag, node: Node) -> Result<BoolId, Fault> {
+    let index = put(dag, node)?;
+    rooted(dag, index)
+}
+
+// Simplified, both roots are one.
+fn become_one(alloc: Global, dag: &Dag, left: BoolId, right: BoolId) -> Result<(), Fault> {
+    expect(has_bool(dag, left))?;
+    expect(has_bool(dag, right))?;
+    let made = simplify(alloc, dag, &[left, right])?;
     let left_made = made.roots.as_slice().get(0);
     let right_made = made.roots.as_slice().get(1);
-    assert!(rt;
-        left_made.is_some() && left_made == right_made,
-        "{left:?} becomes {right:?}"
-    );
-    Ok(())
+    expect(left_made.is_some() && left_made == right_made)
 }
 
-#[test]
-fn each_left_side(rt: HostRuntime) -> Result<(), Fail> {
-    for (left, right) in rows() {
-        let mut dag = graph_of(&rt, rt.alloc(), 6, leaves())?;
-        expect_one(&rt, rt.alloc(), &mut dag, *left, *right)?;
-    }
-    Ok(())
+// Simplifies two nodes of a graph: they become one.
+fn expect_one(alloc: Global, dag: &mut Dag, left: Node, right: Node) -> Result<(), Fault> {
+    let left_root = put_rooted(dag, left)?;
+    let right_root = put_rooted(dag, right)?;
+    become_one(alloc, dag, left_root, right_root)
 }
 
-// The table of words again, over constants.
-#[test]
-fn folded_words(rt: HostRuntime) -> Result<(), Fail> {
-    for (bits, x, y, wanted) in words() {
-        for i in 0..5 {
-            let mut dag = graph_of(&rt, rt.alloc(), *bits, &[Node::Word(*x)])?;
-            let second = put(&rt, &mut dag, Node::Word(*y))?;
-            let left = operator(i, WordId { index: 0 }, WordId { index: second });
-            expect_one(&rt, rt.alloc(), &mut dag, left, Node::Word(wanted[i]))?;
-        }
+fn is_left_side(alloc: Global, left: Node, right: Node) -> Result<(), Fault> {
+    let mut dag = graph_of(alloc, 6, leaves())?;
+    expect_one(alloc, &mut dag, left, right)
+}
+
+// An operator over two words that are given becomes this word.
+fn folds_in(alloc: Global, dag: &mut Dag, column: usize, y: i64, wanted: i64) -> Result<(), Fault> {
+    let second = put(dag, Node::Word(y))?;
+    let left = operator(column, WordId { index: 0 }, WordId { index: second });
+    expect_one(alloc, dag, left, Node::Word(wanted))
+}
+
+fn folds(
+    alloc: Global,
+    bits: u32,
+    column: usize,
+    x: i64,
+    y: i64,
+    wanted: i64,
+) -> Result<(), Fault> {
+    let mut dag = graph_of(alloc, bits, &[Node::Word(x)])?;
+    folds_in(alloc, &mut dag, column, y, wanted)
+}
+
+// A row of the table of words again, over constants.
+fn is_folded(alloc: Global, bits: u32, x: i64, y: i64, wanted: &[i64; 5]) -> Result<(), Fault> {
+    for i in 0..5 {
+        folds(alloc, bits, i, x, y, wanted[i])?;
     }
     Ok(())
 }
@@ -259,18 +266,33 @@ fn nested() -> &'static [(&'static [Node], Node)] {
     NESTED
 }
 
-#[test]
-fn rules_over_rules(rt: HostRuntime) -> Result<(), Fail> {
-    for (nodes, wanted) in nested() {
-        let dag = graph_of(&rt, rt.alloc(), 6, nodes)?;
-        let root = BoolId {
-            index: dag.len().saturating_sub(1),
-        };
-        assert!(rt; has_bool(&dag, root));
-        let made = simplify(rt.alloc(), &dag, &[root])?;
-        let index = made.roots.as_slice().get(0).map_or(0, |id| id.index);
-        assert!(rt; index < made.dag.len());
-        assert_eq!(rt; *made.dag.node(index), *wanted);
+fn becomes(alloc: Global, dag: &Dag, wanted: Node) -> Result<(), Fault> {
+    let root = BoolId {
+        index: dag.len().saturating_sub(1),
+    };
+    expect(has_bool(dag, root))?;
+    let made = simplify(alloc, dag, &[root])?;
+    let index = made.roots.as_slice().get(0).map_or(0, |id| id.index);
+    expect(index < made.dag.len() && *made.dag.node(index) == wanted)
+}
+
+fn is_nested(alloc: Global, nodes: &[Node], wanted: Node) -> Result<(), Fault> {
+    let dag = graph_of(alloc, 6, nodes)?;
+    becomes(alloc, &dag, wanted)
+}
+
+/// Tells of the tables of rules.
+pub fn tell(alloc: Global, report: &mut Report) -> Result<(), AllocError> {
+    for (left, right) in rows() {
+        report.row(is_left_side(alloc, *left, *right))?;
     }
-    Ok(())
+    report.end("rules")?;
+    for (bits, x, y, wanted) in words() {
+        report.row(is_folded(alloc, *bits, *x, *y, wanted))?;
+    }
+    report.end("words that are folded")?;
+    for (nodes, wanted) in nested() {
+        report.row(is_nested(alloc, nodes, *wanted))?;
+    }
+    report.end("rules over rules")
 }

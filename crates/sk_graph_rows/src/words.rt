@@ -1,8 +1,9 @@
 //! The operators of words, at the edges of several widths.
 
-use crate::building::{env_of, graph_of, put, value};
-use sk_dag::{Node, Value, WordId};
-use std::test::Fail;
+use crate::building::{env_of, expect_value, graph_of};
+use row_tables::{Fault, Report};
+use sk_dag::{Dag, Env, Node, Value, WordId};
+use std::alloc::{AllocError, Global};
 
 const X: WordId = WordId { index: 0 };
 
@@ -122,36 +123,36 @@ pub fn words() -> &'static [(u32, i64, i64, [i64; 5])] {
     WORDS
 }
 
-#[test]
-fn words_at_the_edges(rt: HostRuntime) -> Result<(), Fail> {
-    for (bits, x, y, wanted) in words() {
-        let mut dag = graph_of(
-            &rt,
-            rt.alloc(),
-            *bits,
-            &[Node::InputWord(0), Node::InputWord(1)],
-        )?;
-        let env = env_of(rt.alloc(), &[], &[*x, *y])?;
-        for i in 0..5 {
-            let index = put(&rt, &mut dag, operator(i, X, Y))?;
-            assert_eq!(rt;
-                value(&rt, &dag, index, &env)?,
-                Value::Int(wanted[i]),
-                "{i} of {x}, {y} at {bits}"
-            );
-        }
-        let less = put(&rt, &mut dag, Node::Lt(X, Y))?;
-        assert_eq!(rt;
-            value(&rt, &dag, less, &env)?,
-            Value::Bit(x < y),
-            "{x} below {y} at {bits}"
-        );
-        let same = put(&rt, &mut dag, Node::Eq(X, Y))?;
-        assert_eq!(rt;
-            value(&rt, &dag, same, &env)?,
-            Value::Bit(x == y),
-            "{x} as {y} at {bits}"
-        );
+fn are_at_the_edge(
+    dag: &mut Dag,
+    env: &Env,
+    x: i64,
+    y: i64,
+    wanted: &[i64; 5],
+) -> Result<(), Fault> {
+    for i in 0..5 {
+        expect_value(dag, env, operator(i, X, Y), Value::Int(wanted[i]))?;
     }
-    Ok(())
+    expect_value(dag, env, Node::Lt(X, Y), Value::Bit(x < y))?;
+    expect_value(dag, env, Node::Eq(X, Y), Value::Bit(x == y))
+}
+
+fn is_at_the_edge(
+    alloc: Global,
+    bits: u32,
+    x: i64,
+    y: i64,
+    wanted: &[i64; 5],
+) -> Result<(), Fault> {
+    let env = env_of(alloc, &[], &[x, y])?;
+    let mut dag = graph_of(alloc, bits, &[Node::InputWord(0), Node::InputWord(1)])?;
+    are_at_the_edge(&mut dag, &env, x, y, wanted)
+}
+
+/// Tells of the table of words.
+pub fn tell(alloc: Global, report: &mut Report) -> Result<(), AllocError> {
+    for (bits, x, y, wanted) in words() {
+        report.row(is_at_the_edge(alloc, *bits, *x, *y, wanted))?;
+    }
+    report.end("words at the edges")
 }

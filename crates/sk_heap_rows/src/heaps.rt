@@ -5,9 +5,8 @@ use crate::seen::Leaf;
 use crate::steps::{Row, Step, see_all, take_all};
 use crate::values::Given;
 use crate::world::World;
-use std::alloc::Global;
-use std::process::Abort;
-use std::test::Fail;
+use row_tables::{Fault, Report, expect};
+use std::alloc::{AllocError, Global};
 
 /// The values that each of the tests begins with, by their numbers, and the nodes that they take.
 const BEGIN: &[(Step, usize)] = &[
@@ -307,20 +306,29 @@ const CHOSEN: &[Row] = &[
     (NEW + 16, [F; 4]),
 ];
 
-/// Takes the steps in a new world, and sees what its values are and how many slots there are.
-fn expect(
-    rt: &impl Abort,
+/// Takes the steps, and sees what the values are then and how many slots there are.
+fn expect_in(
+    alloc: Global,
+    world: &mut World,
+    steps: &[(Step, usize)],
+    rows: &[Row],
+    slots: u32,
+) -> Result<(), Fault> {
+    take_all(world, begin())?;
+    take_all(world, steps)?;
+    see_all(alloc, world, rows)?;
+    expect(world.slots() == slots)
+}
+
+/// In a new world.
+fn expect_heap(
     alloc: Global,
     steps: &[(Step, usize)],
     rows: &[Row],
     slots: u32,
-) -> Result<(), Fail> {
+) -> Result<(), Fault> {
     let mut world = World::new(alloc)?;
-    take_all(rt, &mut world, begin())?;
-    take_all(rt, &mut world, steps)?;
-    see_all(rt, alloc, &world, rows)?;
-    assert_eq!(rt; world.slots(), slots);
-    Ok(())
+    expect_in(alloc, &mut world, steps, rows, slots)
 }
 
 /// Steps, what their values are, and how many slots there are.
@@ -337,14 +345,6 @@ const TABLES: &[Table] = &[
 /// The tables. Proofs see no row of them.
 fn tables() -> &'static [Table] {
     TABLES
-}
-
-#[test]
-fn small_heaps(rt: HostRuntime) -> Result<(), Fail> {
-    for (steps, rows, slots) in tables() {
-        expect(&rt, rt.alloc(), steps, rows, *slots)?;
-    }
-    Ok(())
 }
 
 /// In an empty graph.
@@ -366,23 +366,38 @@ fn first() -> &'static [(Step, usize)] {
     FIRST
 }
 
-#[test]
-fn an_empty_graph(rt: HostRuntime) -> Result<(), Fail> {
-    let mut world = World::new(rt.alloc())?;
-    take_all(&rt, &mut world, first())?;
-    assert_eq!(rt; world.nodes(), 3);
-    Ok(())
+fn takes_first(world: &mut World) -> Result<(), Fault> {
+    take_all(world, first())?;
+    expect(world.nodes() == 3)
 }
 
-/// As many slots as there may be.
-#[test]
-fn a_full_heap(rt: HostRuntime) -> Result<(), Fail> {
-    let mut world = World::new(rt.alloc())?;
+fn an_empty_graph(alloc: Global) -> Result<(), Fault> {
+    let mut world = World::new(alloc)?;
+    takes_first(&mut world)
+}
+
+fn fills(world: &mut World) -> Result<(), Fault> {
     world.give(Given::Flag(true))?;
     for _ in 0..256 {
         world.allocate(0, ITEM)?;
     }
-    assert_eq!(rt; world.slots(), 256);
-    assert_eq!(rt; world.nodes(), 2);
-    Ok(())
+    expect(world.slots() == 256 && world.nodes() == 2)
+}
+
+/// As many slots as there may be.
+fn a_full_heap(alloc: Global) -> Result<(), Fault> {
+    let mut world = World::new(alloc)?;
+    fills(&mut world)
+}
+
+/// Tells of the tables of heaps.
+pub fn tell(alloc: Global, report: &mut Report) -> Result<(), AllocError> {
+    for (steps, rows, slots) in tables() {
+        report.row(expect_heap(alloc, steps, rows, *slots))?;
+    }
+    report.end("small heaps")?;
+    report.row(an_empty_graph(alloc))?;
+    report.end("heaps in an empty graph")?;
+    report.row(a_full_heap(alloc))?;
+    report.end("full heaps")
 }

@@ -3,12 +3,11 @@
 use crate::seen::Leaf;
 use crate::values::Given;
 use crate::world::World;
+use row_tables::{Fault, expect};
 use sk_base::List;
 use sk_dag::Env;
 use sk_prog::StructId;
 use std::alloc::{AllocError, Global};
-use std::process::Abort;
-use std::test::Fail;
 
 /// A step. It names values by their numbers, in the order in which the steps made them.
 #[derive(Clone, Copy, Debug)]
@@ -26,7 +25,7 @@ pub enum Step {
     Write(usize, usize, u32, usize),
 }
 
-fn take(world: &mut World, step: Step) -> Result<(), Fail> {
+fn take(world: &mut World, step: Step) -> Result<(), Fault> {
     match step {
         Step::Give(what) => world.give(what),
         Step::Pair(first, second) => world.pair(first, second),
@@ -38,11 +37,11 @@ fn take(world: &mut World, step: Step) -> Result<(), Fail> {
 }
 
 /// Takes each step, and sees that it adds so many nodes to the graph.
-pub fn take_all(rt: &impl Abort, world: &mut World, steps: &[(Step, usize)]) -> Result<(), Fail> {
+pub fn take_all(world: &mut World, steps: &[(Step, usize)]) -> Result<(), Fault> {
     for (step, adds) in steps {
         let before = world.nodes();
         take(world, *step)?;
-        assert_eq!(rt; world.nodes().saturating_sub(before), *adds, "{step:?}");
+        expect(world.nodes().saturating_sub(before) == *adds)?;
     }
     Ok(())
 }
@@ -61,27 +60,25 @@ fn env_of(alloc: Global, input: &[i64]) -> Result<Env, AllocError> {
 pub type Row = (usize, [&'static [Leaf]; 4]);
 
 fn see(
-    rt: &impl Abort,
     alloc: Global,
     world: &World,
     input: &[i64],
     number: usize,
     wanted: &[Leaf],
-) -> Result<(), Fail> {
+) -> Result<(), Fault> {
     if wanted.is_empty() {
         return Ok(());
     }
     let env = env_of(alloc, input)?;
-    let leaves = world.seen(rt, number, &env)?;
-    assert_eq!(rt; leaves.as_slice(), wanted, "value {number} at {input:?}");
-    Ok(())
+    let leaves = world.seen(number, &env)?;
+    expect(leaves.as_slice() == wanted)
 }
 
 /// Sees that each value is what the row says.
-pub fn see_all(rt: &impl Abort, alloc: Global, world: &World, rows: &[Row]) -> Result<(), Fail> {
+pub fn see_all(alloc: Global, world: &World, rows: &[Row]) -> Result<(), Fault> {
     for (number, wanted) in rows {
         for (input, leaves) in INPUTS.iter().zip(wanted.iter()) {
-            see(rt, alloc, world, input, *number, leaves)?;
+            see(alloc, world, input, *number, leaves)?;
         }
     }
     Ok(())

@@ -6,14 +6,13 @@ use crate::calls::{allocated, chosen, field_read, pair, put};
 use crate::program::program;
 use crate::seen::{Leaf, add_leaves};
 use crate::values::{Given, value_given};
+use row_tables::{Fault, expect};
 use sk_base::List;
 use sk_dag::{Dag, Env, Shape};
 use sk_heap::SymHeap;
 use sk_prog::{Elem, Prog, StructId, Ty};
 use std::alloc::{AllocError, Global};
 use std::marker::Model;
-use std::process::Abort;
-use std::test::Fail;
 
 /// A graph, a heap, and values by their numbers. Contracts see how many values there are.
 #[derive(Drop)]
@@ -83,14 +82,14 @@ impl World {
 
     /// A value that stands on no other.
     #[tactic(auto, using(crate::proofs::WorldLaws::worlds))]
-    pub fn give(&mut self, what: Given) -> Result<(), Fail> {
+    pub fn give(&mut self, what: Given) -> Result<(), Fault> {
         let made = value_given(self.alloc, &mut self.dag, what)?;
         keep(&self.dag, &self.heap, &mut self.values, made.of, made.shape)?;
         Ok(())
     }
 
     /// An array of two values of a type.
-    pub fn pair(&mut self, first: usize, second: usize) -> Result<(), Fail> {
+    pub fn pair(&mut self, first: usize, second: usize) -> Result<(), Fault> {
         let made = pair(
             self.alloc,
             &self.dag,
@@ -104,7 +103,7 @@ impl World {
     }
 
     /// A value that is the one where a bit holds, and the other where it does not.
-    pub fn choose(&mut self, when: usize, yes: usize, no: usize) -> Result<(), Fail> {
+    pub fn choose(&mut self, when: usize, yes: usize, no: usize) -> Result<(), Fault> {
         let made = chosen(
             self.alloc,
             &mut self.dag,
@@ -120,7 +119,7 @@ impl World {
     }
 
     /// A new slot: the reference to it.
-    pub fn allocate(&mut self, guard: usize, of: StructId) -> Result<(), Fail> {
+    pub fn allocate(&mut self, guard: usize, of: StructId) -> Result<(), Fault> {
         let made = allocated(
             self.alloc,
             &mut self.dag,
@@ -142,7 +141,7 @@ impl World {
 
     /// A field of the slot that a reference is at, and then whether it is null.
     #[tactic(auto, using(crate::proofs::ValueLaws::givens))]
-    pub fn read(&mut self, target: usize, field: u32) -> Result<(), Fail> {
+    pub fn read(&mut self, target: usize, field: u32) -> Result<(), Fault> {
         let made = field_read(
             self.alloc,
             &mut self.dag,
@@ -171,7 +170,7 @@ impl World {
         target: usize,
         field: u32,
         value: usize,
-    ) -> Result<(), Fail> {
+    ) -> Result<(), Fault> {
         let made = put(
             self.alloc,
             &mut self.dag,
@@ -194,11 +193,11 @@ impl World {
     }
 
     /// What a value is in an environment.
-    pub fn seen(&self, rt: &impl Abort, number: usize, env: &Env) -> Result<Vec<Leaf>, Fail> {
+    pub fn seen(&self, number: usize, env: &Env) -> Result<Vec<Leaf>, Fault> {
         let values = self.values.as_slice();
-        assert!(rt; number < values.len(), "no value {number}");
+        expect(number < values.len())?;
         let mut leaves = Vec::new(self.alloc);
-        add_leaves(rt, &self.dag, &values[number].1, env, &mut leaves)?;
+        add_leaves(&self.dag, &values[number].1, env, &mut leaves)?;
         Ok(leaves)
     }
 }

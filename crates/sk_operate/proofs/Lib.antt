@@ -4,3 +4,4 @@ pub mod Operating
 pub mod Elements
 pub mod Slices
 pub mod BitRows
+pub mod EachBit

@@ -2,6 +2,7 @@
 #![tactic(auto)]
 
 mod binary;
+mod bitwise;
 mod element;
 mod form;
 mod operated;

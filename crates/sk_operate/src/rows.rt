@@ -12,6 +12,7 @@ ghost use Rattle.sk_model.specs.Operators.{operand, on_operands};
 ghost use Rattle.sk_operate.specs.Worth.{worth};
 ghost use Rattle.sk_operate.specs.Answers.{IsOperated};
 
+use crate::bitwise::joined;
 use crate::operated::Operated;
 use sk_arr::{add_bits, shift};
 use sk_base::List;
@@ -32,7 +33,7 @@ fn is_bit(s: &Shape) -> bool
 }
 
 /// Whether each of these is seen to be a bit.
-fn are_bits(list: &[Shape]) -> bool
+pub(crate) fn are_bits(list: &[Shape]) -> bool
     ensures { IsTrue result → AreBits list.now }
 {
     for s in list {
@@ -44,7 +45,7 @@ fn are_bits(list: &[Shape]) -> bool
 }
 
 /// Whether these are seen to be bits, as many in the one as in the other.
-fn are_rows(x: &[Shape], y: &[Shape]) -> bool
+pub(crate) fn are_rows(x: &[Shape], y: &[Shape]) -> bool
     ensures x { IsTrue result → AreBits x.now }
     ensures y { IsTrue result → AreBits y.now }
     ensures long { IsTrue result → (length x.now ≡ length y.now) }
@@ -126,7 +127,10 @@ fn on_arrays(
             let made = sum(alloc, dag, x, y)?;
             Ok(made)
         }
-        _ => Err(AllocError),
+        _ => {
+            let made = joined(alloc, dag, op, x, y)?;
+            Ok(made)
+        }
     }
 }
 

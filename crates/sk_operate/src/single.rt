@@ -5,24 +5,48 @@ ghost use Rattle.sk_dag.specs.declared.env.Env.{Env};
 ghost use Rattle.sk_dag.specs.Graph.{Graph, Grows, HasBool, HasWord};
 ghost use Rattle.sk_dag.specs.Eval.{bool_value, word_value, Keeps};
 ghost use Rattle.sk_arr.specs.Shapes.{Stands};
+ghost use Rattle.sk_prog.specs.declared.expr.UnOp.TheVariants as unary_is;
 ghost use Rattle.sk_model.specs.Operators.{unary_operator, to_int as to_int_of};
 ghost use Rattle.sk_operate.specs.Worth.{worth};
 ghost use Rattle.sk_operate.specs.Answers.{IsOperated};
 
+use crate::bitwise::flipped;
 use crate::operated::{Operated, whole_bit, whole_word};
 use crate::reading::{bit_in, word_in};
 use sk_dag::{BoolId, Dag, Shape, WordId};
 use sk_folded::{mux, neg, not, word};
 use sk_prog::UnOp;
-use std::alloc::AllocError;
+use std::alloc::{AllocError, Global};
 
-/// An operator on the shape of a single value.
+/// The operator `~`.
+#[tactic(auto, using(sk_arr::proofs::Standing::inside))]
+fn flip(alloc: Global, dag: &mut Dag, a: &Shape) -> Result<Operated, AllocError>
+    requires a { Stands dag.old a.now }
+    ensures keeps { Keeps dag.old dag.new }
+    ensures operated { IfOk result (λ made. IsOperated dag.new (a.now ∷ []) (λ h e holds span.
+        unary_operator dag.old.bits span unary_is.Flip (worth holds h e a.now)) made.value made.fails) }
+{
+    match a {
+        Shape::Bit(x) => {
+            let r = not(dag, *x)?;
+            let made = whole_bit(dag, r)?;
+            Ok(made)
+        }
+        Shape::Array(x) => {
+            let made = flipped(alloc, dag, x)?;
+            Ok(made)
+        }
+        _ => Err(AllocError),
+    }
+}
+
+/// An operator on one shape.
 ///
 /// # Errors
 ///
-/// Memory is wanting, or the shape is of another form.
+/// Memory is wanting, or the shape is of a form to which no typed program applies the operator.
 #[tactic(auto, using(sk_arr::proofs::Standing::inside))]
-pub fn unary(dag: &mut Dag, op: UnOp, a: &Shape) -> Result<Operated, AllocError>
+pub fn unary(alloc: Global, dag: &mut Dag, op: UnOp, a: &Shape) -> Result<Operated, AllocError>
     requires a { Stands dag.old a.now }
     ensures keeps { Keeps dag.old dag.new }
     ensures operated { IfOk result (λ made. IsOperated dag.new (a.now ∷ []) (λ h e holds span.
@@ -36,9 +60,7 @@ pub fn unary(dag: &mut Dag, op: UnOp, a: &Shape) -> Result<Operated, AllocError>
             Ok(made)
         }
         UnOp::Flip => {
-            let x = bit_in(a)?;
-            let r = not(dag, x)?;
-            let made = whole_bit(dag, r)?;
+            let made = flip(alloc, dag, a)?;
             Ok(made)
         }
         UnOp::Neg => {

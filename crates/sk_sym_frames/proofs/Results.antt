@@ -17,13 +17,12 @@ use Rattle.sk_prog.specs.declared.ty.Ty.{Ty}
 use Rattle.sk_prog.specs.declared.value.Value.{Value}
 use Rattle.sk_prog.specs.declared.prog.Fun.{Fun}
 use Rattle.sk_heap.specs.declared.slot.Slot.{Slot}
-use Rattle.sk_heap.specs.Types.{form_of}
-use Rattle.sk_heap.specs.Zeros.{IsZero}
 use Rattle.sk_model.specs.Values.{zero_of}
 use Rattle.sk_model.specs.Exec.{Onward, Returns}
 use Rattle.sk_model.specs.Run.{result_of, refs_from}
 use Rattle.sk_seen.specs.Values.{place_of, holds_in, value_of, IsLive, AllLive}
-use Rattle.sk_seen.proofs.Heaps.{form_zero, form_live, values_are}
+use Rattle.sk_seen.proofs.Heaps.{values_are}
+use Rattle.sk_literals.specs.Given.{IsGiven as IsAlwaysWorth}
 use Rattle.sk_sym_state.specs.declared.state.Ended.{Ended}
 use Rattle.sk_sym_state.specs.Seen.{IsWorth, AreWorth}
 use Rattle.sk_sym_state.specs.Stands.{EndedStands}
@@ -33,10 +32,10 @@ use Rattle.sk_sym_frames.specs.Ended.{AnyWorth, AreRefs, IsResult, IsEnd, IsEith
 
 -- ---- results
 
-pub zero_worth : {d : Graph} (t : Ty) (r : Shape) → IsZero d (form_of t) r → (g : Graph) (e : Env) (heap : List Slot) → Grows d g → IsWorth g e heap r (zero_of t)
+pub zero_worth : {d : Graph} (t : Ty) (r : Shape) → IsAlwaysWorth d (zero_of t) r → (g : Graph) (e : Env) (heap : List Slot) → Grows d g → IsWorth g e heap r (zero_of t)
 zero_worth t r is g e heap more = record {
-  value = ap (value_of (place_of (holds_in g e heap))) (is.value g more e) ∙ form_zero (place_of (holds_in g e heap)) t;
-  live = subst (IsLive (holds_in g e heap)) (sym (is.value g more e)) (form_live (holds_in g e heap) t);
+  value = is.value g more e (place_of (holds_in g e heap));
+  live = is.live g e (holds_in g e heap);
 }
 
 -- a function without a result
@@ -52,11 +51,11 @@ result_given t r there = record { stands = there; worth = λ g e heap v more h. 
     by g e heap (Some v) h = h
 
 -- and none that is
-zero_given : {d : Graph} (t : Ty) (r : Shape) → IsZero d (form_of t) r → (g : Graph) (e : Env) (heap : List Slot) (v : Option Value) → Grows d g → AnyWorth g e heap None v → ResultIs g e heap (Some r) (result_of (Some t) (Returns v))
+zero_given : {d : Graph} (t : Ty) (r : Shape) → IsAlwaysWorth d (zero_of t) r → (g : Graph) (e : Env) (heap : List Slot) (v : Option Value) → Grows d g → AnyWorth g e heap None v → ResultIs g e heap (Some r) (result_of (Some t) (Returns v))
 zero_given t r is g e heap None more h = zero_worth t r is g e heap more
 zero_given t r is g e heap (Some v) more h = absurd h
 
-pub result_zero : {d : Graph} (t : Ty) (r : Shape) → IsZero d (form_of t) r → IsResult d (Some t) None (Some r)
+pub result_zero : {d : Graph} (t : Ty) (r : Shape) → IsAlwaysWorth d (zero_of t) r → IsResult d (Some t) None (Some r)
 result_zero t r is = record { stands = is.stands; worth = zero_given t r is }
 
 pub end_is : {d0 d1 : Graph} {fun : Fun} {slots refs : List Shape} {value result : Option Shape} → AllStand d0 slots → Keeps d0 d1 → AreRefs fun.params slots refs → IsResult d1 fun.result value result → IsEnd d1 fun slots value (record { result = result; refs = refs })

@@ -3,7 +3,5 @@
 
 mod ended;
 mod frame;
-mod zero;
 
 pub use frame::{Caller, enter, give, leave};
-pub use zero::zero_of;

@@ -61,7 +61,7 @@ pub fn operate_one(
     ensures evaluates { IfOk result (λ r. EvaluatesOn setting.now dag.old dag.new state.old state.new (λ g e. IsWorth g e state.old.heap a.now) r (λ e. unary_operator width span op)) }
 {
     width_is(dag, width)?;
-    let made = unary(dag, op, a)?;
+    let made = unary(setting.alloc, dag, op, a)?;
     state.fail_where(setting, dag, made.fails)?;
     Ok(made.value)
 }

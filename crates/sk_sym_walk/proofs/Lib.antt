@@ -1,2 +1,5 @@
+pub mod Sequences
+pub mod Ways
+pub mod Places
 pub mod Layers
-pub mod Joining
+pub mod Lists

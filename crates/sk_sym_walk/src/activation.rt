@@ -1,18 +1,21 @@
 //! The walk over the expressions and statements of an active call.
 
-ghost use Rattle.std.specs.Prelude.{◌≡◌, ◌≤◌, IfOk, OnOk};
+ghost use Rattle.std.specs.Prelude.{◌≡◌, IfOk, OnOk, false, true};
 ghost use Rattle.sk_dag.specs.Graph.{HasBool};
-ghost use Rattle.sk_arr.specs.Shapes.{Stands};
-ghost use Rattle.sk_sym_state.specs.Seen.{IsWorth};
 ghost use Rattle.sk_sym_state.specs.Stands.{StateStands};
-ghost use Rattle.sk_sym_state.specs.Meaning.{Evaluates, Executes, ExecutesOn};
+ghost use Rattle.sk_sym_state.specs.Meaning.{Executes};
 ghost use Rattle.sk_sym_state.specs.Branching.{IsBit};
-ghost use Rattle.sk_sym_walk.specs.Walk.{eval_at, exec_at, exec_all_at, expr_part, stmt_part, all_part, IsBehind, both_parts, binary_at, assert_at, ways_part, ways_at, branch_part, branch_at};
+ghost use Rattle.sk_sym_walk.specs.Walk.{exec_all_at, eval_part, stmt_part, all_part, IsBehind};
+ghost use Rattle.sk_sym_walk.specs.Parts.{IsEvaluated, IsEvaluatedOn, IsGuarded, IsExecuted, IsExecutedOn, AreEvaluated, given, either_part, single_part, double_part, binary_part, pick_part, cond_part, act_part, other_part, ways_part, branch_part, list_part, braces_part};
 
-use crate::leaf::{check, operate, truth, variable};
-use sk_base::{Bounds, Span};
+use crate::leaf::{hole, leaf};
+use crate::step::{is_over, joined, pass_other};
+use sk_base::{Bounds, Boxed, List, Span};
 use sk_dag::{BoolId, Dag, Shape};
-use sk_prog::{BinOp, PEForm, PExpr, PForm, PStmt};
+use sk_folded::{and, known_bool, not, or};
+use sk_prog::{BinOp, PEForm, PExpr, PForm, PStmt, Ty};
+use sk_sym_forms::{Act, Double, Single, apply, apply_two, declare_zero, give_nothing, perform};
+use sk_sym_sites::{pass_expr, pass_stmt};
 use sk_sym_state::{Setting, SymState};
 use std::alloc::AllocError;
 
@@ -28,7 +31,7 @@ pub struct Activation<'a> {
 }
 
 impl Activation<'_> {
-    /// The value of an expression whose first site has a place.
+    /// The value of an expression.
     #[cycle(eval)]
     fn eval(
         &self,
@@ -40,24 +43,137 @@ impl Activation<'_> {
         e: &PExpr,
     ) -> Result<Shape, AllocError>
         requires stands { StateStands dag.old self.now.setting.expanded.now.prog state.old }
-        ensures evaluates { IfOk result (λ r. Evaluates self.now.setting dag.old dag.new state.old state.new r (eval_at self.now at.old e.now span)) }
-        ensures place { OnOk result (IsBehind (expr_part self.now e.now) at.old at.new) }
+        ensures evaluated { IfOk result (λ r. IsEvaluated self.now dag.old dag.new state.old state.new at.old at.new (eval_part self.now span e.now) r) }
     {
         if room == 0 {
             return Err(AllocError);
         }
         let room = room - 1;
         match &e.form {
-            PEForm::True => truth(&self.setting, dag, state, true),
-            PEForm::Var { slot, .. } => variable(&self.setting, dag, state, *slot),
-            PEForm::Paren(a) => self.eval(room, dag, state, at, span, a.get()),
+            PEForm::Number(_)
+            | PEForm::True
+            | PEForm::False
+            | PEForm::Null
+            | PEForm::Var { slot: _, name: _ }
+            | PEForm::Const(_) => leaf(self, dag, state, *at, span, e),
+            PEForm::Hole(_) => hole(self, dag, state, at, span, e),
+            PEForm::Paren(of) => self.eval(room, dag, state, at, span, of.get()),
+            PEForm::Unary { op, of } => {
+                self.single(room, dag, state, at, span, Single::Unary(*op), of.get())
+            }
+            PEForm::ToInt(of) => self.single(room, dag, state, at, span, Single::ToInt, of.get()),
+            PEForm::Pad(of) => self.single(room, dag, state, at, span, Single::Pad(e.ty), of.get()),
+            PEForm::Member { base, s, field } => self.single(
+                room,
+                dag,
+                state,
+                at,
+                span,
+                Single::Member(*s, *field),
+                base.get(),
+            ),
+            PEForm::Index { base, index } => self.double(
+                room,
+                dag,
+                state,
+                at,
+                span,
+                Double::Index,
+                base.get(),
+                index.get(),
+            ),
+            PEForm::Slice { base, from, length } => self.double(
+                room,
+                dag,
+                state,
+                at,
+                span,
+                Double::Slice(*length),
+                base.get(),
+                from.get(),
+            ),
+            PEForm::Braces(parts) => {
+                self.braces(room, dag, state, at, span, e.ty, parts.as_slice())
+            }
             PEForm::Binary { op, left, right } => {
                 self.binary(room, dag, state, at, span, *op, left.get(), right.get())
             }
+            PEForm::Cond { cond, then, other } => self.cond(
+                room,
+                dag,
+                state,
+                at,
+                span,
+                cond.get(),
+                then.get(),
+                other.get(),
+            ),
             _ => Err(AllocError),
         }
     }
 
+    /// What is done with the value of one part.
+    #[cycle(eval)]
+    #[inline(never)]
+    fn single(
+        &self,
+        room: u32,
+        dag: &mut Dag,
+        state: &mut SymState,
+        at: &mut usize,
+        span: Span,
+        what: Single,
+        of: &PExpr,
+    ) -> Result<Shape, AllocError>
+        requires stands { StateStands dag.old self.now.setting.expanded.now.prog state.old }
+        ensures evaluated { IfOk result (λ r. IsEvaluated self.now dag.old dag.new state.old state.new at.old at.new (single_part self.now span what of.now) r) }
+    {
+        let a = self.eval(room, dag, state, at, span, of)?;
+        let r = apply(
+            &self.setting,
+            dag,
+            state,
+            self.bounds.int_bits,
+            span,
+            what,
+            a,
+        )?;
+        Ok(r)
+    }
+
+    /// What is done with the values of two parts.
+    #[cycle(eval)]
+    #[inline(never)]
+    fn double(
+        &self,
+        room: u32,
+        dag: &mut Dag,
+        state: &mut SymState,
+        at: &mut usize,
+        span: Span,
+        what: Double,
+        left: &PExpr,
+        right: &PExpr,
+    ) -> Result<Shape, AllocError>
+        requires stands { StateStands dag.old self.now.setting.expanded.now.prog state.old }
+        ensures evaluated { IfOk result (λ r. IsEvaluated self.now dag.old dag.new state.old state.new at.old at.new (double_part self.now span what left.now right.now) r) }
+    {
+        let a = self.eval(room, dag, state, at, span, left)?;
+        let b = self.eval(room, dag, state, at, span, right)?;
+        let r = apply_two(
+            &self.setting,
+            dag,
+            state,
+            self.bounds.int_bits,
+            span,
+            what,
+            &a,
+            &b,
+        )?;
+        Ok(r)
+    }
+
+    /// An operator. `&&` and `||` evaluate the second part only where the first does not decide.
     #[cycle(eval)]
     #[inline(never)]
     fn binary(
@@ -72,28 +188,258 @@ impl Activation<'_> {
         right: &PExpr,
     ) -> Result<Shape, AllocError>
         requires stands { StateStands dag.old self.now.setting.expanded.now.prog state.old }
-        ensures evaluates { IfOk result (λ r. Evaluates self.now.setting dag.old dag.new state.old state.new r (binary_at self.now at.old op left.now right.now span)) }
-        ensures place { OnOk result (IsBehind (both_parts self.now left.now right.now) at.old at.new) }
+        ensures evaluated { IfOk result (λ r. IsEvaluated self.now dag.old dag.new state.old state.new at.old at.new (binary_part self.now span op left.now right.now) r) }
     {
         match op {
-            BinOp::AndThen => Err(AllocError),
-            BinOp::OrElse => Err(AllocError),
-            _ => {
-                let a = self.eval(room, dag, state, at, span, left)?;
-                let b = self.eval(room, dag, state, at, span, right)?;
-                let r = operate(
-                    &self.setting,
-                    dag,
-                    state,
-                    self.bounds.int_bits,
-                    span,
-                    op,
-                    &a,
-                    &b,
-                )?;
-                Ok(r)
+            BinOp::AndThen => {
+                let v = self.eval(room, dag, state, at, span, left)?;
+                let Shape::Bit(c) = v else {
+                    return Err(AllocError);
+                };
+                self.also(room, dag, state, at, span, c, right)
+            }
+            BinOp::OrElse => {
+                let v = self.eval(room, dag, state, at, span, left)?;
+                let Shape::Bit(c) = v else {
+                    return Err(AllocError);
+                };
+                self.otherwise(room, dag, state, at, span, c, right)
+            }
+            _ => self.double(
+                room,
+                dag,
+                state,
+                at,
+                span,
+                Double::Operator(op),
+                left,
+                right,
+            ),
+        }
+    }
+
+    /// The second part of `&&`, behind a bit.
+    #[cycle(eval)]
+    #[inline(never)]
+    fn also(
+        &self,
+        room: u32,
+        dag: &mut Dag,
+        state: &mut SymState,
+        at: &mut usize,
+        span: Span,
+        cond: BoolId,
+        e: &PExpr,
+    ) -> Result<Shape, AllocError>
+        requires stands { StateStands dag.old self.now.setting.expanded.now.prog state.old }
+        requires cond { HasBool dag.old.nodes cond }
+        ensures evaluated { IfOk result (λ r. IsEvaluatedOn self.now dag.old dag.new state.old state.new at.old at.new (IsBit cond) (either_part span (eval_part self.now span e.now) (given false)) r) }
+    {
+        match known_bool(dag, cond) {
+            Some(true) => self.eval(room, dag, state, at, span, e),
+            Some(false) => {
+                pass_expr(at, e)?;
+                Ok(Shape::Bit(cond))
+            }
+            None => {
+                let y = self.guarded(room, dag, state, at, span, cond, e)?;
+                let r = and(dag, cond, y)?;
+                Ok(Shape::Bit(r))
             }
         }
+    }
+
+    /// The second part of `||`, behind a bit.
+    #[cycle(eval)]
+    #[inline(never)]
+    fn otherwise(
+        &self,
+        room: u32,
+        dag: &mut Dag,
+        state: &mut SymState,
+        at: &mut usize,
+        span: Span,
+        cond: BoolId,
+        e: &PExpr,
+    ) -> Result<Shape, AllocError>
+        requires stands { StateStands dag.old self.now.setting.expanded.now.prog state.old }
+        requires cond { HasBool dag.old.nodes cond }
+        ensures evaluated { IfOk result (λ r. IsEvaluatedOn self.now dag.old dag.new state.old state.new at.old at.new (IsBit cond) (either_part span (given true) (eval_part self.now span e.now)) r) }
+    {
+        match known_bool(dag, cond) {
+            Some(true) => {
+                pass_expr(at, e)?;
+                Ok(Shape::Bit(cond))
+            }
+            Some(false) => self.eval(room, dag, state, at, span, e),
+            None => {
+                let other = not(dag, cond)?;
+                let y = self.guarded(room, dag, state, at, span, other, e)?;
+                let r = or(dag, cond, y)?;
+                Ok(Shape::Bit(r))
+            }
+        }
+    }
+
+    /// A bit, evaluated where a condition holds.
+    #[cycle(eval)]
+    #[inline(never)]
+    fn guarded(
+        &self,
+        room: u32,
+        dag: &mut Dag,
+        state: &mut SymState,
+        at: &mut usize,
+        span: Span,
+        cond: BoolId,
+        e: &PExpr,
+    ) -> Result<BoolId, AllocError>
+        requires stands { StateStands dag.old self.now.setting.expanded.now.prog state.old }
+        requires cond { HasBool dag.old.nodes cond }
+        ensures guarded { IfOk result (λ y. IsGuarded self.now dag.old dag.new state.old state.new at.old at.new span cond (eval_part self.now span e.now) y) }
+    {
+        let waits = state.fork(&self.setting, dag, cond)?;
+        let v = self.eval(room, dag, state, at, span, e)?;
+        let Shape::Bit(y) = v else {
+            return Err(AllocError);
+        };
+        let gone = state.turn(waits);
+        state.join(&self.setting, dag, cond, gone)?;
+        Ok(y)
+    }
+
+    /// The one value or the other by a condition.
+    #[cycle(eval)]
+    #[inline(never)]
+    fn cond(
+        &self,
+        room: u32,
+        dag: &mut Dag,
+        state: &mut SymState,
+        at: &mut usize,
+        span: Span,
+        cond: &PExpr,
+        a: &PExpr,
+        b: &PExpr,
+    ) -> Result<Shape, AllocError>
+        requires stands { StateStands dag.old self.now.setting.expanded.now.prog state.old }
+        ensures evaluated { IfOk result (λ r. IsEvaluated self.now dag.old dag.new state.old state.new at.old at.new (cond_part self.now span cond.now a.now b.now) r) }
+    {
+        let v = self.eval(room, dag, state, at, span, cond)?;
+        let Shape::Bit(c) = v else {
+            return Err(AllocError);
+        };
+        self.pick(room, dag, state, at, span, c, a, b)
+    }
+
+    /// The one value or the other by a bit.
+    #[cycle(eval)]
+    #[inline(never)]
+    fn pick(
+        &self,
+        room: u32,
+        dag: &mut Dag,
+        state: &mut SymState,
+        at: &mut usize,
+        span: Span,
+        cond: BoolId,
+        a: &PExpr,
+        b: &PExpr,
+    ) -> Result<Shape, AllocError>
+        requires stands { StateStands dag.old self.now.setting.expanded.now.prog state.old }
+        requires cond { HasBool dag.old.nodes cond }
+        ensures evaluated { IfOk result (λ r. IsEvaluatedOn self.now dag.old dag.new state.old state.new at.old at.new (IsBit cond) (pick_part self.now span a.now b.now) r) }
+    {
+        match known_bool(dag, cond) {
+            Some(true) => {
+                let r = self.eval(room, dag, state, at, span, a)?;
+                pass_expr(at, b)?;
+                Ok(r)
+            }
+            Some(false) => {
+                pass_expr(at, a)?;
+                self.eval(room, dag, state, at, span, b)
+            }
+            None => self.both(room, dag, state, at, span, cond, a, b),
+        }
+    }
+
+    /// Both values, of which one is taken by a bit.
+    #[cycle(eval)]
+    #[inline(never)]
+    fn both(
+        &self,
+        room: u32,
+        dag: &mut Dag,
+        state: &mut SymState,
+        at: &mut usize,
+        span: Span,
+        cond: BoolId,
+        a: &PExpr,
+        b: &PExpr,
+    ) -> Result<Shape, AllocError>
+        requires stands { StateStands dag.old self.now.setting.expanded.now.prog state.old }
+        requires cond { HasBool dag.old.nodes cond }
+        ensures evaluated { IfOk result (λ r. IsEvaluatedOn self.now dag.old dag.new state.old state.new at.old at.new (IsBit cond) (pick_part self.now span a.now b.now) r) }
+    {
+        let waits = state.fork(&self.setting, dag, cond)?;
+        let x = self.eval(room, dag, state, at, span, a)?;
+        let gone = state.turn(waits);
+        let y = self.eval(room, dag, state, at, span, b)?;
+        let r = joined(&self.setting, dag, state, cond, gone, &x, &y)?;
+        Ok(r)
+    }
+
+    /// The values of expressions, from left to right.
+    #[cycle(eval)]
+    #[inline(never)]
+    fn all(
+        &self,
+        room: u32,
+        dag: &mut Dag,
+        state: &mut SymState,
+        at: &mut usize,
+        span: Span,
+        parts: &[PExpr],
+    ) -> Result<List<Shape>, AllocError>
+        requires stands { StateStands dag.old self.now.setting.expanded.now.prog state.old }
+        ensures evaluated { IfOk result (λ made. AreEvaluated self.now dag.old dag.new state.old state.new at.old at.new (list_part self.now span parts.now) made) }
+    {
+        let mut made = List::new(self.setting.alloc);
+        for part in parts {
+            let one = self.eval(room, dag, state, at, span, part)?;
+            made.push(one)?;
+        }
+        Ok(made)
+    }
+
+    /// An array of elements that are written out, at its type.
+    #[cycle(eval)]
+    #[inline(never)]
+    fn braces(
+        &self,
+        room: u32,
+        dag: &mut Dag,
+        state: &mut SymState,
+        at: &mut usize,
+        span: Span,
+        ty: Option<Ty>,
+        parts: &[PExpr],
+    ) -> Result<Shape, AllocError>
+        requires stands { StateStands dag.old self.now.setting.expanded.now.prog state.old }
+        ensures evaluated { IfOk result (λ r. IsEvaluated self.now dag.old dag.new state.old state.new at.old at.new (braces_part self.now span ty parts.now) r) }
+    {
+        let made = self.all(room, dag, state, at, span, parts)?;
+        let r = apply(
+            &self.setting,
+            dag,
+            state,
+            self.bounds.int_bits,
+            span,
+            Single::Pad(ty),
+            Shape::Array(made),
+        )?;
+        Ok(r)
     }
 
     /// Runs statements one after another, until one returns. The first of their sites has the place `at`, which moves behind
@@ -132,51 +478,79 @@ impl Activation<'_> {
         stmt: &PStmt,
     ) -> Result<(), AllocError>
         requires stands { StateStands dag.old self.now.setting.expanded.now.prog state.old }
-        ensures executes { OnOk result (Executes self.now.setting dag.old dag.new state.old state.new (exec_at self.now at.old stmt.now)) }
-        ensures place { OnOk result (IsBehind (stmt_part self.now stmt.now) at.old at.new) }
+        ensures executed { OnOk result (IsExecuted self.now dag.old dag.new state.old state.new at.old at.new (stmt_part self.now stmt.now)) }
     {
         if room == 0 {
             return Err(AllocError);
         }
+        if is_over(dag, state) {
+            return pass_stmt(at, stmt);
+        }
         let room = room - 1;
         let span = stmt.span;
         match &stmt.form {
-            PForm::Block(stmts) => {
-                self.exec_all(room, dag, state, at, stmts.as_slice())?;
-                Ok(())
-            }
-            PForm::Assert(e) => {
-                self.assert(room, dag, state, at, span, e)?;
-                Ok(())
-            }
-            PForm::If { cond, then, other } => match other {
-                None => Err(AllocError),
-                Some(other) => {
-                    self.branches(room, dag, state, at, span, cond, then.get(), other.get())?;
-                    Ok(())
-                }
+            PForm::Block(stmts) => self.block(room, dag, state, at, stmts.as_slice()),
+            PForm::Assert(e) => self.act(room, dag, state, at, span, Act::Assert, e),
+            PForm::Assume(e) => self.act(room, dag, state, at, span, Act::Assume, e),
+            PForm::Minimize(e) => self.act(room, dag, state, at, span, Act::Minimize, e),
+            PForm::Call(e) => self.act(room, dag, state, at, span, Act::Drop, e),
+            PForm::Return(e) => match e {
+                Some(e) => self.act(room, dag, state, at, span, Act::Return, e),
+                None => give_nothing(&self.setting, dag, state),
             },
+            PForm::Declare {
+                slot,
+                name: _,
+                ty,
+                value,
+            } => match value {
+                Some(e) => self.act(room, dag, state, at, span, Act::Declare(*slot), e),
+                None => declare_zero(&self.setting, dag, state, span, *slot, *ty),
+            },
+            PForm::If { cond, then, other } => {
+                self.branches(room, dag, state, at, span, cond, then.get(), other)
+            }
             _ => Err(AllocError),
         }
     }
 
-    /// Fails where a condition is false.
+    /// A statement of one expression.
     #[inline(never)]
-    fn assert(
+    fn act(
         &self,
         room: u32,
         dag: &mut Dag,
         state: &mut SymState,
         at: &mut usize,
         span: Span,
+        what: Act,
         e: &PExpr,
     ) -> Result<(), AllocError>
         requires stands { StateStands dag.old self.now.setting.expanded.now.prog state.old }
-        ensures executes { OnOk result (Executes self.now.setting dag.old dag.new state.old state.new (assert_at self.now at.old e.now span)) }
-        ensures place { OnOk result (IsBehind (expr_part self.now e.now) at.old at.new) }
+        ensures executed { OnOk result (IsExecuted self.now dag.old dag.new state.old state.new at.old at.new (act_part self.now span what e.now)) }
     {
         let v = self.eval(room, dag, state, at, span, e)?;
-        check(&self.setting, dag, state, span, &v)?;
+        perform(&self.setting, dag, state, span, what, v)?;
+        Ok(())
+    }
+
+    /// A block. Its variables leave the scope at its end.
+    #[cycle(run)]
+    #[inline(never)]
+    fn block(
+        &self,
+        room: u32,
+        dag: &mut Dag,
+        state: &mut SymState,
+        at: &mut usize,
+        stmts: &[PStmt],
+    ) -> Result<(), AllocError>
+        requires stands { StateStands dag.old self.now.setting.expanded.now.prog state.old }
+        ensures executed { OnOk result (IsExecuted self.now dag.old dag.new state.old state.new at.old at.new (all_part self.now stmts.now)) }
+    {
+        let count = state.frame.slots.len();
+        self.exec_all(room, dag, state, at, stmts)?;
+        state.forget(count);
         Ok(())
     }
 
@@ -192,21 +566,19 @@ impl Activation<'_> {
         span: Span,
         cond: &PExpr,
         a: &PStmt,
-        b: &PStmt,
+        other: &Option<Boxed<PStmt>>,
     ) -> Result<(), AllocError>
         requires stands { StateStands dag.old self.now.setting.expanded.now.prog state.old }
-        ensures executes { OnOk result (Executes self.now.setting dag.old dag.new state.old state.new (branch_at self.now at.old cond.now a.now b.now span)) }
-        ensures place { OnOk result (IsBehind (branch_part self.now cond.now a.now b.now) at.old at.new) }
+        ensures executed { OnOk result (IsExecuted self.now dag.old dag.new state.old state.new at.old at.new (branch_part self.now span cond.now a.now other.now)) }
     {
         let v = self.eval(room, dag, state, at, span, cond)?;
         let Shape::Bit(c) = v else {
             return Err(AllocError);
         };
-        self.ways(room, dag, state, at, span, c, a, b)?;
-        Ok(())
+        self.ways(room, dag, state, at, span, c, a, other)
     }
 
-    /// Both ways of a branch, by a condition that is known.
+    /// The one statement or the other by a bit.
     #[cycle(run)]
     #[inline(never)]
     fn ways(
@@ -218,18 +590,68 @@ impl Activation<'_> {
         span: Span,
         cond: BoolId,
         a: &PStmt,
-        b: &PStmt,
+        other: &Option<Boxed<PStmt>>,
     ) -> Result<(), AllocError>
         requires stands { StateStands dag.old self.now.setting.expanded.now.prog state.old }
         requires cond { HasBool dag.old.nodes cond }
-        ensures executes { OnOk result (ExecutesOn self.now.setting dag.old dag.new state.old state.new (IsBit cond) (ways_at self.now at.old a.now b.now span)) }
-        ensures place { OnOk result (IsBehind (ways_part self.now a.now b.now) at.old at.new) }
+        ensures executed { OnOk result (IsExecutedOn self.now dag.old dag.new state.old state.new at.old at.new (IsBit cond) (ways_part self.now span a.now other.now)) }
+    {
+        match known_bool(dag, cond) {
+            Some(true) => {
+                self.exec(room, dag, state, at, a)?;
+                pass_other(at, other)
+            }
+            Some(false) => {
+                pass_stmt(at, a)?;
+                self.other(room, dag, state, at, other)
+            }
+            None => self.both_ways(room, dag, state, at, span, cond, a, other),
+        }
+    }
+
+    /// Both ways of a branch by a bit.
+    #[cycle(run)]
+    #[inline(never)]
+    fn both_ways(
+        &self,
+        room: u32,
+        dag: &mut Dag,
+        state: &mut SymState,
+        at: &mut usize,
+        span: Span,
+        cond: BoolId,
+        a: &PStmt,
+        other: &Option<Boxed<PStmt>>,
+    ) -> Result<(), AllocError>
+        requires stands { StateStands dag.old self.now.setting.expanded.now.prog state.old }
+        requires cond { HasBool dag.old.nodes cond }
+        ensures executed { OnOk result (IsExecutedOn self.now dag.old dag.new state.old state.new at.old at.new (IsBit cond) (ways_part self.now span a.now other.now)) }
     {
         let waits = state.fork(&self.setting, dag, cond)?;
         self.exec(room, dag, state, at, a)?;
         let gone = state.turn(waits);
-        self.exec(room, dag, state, at, b)?;
+        self.other(room, dag, state, at, other)?;
         state.join(&self.setting, dag, cond, gone)?;
         Ok(())
+    }
+
+    /// A statement that may not be there.
+    #[cycle(run)]
+    #[inline(never)]
+    fn other(
+        &self,
+        room: u32,
+        dag: &mut Dag,
+        state: &mut SymState,
+        at: &mut usize,
+        other: &Option<Boxed<PStmt>>,
+    ) -> Result<(), AllocError>
+        requires stands { StateStands dag.old self.now.setting.expanded.now.prog state.old }
+        ensures executed { OnOk result (IsExecuted self.now dag.old dag.new state.old state.new at.old at.new (other_part self.now other.now)) }
+    {
+        match other {
+            Some(s) => self.exec(room, dag, state, at, s.get()),
+            None => Ok(()),
+        }
     }
 }

@@ -1,82 +1,69 @@
-//! Steps without parts.
+//! Expressions without parts.
 
-ghost use Rattle.std.specs.Prelude.{◌≡◌, IfOk, OnOk, true};
-ghost use Rattle.sk_base.specs.declared.span.Span.{Span};
-ghost use Rattle.sk_dag.specs.declared.env.Env.{Env};
-ghost use Rattle.sk_dag.specs.Graph.{Graph, Grows, HasBool};
-ghost use Rattle.sk_dag.specs.Eval.{Keeps};
-ghost use Rattle.sk_arr.specs.Shapes.{Stands};
-ghost use Rattle.sk_model.specs.Step.{pure};
-ghost use Rattle.sk_prog.specs.declared.value.Value.TheVariants as value;
-ghost use Rattle.sk_model.specs.Operators.{operator};
-ghost use Rattle.sk_model.specs.Heap.{read};
-ghost use Rattle.sk_model.specs.Exec.{assert};
+ghost use Rattle.std.specs.Prelude.{IfOk};
 ghost use Rattle.sk_sym_state.specs.Stands.{StateStands};
-ghost use Rattle.sk_sym_state.specs.Seen.{IsWorth};
-ghost use Rattle.sk_sym_state.specs.Meaning.{Evaluates, ExecutesOn};
-ghost use Rattle.sk_sym_walk.specs.Walk.{EvaluatesOn, AreTwo, choosing};
+ghost use Rattle.sk_sym_walk.specs.Walk.{eval_part};
+ghost use Rattle.sk_sym_walk.specs.Parts.{IsEvaluated};
 
+use crate::activation::Activation;
 use sk_base::Span;
-use sk_dag::{BoolId, Dag, Shape};
-use sk_prog::BinOp;
-use sk_sym_state::{Setting, SymState};
+use sk_dag::{Dag, Shape};
+use sk_prog::{PEForm, PExpr};
+use sk_sym_forms::{constant, hole_here, nothing, number, truth};
+use sk_sym_leaves::variable;
+use sk_sym_sites::pass_expr;
+use sk_sym_state::SymState;
 use std::alloc::AllocError;
 
-/// A truth value that is given.
-pub(crate) fn truth(
-    setting: &Setting<'_>,
+/// The value of an expression without parts and without a site, at its place. Any other counts as want of memory.
+pub(crate) fn leaf(
+    active: &Activation<'_>,
     dag: &mut Dag,
-    state: &mut SymState,
-    b: bool,
-) -> Result<Shape, AllocError>
-    requires stands { StateStands dag.old setting.now.expanded.now.prog state.old }
-    ensures evaluates { IfOk result (λ r. Evaluates setting.now dag.old dag.new state.old state.new r (λ e. pure (value.Bit b))) }
-{
-    Err(AllocError)
-}
-
-pub(crate) fn variable(
-    setting: &Setting<'_>,
-    dag: &mut Dag,
-    state: &mut SymState,
-    slot: u32,
-) -> Result<Shape, AllocError>
-    requires stands { StateStands dag.old setting.now.expanded.now.prog state.old }
-    ensures evaluates { IfOk result (λ r. Evaluates setting.now dag.old dag.new state.old state.new r (λ e. read slot)) }
-{
-    Err(AllocError)
-}
-
-/// What an operator answers.
-pub(crate) fn operate(
-    setting: &Setting<'_>,
-    dag: &mut Dag,
-    state: &mut SymState,
-    width: u32,
+    state: &SymState,
+    at: usize,
     span: Span,
-    op: BinOp,
-    a: &Shape,
-    b: &Shape,
+    e: &PExpr,
 ) -> Result<Shape, AllocError>
-    requires stands { StateStands dag.old setting.now.expanded.now.prog state.old }
-    requires a { Stands dag.old a.now }
-    requires b { Stands dag.old b.now }
-    ensures evaluates { IfOk result (λ r. EvaluatesOn setting.now dag.old dag.new state.old state.new (AreTwo state.old.heap a.now b.now) r (λ e vs. operator width span op vs.0 vs.1)) }
+    requires stands { StateStands dag.old active.now.setting.expanded.now.prog state.now }
+    ensures evaluated { IfOk result (λ r. IsEvaluated active.now dag.old dag.new state.now state.now at at (eval_part active.now span e.now) r) }
 {
-    Err(AllocError)
+    let setting = &active.setting;
+    let _place = (at, span);
+    match &e.form {
+        PEForm::Number(n) => number(setting, dag, state, active.bounds.int_bits, e.ty, *n),
+        PEForm::True => truth(setting, dag, state, true),
+        PEForm::False => truth(setting, dag, state, false),
+        PEForm::Null => Ok(nothing(setting, dag, state)),
+        PEForm::Var { slot, name: _ } => variable(setting, dag, state, *slot),
+        PEForm::Const(id) => constant(setting, dag, state, *id),
+        _ => Err(AllocError),
+    }
 }
 
-/// Fails where a condition does not hold.
-pub(crate) fn check(
-    setting: &Setting<'_>,
+/// The value of a hole. Any other expression counts as want of memory.
+pub(crate) fn hole(
+    active: &Activation<'_>,
     dag: &mut Dag,
-    state: &mut SymState,
+    state: &SymState,
+    at: &mut usize,
     span: Span,
-    a: &Shape,
-) -> Result<(), AllocError>
-    requires stands { StateStands dag.old setting.now.expanded.now.prog state.old }
-    requires a { Stands dag.old a.now }
-    ensures executes { OnOk result (ExecutesOn setting.now dag.old dag.new state.old state.new (λ g e. IsWorth g e state.old.heap a.now) (λ e. choosing span true)) }
+    e: &PExpr,
+) -> Result<Shape, AllocError>
+    requires stands { StateStands dag.old active.now.setting.expanded.now.prog state.now }
+    ensures evaluated { IfOk result (λ r. IsEvaluated active.now dag.old dag.new state.now state.now at.old at.new (eval_part active.now span e.now) r) }
 {
-    Err(AllocError)
+    let PEForm::Hole(_) = &e.form else {
+        return Err(AllocError);
+    };
+    let _span = span;
+    let r = hole_here(
+        &active.setting,
+        dag,
+        state,
+        active.bounds.int_bits,
+        e.ty,
+        *at,
+    )?;
+    pass_expr(at, e)?;
+    Ok(r)
 }

@@ -3,5 +3,6 @@
 
 mod activation;
 mod leaf;
+mod step;
 
 pub use activation::Activation;

@@ -2,7 +2,7 @@
 use Rattle.std.proofs.Common.{refl}
 use Rattle.std.specs.Fmt.{digits}
 use Rattle.sk_prog.specs.declared.value.Value.TheFolds.{the_lemmas as value_lemmas}
-use Rattle.sk_texts.specs.Examples.{ResultOfInt, ResultOfGrid, ResultByRef, FailedRun, SkippedRun, SelfSketch, SelfSummary, CertificateOfNothing, CertificateByObligation, CertificateOfVersionOne, CertificateOfNone, RejectedByInputs, MessageOfText, MessageOfType, MessageOfSize, MessageOfExec, MessageOfCertificate}
+use Rattle.sk_texts.specs.Examples.{ResultOfInt, ResultOfGrid, ResultByRef, FailedRun, SkippedRun, SelfSketch, SelfSummary, RejectedByInputs, MessageOfText, MessageOfType, MessageOfSize, MessageOfExec, MessageOfCertificate}
 
 pub result_of_int : ResultOfInt
 unfolding digits
@@ -31,22 +31,6 @@ self_sketch = refl
 pub self_summary : SelfSummary
 unfolding digits
 self_summary = refl
-
-pub of_nothing : CertificateOfNothing
-unfolding digits
-of_nothing = refl
-
-pub by_obligation : CertificateByObligation
-unfolding digits
-by_obligation = refl
-
-pub of_version_one : CertificateOfVersionOne
-unfolding digits
-of_version_one = refl
-
-pub of_none : CertificateOfNone
-unfolding digits
-of_none = refl
 
 pub by_inputs : RejectedByInputs
 unfolding digits

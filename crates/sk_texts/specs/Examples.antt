@@ -1,4 +1,4 @@
--- Texts of runs, summaries, certificates and refusals.
+-- Texts of runs, summaries, verdicts and refusals.
 use Rattle.std.specs.Prelude.{◌≡◌, ℕ, pos, ◌-ℤ◌, true, false, List, [], ◌∷◌, Some, None, codes}
 use Rattle.sk_base.specs.declared.span.Span.{Span}
 use Rattle.sk_prog.specs.declared.ty.Elem.TheVariants as elem
@@ -9,12 +9,9 @@ use Rattle.sk_prog.specs.declared.value.Value.TheVariants as value
 use Rattle.sk_prog.specs.declared.prog.FunKind.TheVariants as kind
 use Rattle.sk_prog.specs.declared.prog.ParamDef.{ParamDef}
 use Rattle.sk_prog.specs.declared.prog.Fun.{Fun}
-use Rattle.sk_clause.specs.declared.lit.Lit.{Lit}
-use Rattle.sk_model.specs.declared.expanded.Choice.{Choice}
 use Rattle.sk_model.specs.declared.outcome.Outcome.TheVariants as outcome
 use Rattle.sk_texts.specs.RunTexts.{run_text}
 use Rattle.sk_texts.specs.SelfTexts.{self_sketch, summary_of}
-use Rattle.sk_texts.specs.Certificates.{Proof, CertInput, Certificate, certificate_text}
 use Rattle.sk_texts.specs.CheckTexts.{Inputs, rejected_text}
 use Rattle.sk_texts.specs.Messages.{OpenComment, LiteralRange, Steps, Unfilled, Version, NotText, NotTyped, TooLarge, NotRun, NotCertificate, refusal_message}
 
@@ -72,55 +69,7 @@ SelfSketch =
 abbrev pub SelfSummary : Type 0
 SelfSummary = summary_of 7 9 17 1187 4 ≡ codes "self 7\nfunctions 9\nsites 17\nsteps 1187\nvalue 4\nstatus 0\n"
 
--- Certificates
-
-abbrev pub holes : List ℕ → Choice
-holes values = record { values = values }
-
-abbrev pub yes_lit : ℕ → Lit
-yes_lit v = record { var = v; neg = false }
-
-abbrev pub no_lit : ℕ → Lit
-no_lit v = record { var = v; neg = true }
-
--- one variable that is true and is not
-abbrev pub contradiction : Proof
-contradiction = record { formula = record { vars = 1; clauses = (yes_lit 0 ∷ []) ∷ (no_lit 0 ∷ []) ∷ []; names = 0 ∷ [] }; log = [] ∷ [] }
-
--- two variables and no names
-abbrev pub of_two : Proof
-of_two = record { formula = record { vars = 2; clauses = (yes_lit 0 ∷ no_lit 1 ∷ []) ∷ [] ∷ []; names = [] }; log = (no_lit 1 ∷ []) ∷ [] ∷ [] }
-
--- of a sketch without obligations
-abbrev pub empty_sketch : Certificate
-empty_sketch = record { version = 2; text = []; choice = Some (holes []); value = 0; inputs = []; upper = []; lower = None }
-
-abbrev pub CertificateOfNothing : Type 0
-CertificateOfNothing = certificate_text empty_sketch ≡ codes "//@ completion\n//@ value 0\n//@ holes\n//@ certificate 2\n//@ inputs 0\n//@ end\n"
-
-abbrev pub arrays_in : CertInput
-arrays_in = record { obligation = 1; args = (pos 1 ∷ pos 0 ∷ []) ∷ (pos 31 ∷ []) ∷ [] }
-
-abbrev pub two_obligations : Certificate
-two_obligations = record { version = 2; text = codes "int N = 1;\n"; choice = Some (holes (3 ∷ 0 ∷ [])); value = 5; inputs = arrays_in ∷ []; upper = contradiction ∷ of_two ∷ []; lower = Some contradiction }
-
-abbrev pub CertificateByObligation : Type 0
-CertificateByObligation =
-    certificate_text two_obligations ≡ codes "int N = 1;\n//@ completion\n//@ value 5\n//@ holes 3 0\n//@ certificate 2\n//@ inputs 1\n//@ input 1 1,0 31\n//@ upper 0 1 2 1\n//@ names 1\n//@ c 1\n//@ c -1\n//@ l\n//@ upper 1 2 2 2\n//@ names\n//@ c 1 -2\n//@ c\n//@ l -2\n//@ l\n//@ lower 1 2 1\n//@ names 1\n//@ c 1\n//@ c -1\n//@ l\n//@ end\n"
-
--- of version 1, whose one upper part has no number
-abbrev pub first_version : Certificate
-first_version = record { version = 1; text = []; choice = Some (holes (2 ∷ [])); value = 0; inputs = []; upper = contradiction ∷ []; lower = None }
-
-abbrev pub CertificateOfVersionOne : Type 0
-CertificateOfVersionOne = certificate_text first_version ≡ codes "//@ completion\n//@ value 0\n//@ holes 2\n//@ certificate 1\n//@ inputs 0\n//@ upper 1 2 1\n//@ names 1\n//@ c 1\n//@ c -1\n//@ l\n//@ end\n"
-
--- that there is no completion
-abbrev pub no_choice : Certificate
-no_choice = record { version = 2; text = []; choice = None; value = 0; inputs = record { obligation = 0; args = [] } ∷ []; upper = []; lower = Some contradiction }
-
-abbrev pub CertificateOfNone : Type 0
-CertificateOfNone = certificate_text no_choice ≡ codes "//@ none\n//@ certificate 2\n//@ inputs 1\n//@ input 0\n//@ lower 1 2 1\n//@ names 1\n//@ c 1\n//@ c -1\n//@ l\n//@ end\n"
+-- Verdicts
 
 abbrev pub RejectedByInputs : Type 0
 RejectedByInputs = rejected_text Inputs ≡ codes "rejected 2\n"

@@ -1,7 +1,6 @@
 pub mod ValueTexts
 pub mod RunTexts
 pub mod SelfTexts
-pub mod Certificates
 pub mod CheckTexts
 pub mod Messages
 pub mod Examples

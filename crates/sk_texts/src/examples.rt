@@ -1,5 +1,5 @@
 //! Texts, each computed by the check.
-ghost use Rattle.sk_texts.specs.Examples.{ResultOfInt, ResultOfGrid, ResultByRef, FailedRun, SkippedRun, SelfSketch, SelfSummary, CertificateOfNothing, CertificateByObligation, CertificateOfVersionOne, CertificateOfNone, RejectedByInputs, MessageOfText, MessageOfType, MessageOfSize, MessageOfExec, MessageOfCertificate};
+ghost use Rattle.sk_texts.specs.Examples.{ResultOfInt, ResultOfGrid, ResultByRef, FailedRun, SkippedRun, SelfSketch, SelfSummary, RejectedByInputs, MessageOfText, MessageOfType, MessageOfSize, MessageOfExec, MessageOfCertificate};
 
 /// What `exec` writes: of a negative result, of an array of arrays, of `ref` parameters and no result, of a run that fails
 /// and of one that is skipped.
@@ -17,13 +17,8 @@ pub fn text_of_self()
     ensures summary { SelfSummary }
 {}
 
-/// Certificates: of the empty sketch; of two obligations with an input and a lower part; of version 1; and that there is
-/// no completion.
-pub fn texts_of_certificates()
-    ensures nothing { CertificateOfNothing }
-    ensures obligations { CertificateByObligation }
-    ensures first_version { CertificateOfVersionOne }
-    ensures none { CertificateOfNone }
+/// A verdict on a certificate: that it is rejected, and why.
+pub fn text_of_a_verdict()
     ensures rejected { RejectedByInputs }
 {}
 

@@ -1,5 +1,5 @@
 //! The texts that a call of the program writes besides the result of `synth`, as definitions with examples: what `exec`,
-//! `check` and `self` write, the lines of a certificate, and the messages of refusals.
+//! `check` and `self` write, and the messages of refusals.
 #![tactic(auto)]
 
 pub mod examples;

@@ -22,6 +22,12 @@ returns-clause-not_text g c = laws.not_text c.answer-ending.ensures
 pub returns-clause-not_typed : goal.returns-clause-not_typed
 returns-clause-not_typed g c = laws.not_typed c.answer-ending.ensures
 
+pub returns-clause-text_place : goal.returns-clause-text_place
+returns-clause-text_place g c = laws.text_place c.answer-ending.ensures
+
+pub returns-clause-type_place : goal.returns-clause-type_place
+returns-clause-type_place g c = laws.type_place c.answer-ending.ensures
+
 pub returns-clause-too_large : goal.returns-clause-too_large
 returns-clause-too_large g c = laws.too_large c.answer-ending.ensures
 

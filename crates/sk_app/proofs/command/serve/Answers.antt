@@ -13,6 +13,7 @@ returns-in-Synth-default-default-false g c =
       completed = s.completed;
       none = s.none;
       told = s.told;
+      place = s.place;
       read_fault = s.read_fault;
       write_fault = s.write_fault;
       prefix = s.prefix;
@@ -24,4 +25,4 @@ pub returns-in-Exec : goal.returns-in-Exec
 returns-in-Exec g c =
     let m = c.in-Exec in
     let is : c.args.line.now ≡ line.Exec m.set m.name m.values = let a = m.is in cc in
-    serves_exec c.args.line.now m.set m.name m.values c.as_slice.result.now c.run_source.result (record { left_old = g.S.Source.left c.args.source.now; left_new = g.S.Source.left c.run_source.new.source; read_faults_old = g.S.Source.faults c.args.source.now; read_faults_new = g.S.Source.faults c.run_source.new.source; held_old = g.K.Sink.held c.args.sink.now; held_new = g.K.Sink.held c.run_source.new.sink; write_faults_old = g.K.Sink.faults c.args.sink.now; write_faults_new = g.K.Sink.faults c.run_source.new.sink }) is c.as_slice.ensures (record { runs = c.run_source.ensures.runs; few = c.run_source.ensures.few })
+    serves_exec c.args.line.now m.set m.name m.values c.as_slice.result.now c.run_source.result (record { left_old = g.S.Source.left c.args.source.now; left_new = g.S.Source.left c.run_source.new.source; read_faults_old = g.S.Source.faults c.args.source.now; read_faults_new = g.S.Source.faults c.run_source.new.source; held_old = g.K.Sink.held c.args.sink.now; held_new = g.K.Sink.held c.run_source.new.sink; write_faults_old = g.K.Sink.faults c.args.sink.now; write_faults_new = g.K.Sink.faults c.run_source.new.sink }) is c.as_slice.ensures (record { runs = c.run_source.ensures.runs; place = c.run_source.ensures.place; few = c.run_source.ensures.few })

@@ -1,4 +1,4 @@
-use Rattle.sk_app.proofs.EndingLemmas.{found_of, told_not_text, told_not_typed, told_too_large, told_not_built, part_of_nothing, part_of_completion}
+use Rattle.sk_app.proofs.EndingLemmas.{found_of, told_not_text, told_not_typed, told_too_large, told_not_built, placed_not_typed, delivers_no_fault, part_of_nothing, part_of_completion}
 use Rattle.sk_app.proofs.command.synth.Goals as goal
 
 pub returns-in-Ok-Found-NotText-clause-told : goal.returns-in-Ok-Found-NotText-clause-told
@@ -10,6 +10,17 @@ pub returns-in-Ok-Found-NotTyped-clause-told : goal.returns-in-Ok-Found-NotTyped
 returns-in-Ok-Found-NotTyped-clause-told g c =
     let m = c.in-Ok-Found-NotTyped in
     told_not_typed c.args.set.now (g.S.Source.left c.args.source.now) m.fault (found_of c.args.set.now _ _ m.field-0 m.field-0-0 _ (g.S.Source.left c.args.source.now) m.field-0-is m.field-0-0-is m.ensures.cause)
+
+pub returns-in-Ok-Found-NotTyped-clause-place : goal.returns-in-Ok-Found-NotTyped-clause-place
+returns-in-Ok-Found-NotTyped-clause-place g c fault e =
+    let m = c.in-Ok-Found-NotTyped in
+    placed_not_typed c.args.set.now (g.S.Source.left c.args.source.now) m.fault fault (found_of c.args.set.now _ _ m.field-0 m.field-0-0 _ (g.S.Source.left c.args.source.now) m.field-0-is m.field-0-0-is m.ensures.cause) e
+
+pub returns-in-Ok-Found-Nothing-clause-place : goal.returns-in-Ok-Found-Nothing-clause-place
+returns-in-Ok-Found-Nothing-clause-place g c fault e = delivers_no_fault c.deliver.result _ _ _ _ _ _ fault (λ q. cc) c.deliver.ensures e
+
+pub returns-in-Ok-Found-Completion-clause-place : goal.returns-in-Ok-Found-Completion-clause-place
+returns-in-Ok-Found-Completion-clause-place g c fault e = delivers_no_fault c.deliver-in-Ok-Found-Completion.result _ _ _ _ _ _ fault (λ q. cc) c.deliver-in-Ok-Found-Completion.ensures e
 
 pub returns-in-Ok-Found-TooLarge-clause-told : goal.returns-in-Ok-Found-TooLarge-clause-told
 returns-in-Ok-Found-TooLarge-clause-told g c =

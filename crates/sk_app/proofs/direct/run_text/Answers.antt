@@ -2,18 +2,25 @@ use Rattle.std.proofs.Common.{refl, subst}
 use Rattle.sk_direct.specs.Direct.{IsExecuted}
 use Rattle.sk_app.specs.Ends.{IsDelivered}
 use Rattle.sk_app.specs.Effects.{refused, not_run, ran}
+use Rattle.sk_app.proofs.EndingLemmas.{refused_place, run_no_fault}
 use Rattle.sk_app.proofs.direct.run_text.Goals as goal
 
-pub returns-in-Err : goal.returns-in-Err
-returns-in-Err g c = refused c.in-Err.fault c.in-Err.ensures.fault c.refusal.ensures refl
+pub returns-in-Err-clause-place : goal.returns-in-Err-clause-place
+returns-in-Err-clause-place g c fault e = refused_place c.args.text.now c.in-Err.fault c.refusal.result fault c.in-Err.ensures.place c.refusal.ensures e
 
-pub returns-in-Ok-NotRun : goal.returns-in-Ok-NotRun
-returns-in-Ok-NotRun g c =
+pub returns-in-Ok-Run-clause-place : goal.returns-in-Ok-Run-clause-place
+returns-in-Ok-Run-clause-place g c fault e = run_no_fault c.deliver.result _ c.in-Ok-Run.outcome _ _ _ _ _ fault c.ending_of-done.ensures c.deliver.ensures e
+
+pub returns-in-Err-clause-runs : goal.returns-in-Err-clause-runs
+returns-in-Err-clause-runs g c = refused c.in-Err.fault c.in-Err.ensures.fault c.refusal.ensures refl
+
+pub returns-in-Ok-NotRun-clause-runs : goal.returns-in-Ok-NotRun-clause-runs
+returns-in-Ok-NotRun-clause-runs g c =
     let m = c.in-Ok-NotRun in
     not_run m.reason (subst (IsExecuted c.args.set.now c.args.name.now c.args.values.now c.args.text.now) m.field-0-is m.ensures.found) refl refl
 
-pub returns-in-Ok-Run : goal.returns-in-Ok-Run
-returns-in-Ok-Run g c =
+pub returns-in-Ok-Run-clause-runs : goal.returns-in-Ok-Run-clause-runs
+returns-in-Ok-Run-clause-runs g c =
     let m = c.in-Ok-Run in
     let a = g.K.Sink.faults c.args.sink.now in
     let b = g.K.Sink.faults c.deliver.new.sink in

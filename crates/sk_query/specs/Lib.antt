@@ -1,0 +1,5 @@
+pub mod Numbers
+pub mod Widths
+pub mod Said
+pub mod Queries
+pub mod Laws

@@ -1,0 +1,5 @@
+use Rattle.sk_sym_forms.proofs.Acts.{declares}
+use Rattle.sk_sym_forms.proofs.act.declare_value.Goals as goal
+
+pub returns : goal.returns
+returns c = record { executes = declares c.requires.stands c.requires.a c.in_ok-declare.ensures }

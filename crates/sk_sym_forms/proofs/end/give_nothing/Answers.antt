@@ -1,0 +1,5 @@
+use Rattle.sk_sym_forms.proofs.Acts.{returns_nothing}
+use Rattle.sk_sym_forms.proofs.end.give_nothing.Goals as goal
+
+pub returns : goal.returns
+returns c = record { executes = returns_nothing c.in_ok-give.ensures.gives }

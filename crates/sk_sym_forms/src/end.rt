@@ -1,0 +1,62 @@
+//! Statements without an expression, and failures.
+
+ghost use Rattle.std.specs.Prelude.{OnOk, None};
+ghost use Rattle.sk_model.specs.Step.{pure, fail};
+ghost use Rattle.sk_model.specs.Exec.{Returns, declare};
+ghost use Rattle.sk_sym_state.specs.Stands.{StateStands};
+ghost use Rattle.sk_sym_state.specs.Meaning.{Executes};
+
+use sk_base::Span;
+use sk_dag::Dag;
+use sk_folded::flag;
+use sk_literals::zero_of;
+use sk_prog::Ty;
+use sk_sym_frames::give;
+use sk_sym_state::{Setting, SymState};
+use std::alloc::AllocError;
+
+/// Returns without a value.
+pub fn give_nothing(
+    setting: &Setting<'_>,
+    dag: &mut Dag,
+    state: &mut SymState,
+) -> Result<(), AllocError>
+    requires stands { StateStands dag.old setting.now.expanded.now.prog state.old }
+    ensures executes { OnOk result (Executes setting.now dag.old dag.new state.old state.new (λ e. pure (Returns None))) }
+{
+    give(setting, dag, state, None)?;
+    Ok(())
+}
+
+/// Brings a variable of a type into scope that is 0. A slot past the variables in scope, which no typed program declares,
+/// counts as want of memory.
+pub fn declare_zero(
+    setting: &Setting<'_>,
+    dag: &mut Dag,
+    state: &mut SymState,
+    span: Span,
+    slot: u32,
+    ty: Ty,
+) -> Result<(), AllocError>
+    requires stands { StateStands dag.old setting.now.expanded.now.prog state.old }
+    ensures executes { OnOk result (Executes setting.now dag.old dag.new state.old state.new (λ e. declare span slot ty None)) }
+{
+    let zero = zero_of(setting.alloc, dag, ty)?;
+    state.declare(slot, zero)?;
+    Ok(())
+}
+
+/// Fails wherever the run goes on.
+pub fn fail_here(
+    setting: &Setting<'_>,
+    dag: &mut Dag,
+    state: &mut SymState,
+    span: Span,
+) -> Result<(), AllocError>
+    requires stands { StateStands dag.old setting.now.expanded.now.prog state.old }
+    ensures executes { OnOk result (Executes setting.now dag.old dag.new state.old state.new (λ e. fail span)) }
+{
+    let always = flag(dag, true)?;
+    state.fail_where(setting, dag, always)?;
+    Ok(())
+}

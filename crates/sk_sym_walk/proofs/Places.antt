@@ -1,0 +1,22 @@
+-- Where a part ends whose sites are passed.
+use Rattle.std.proofs.Common.{◌≡◌, ℕ, ◌+◌, Option, Some, None, refl, sym, ap, ◌∙◌}
+use Rattle.std.specs.Prelude.{option_map}
+use Rattle.sk_base.specs.declared.span.Span.{Span}
+use Rattle.sk_dag.specs.declared.env.Env.{Env}
+use Rattle.sk_prog.specs.declared.expr.PExpr.{PExpr}
+use Rattle.sk_prog.specs.declared.stmt.PStmt.{PStmt}
+use Rattle.sk_sym_sites.specs.Counts.{expr_count, stmt_count, any_count}
+use Rattle.sk_sym_sites.proofs.Trees.{counts_expr, counts_stmt}
+use Rattle.sk_sym_walk.specs.declared.activation.Activation.{Activation}
+use Rattle.sk_sym_walk.specs.Walk.{prog_of, values_at, calls_at, eval_part, stmt_part}
+use Rattle.sk_sym_walk.specs.Parts.{other_part}
+
+pub expr_behind : {j : ℕ} (i : ℕ) (a : Activation) (span : Span) (x : PExpr) → j ≡ i + expr_count x → (e : Env) → j ≡ i + (eval_part a span x e).count
+expr_behind i a span x p e = p ∙ ap (λ n. i + n) (sym (counts_expr (prog_of a) a.bounds (values_at a e) (calls_at a e) x))
+
+pub stmt_behind : {j : ℕ} (i : ℕ) (a : Activation) (s : PStmt) → j ≡ i + stmt_count s → (e : Env) → j ≡ i + (stmt_part a s e).count
+stmt_behind i a s p e = p ∙ ap (λ n. i + n) (sym (counts_stmt (prog_of a) a.bounds (values_at a e) (calls_at a e) s))
+
+pub other_behind : {j : ℕ} (i : ℕ) (a : Activation) (o : Option PStmt) → j ≡ i + any_count (option_map stmt_count o) → (e : Env) → j ≡ i + (other_part a o e).count
+other_behind i a None p e = p
+other_behind i a (Some s) p e = stmt_behind i a s p e
