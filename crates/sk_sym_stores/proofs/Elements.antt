@@ -22,8 +22,10 @@ use Rattle.sk_seen.proofs.Fields.{map_set}
 use Rattle.sk_sym_stores.specs.Replaced.{HasElement}
 
 -- the array as it is written where the guard always holds
-pub always_written : {g : Graph} {always outside : BoolId} {list made : List Shape} {index : WordId} {v : Shape} → ((h : Graph) → Grows g h → (e : Env) → bool_value h e always ≡ true) → IsWritten g always list index v made outside → HasElement g list index v (shape.Array made)
+pub always_written : {g : Graph} {always outside : BoolId} {list made : List Shape} {index : WordId} {v : Shape} → ((h : Graph) → Grows g h → (e : Env) → bool_value h e always ≡ true) → IsWritten g always list index v made outside → HasElement g list index v (shape.Array made) outside
 always_written {g} {always} {outside} {list} {made} {index} {v} holds is = record {
+  there = is.there;
+  left = is.left;
   parts = made;
   whole = refl;
   stand = is.stand;

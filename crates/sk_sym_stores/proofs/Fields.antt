@@ -1,5 +1,5 @@
 -- What is stored in fields of records.
-use Rattle.std.proofs.Common.{◌≡◌, ℕ, Bool, true, false, true≢false, List, map, Option, Some, None, is_none, IsTrue, refl, sym, ap, subst, ◌∙◌}
+use Rattle.std.proofs.Common.{◌≡◌, ℕ, Bool, true, false, true≢false, List, [], map, Option, Some, None, is_none, slice_get, IsTrue, refl, sym, ap, subst, ◌∙◌}
 use Rattle.std.specs.Prelude.{⊤, ◌||◌, if◌then◌else◌}
 use Rattle.sk_base.specs.declared.span.Span.{Span}
 use Rattle.sk_dag.specs.declared.env.Env.{Env}
@@ -11,14 +11,17 @@ use Rattle.sk_dag.specs.declared.shape.Targets.{Targets}
 use Rattle.sk_dag.specs.Graph.{Graph, Grows}
 use Rattle.sk_dag.specs.Eval.{bool_value, Keeps}
 use Rattle.sk_dag.proofs.EvalLemmas.{Keeps-trans}
+use Rattle.sk_arr.specs.Shapes.{SlotsPass, Stands}
 use Rattle.sk_arr.proofs.Standing.{Stands-keeps}
 use Rattle.sk_prog.specs.declared.ids.StructId.{StructId}
 use Rattle.sk_prog.specs.declared.ty.Elem.{Elem}
 use Rattle.sk_prog.specs.declared.ty.Elem.TheVariants as elem
+use Rattle.sk_prog.specs.declared.ty.Ty.{Ty}
 use Rattle.sk_prog.specs.declared.prog.Prog.{Prog}
 use Rattle.sk_prog.specs.declared.value.Value.{Value}
+use Rattle.sk_prog.specs.declared.value.Value.TheVariants as value
 use Rattle.sk_heap.specs.declared.slot.Slot.{Slot}
-use Rattle.sk_heap.specs.Types.{elem_of}
+use Rattle.sk_heap.specs.Types.{elem_of, field_types}
 use Rattle.sk_heap.specs.Heaps.{may_name, IsOfField, HeapStands, RefersTo}
 use Rattle.sk_heap.specs.Answers.{struct_of, slot_of, IsNull, IsFieldRead, IsFieldWritten, MayWrite}
 use Rattle.sk_heap.proofs.Heaps.{SlotsPass-more, RefersTo-more, IsOfField-more}
@@ -30,20 +33,20 @@ use Rattle.sk_seen.specs.Values.{holds_in, value_in, ShapeLive}
 use Rattle.sk_seen.specs.Heaps.{heap_value}
 use Rattle.sk_seen.proofs.Fields.{read_null, read_goes, read_live, written_grows, unwritten_heap}
 use Rattle.sk_seen.proofs.Grown.{StaysOf-grows}
-use Rattle.sk_seen.proofs.Writes.{write_goes, written_live}
+use Rattle.sk_seen.proofs.Writes.{write_null, write_goes, written_live}
 use Rattle.sk_sym_state.specs.declared.setting.Setting.{Setting}
 use Rattle.sk_sym_state.specs.declared.state.SymState.{SymState}
 use Rattle.sk_sym_state.specs.Seen.{IsWorth}
 use Rattle.sk_sym_state.specs.Stands.{StateStands}
 use Rattle.sk_sym_state.specs.Shows.{Shows, Sees}
 use Rattle.sk_sym_state.specs.Meaning.{IsLater, DoesOn, Moves, FailsWhere}
-use Rattle.sk_sym_state.proofs.Carrying.{later_keeps, front_grown}
+use Rattle.sk_sym_state.proofs.Carrying.{later_keeps, front_grown, Moves-trans}
 use Rattle.sk_sym_state.proofs.Standing.{StateStands-keeps}
 use Rattle.sk_sym_state.proofs.Ends.{fails_or_goes}
 use Rattle.sk_sym_steps.proofs.Records.{kind_of, ended_grown}
 use Rattle.sk_sym_stores.specs.declared.location.Location.{Location}
 use Rattle.sk_sym_stores.specs.declared.location.Root.TheVariants.{Field}
-use Rattle.sk_sym_stores.specs.Kinds.{may_name_kind, MayHold}
+use Rattle.sk_sym_stores.specs.Kinds.{may_name_kind, MayHold, FitsField}
 use Rattle.sk_sym_stores.specs.Locations.{RootIs}
 use Rattle.sk_sym_stores.specs.Replaced.{IsReplaced}
 use Rattle.sk_sym_stores.specs.Stores.{IsStored, Stores}
@@ -57,6 +60,13 @@ may_of heap structs elem.Bit n are = refl
 may_of heap structs elem.Int n are = refl
 may_of heap structs (elem.Reference s) n are = kind_of heap structs s n are
 
+-- what the field may hold names slots of its type
+named_typed : {prog : Prog} (heap : List Slot) {structs : List StructId} {s : StructId} {field : ℕ} {value : Shape} {t : Ty} → map struct_of heap ≡ structs → MayHold prog structs s field value → slice_get (field_types prog s) field ≡ Some t → SlotsPass (may_name heap (elem_of t)) value
+named_typed heap {structs = structs} {t = t} are may at = SlotsPass-more (λ n h. subst (λ u. IsTrue (may_name heap u n)) (sym (may.is.typed t at)) (subst IsTrue (may_of heap structs may.elem n are) h)) may.named
+
+pub fits_typed : {prog : Prog} {heap : List Slot} {structs : List StructId} {s : StructId} {field : ℕ} {value : Shape} → map struct_of heap ≡ structs → FitsField prog structs s field value → IsOfField heap prog s field value
+fits_typed {heap = heap} are fits = record { typed = λ t at. record { form = fits.form.typed t at; slots = named_typed heap are fits.may at } }
+
 -- what is replaced in a field is of its type
 pub replaced_typed : {g : Graph} {prog : Prog} {heap : List Slot} {structs : List StructId} {s : StructId} {field : ℕ} {indexes : List WordId} {whole value made : Shape} {fails : BoolId} → map struct_of heap ≡ structs → IsOfField heap prog s field whole → MayHold prog structs s field value → IsReplaced g indexes whole value made fails → IsOfField heap prog s field made
 replaced_typed {heap = heap} {structs = structs} are of may is = record {
@@ -64,7 +74,7 @@ replaced_typed {heap = heap} {structs = structs} are of may is = record {
       let held = of.typed t at in
       record {
         form = is.alike ∙ held.form;
-        slots = is.named (may_name heap (elem_of t)) held.slots (SlotsPass-more (λ n h. subst (λ u. IsTrue (may_name heap u n)) (sym (may.is.typed t at)) (subst IsTrue (may_of heap structs may.elem n are) h)) may.named);
+        slots = is.named (may_name heap (elem_of t)) held.slots (named_typed heap are may at);
       };
 }
 
@@ -157,12 +167,12 @@ module _ {x : Setting} {d0 d1 d2 d3 d4 : Graph} {s0 s1 : SymState} {target : Tar
 
 -- ---- and the whole is written
 
-abbrev with_heap : SymState → List Slot → SymState
+abbrev pub with_heap : SymState → List Slot → SymState
 with_heap s heap = record s { heap = heap }
 
 module _ {x : Setting} {d0 d1 : Graph} {s : SymState} {new : List Slot} {target : Targets} {kind : StructId} {field : ℕ} {made : Shape} {again : BoolId} (h : StateStands d0 x.expanded.now.prog s) (keeps : Keeps d0 d1) (may : MayWrite d0 x.expanded.now.prog s.heap kind target field made) (is_null : IsNull d1 target again) (is : IsFieldWritten d1 s.path target field made s.heap new)
     (stands : HeapStands d1 x.expanded.now.prog new) where
-  written_moves : Moves x d0 d1 s (with_heap s new)
+  pub written_moves : Moves x d0 d1 s (with_heap s new)
   written_moves = record {
     keeps = keeps;
     stands =
@@ -224,3 +234,63 @@ may_write h refers may k1 read k2 is k3 f = record {
   value_stands = Stands-keeps (Keeps-trans k3 f.moves.keeps) is.stands;
   typed = IsOfField-more (StaysOf-grows f.moves.grown) (replaced_typed h.structs read.typed may is);
 }
+
+-- ---- a whole field is written
+
+-- a store into a whole field is a write of it
+pub stored_whole : (span : Span) (v w : Value) (field : ℕ) (at : State) → model.store span (record { root = model.Field v field; indexes = [] }) w at ≡ model.write_field span field w v at
+stored_whole span (value.Place p) w field at = refl
+stored_whole span (value.Bit b) w field at = refl
+stored_whole span (value.Int z) w field at = refl
+stored_whole span value.Null w field at = refl
+stored_whole span (value.Array' shape vs) w field at = refl
+
+module _ {x : Setting} {d0 d1 d2 : Graph} {s0 s1 : SymState} {new : List Slot} {target : Targets} {kind : StructId} {field : ℕ} {value : Shape} {null : BoolId} (span : Span) (h : StateStands d0 x.expanded.now.prog s0) (keeps : Keeps d0 d1) (may : MayWrite d0 x.expanded.now.prog s0.heap kind target field value) (is_null : IsNull d1 target null) (is : IsFieldWritten d1 s0.path target field value s0.heap new)
+    (stands : HeapStands d1 x.expanded.now.prog new) (f : FailsWhere x d1 d2 (with_heap s0 new) s1 null) where
+  abbrev written_place : Location
+  written_place = record { root = Field (shape.Reference target) kind field; indexes = [] }
+
+  abbrev heap_written : Graph → Env → State → State
+  heap_written g e at = record at { heap = heap_value g e new }
+
+  written_shows : (g : Graph) (e : Env) (at : State) → IsLater x d2 g e → ShapeLive g e s0.heap value → Shows g e s0 at → Shows g e (with_heap s0 new) (heap_written g e at)
+  written_shows g e at l live shows =
+      let later = later_keeps f.moves.keeps l in
+      record {
+        path = shows.path;
+        failed = shows.failed;
+        skipped = shows.skipped;
+        returned = shows.returned;
+        cost = shows.cost;
+        heap = refl;
+        lives = written_live may is_null is later.grows e shows.lives (λ t. live);
+        slots = front_grown g e (written_grows is) shows.slots;
+      }
+
+  by_null : (g : Graph) (e : Env) (w : Value) (at : State) → IsLater x d2 g e → IsWorth g e s0.heap value w → Shows g e s0 at → (v : Value) → IsWorth g e s0.heap (shape.Reference target) v → (b : Bool) → bool_value g e null ≡ b → Sees g e s1 (λ (u : Unit {0}). ⊤) (model.write_field span field w v at)
+  by_null g e w at l worth shows v reference true c =
+      let later = later_keeps f.moves.keeps l in
+      subst (Sees g e s1 (λ (u : Unit {0}). ⊤)) (sym ((λ i. model.write_field span field w (sym reference.value i) at) ∙ write_null may is_null is later.grows e c span w at))
+      (f.bad g e (heap_written g e at) l c (written_shows g e at l worth.live shows))
+  by_null g e w at l worth shows v reference false c =
+      let later = later_keeps f.moves.keeps l in
+      subst (Sees g e s1 (λ (u : Unit {0}). ⊤))
+      (sym ((λ i. model.write_field span field (sym worth.value i) (sym reference.value i) at) ∙ write_goes may is_null is later.grows e reference.live shows.path c span at (sym shows.heap)))
+      (record { shows = f.good g e (heap_written g e at) l c (written_shows g e at l worth.live shows); is = tt })
+
+  at_root : (g : Graph) (e : Env) (root : model.Root) (w : Value) (at : State) → IsLater x d2 g e → RootIs g e s0.heap (Field (shape.Reference target) kind field) root → IsWorth g e s0.heap value w → Shows g e s0 at → Sees g e s1 (λ (u : Unit {0}). ⊤) (model.store span (record { root = root; indexes = [] }) w at)
+  at_root g e (model.Variable n) w at l is worth shows = absurd is
+  at_root g e (model.Field v k) w at l is worth shows =
+      subst (Sees g e s1 (λ (u : Unit {0}). ⊤)) (sym (stored_whole span v w k at ∙ ap (λ n. model.write_field span n w v at) is.1))
+      (by_null g e w at l worth shows v is.0 (bool_value g e null) refl)
+
+  pub whole_stores : Stores x d0 d2 s0 s1 span written_place value
+  whole_stores = record {
+    does = record {
+      moves = Moves-trans (written_moves h keeps may is_null is stands) f.moves;
+      runs = λ g e p at l given shows. subst (λ zs. Sees g e s1 (λ (u : Unit {0}). ⊤) (model.store span (record { root = p.0.root; indexes = zs }) p.1 at)) (sym given.0.indexes) (at_root g e p.0.root p.1 at l given.0.root given.1 shows);
+    };
+  }
+
+pub fits_may : {prog : Prog} {d : Graph} {s : SymState} {target : Targets} {kind : StructId} {field : ℕ} {value : Shape} → StateStands d prog s → RefersTo d s.heap kind target → FitsField prog s.structs kind field value → Stands d value → MayWrite d prog s.heap kind target field value
+fits_may h refers fits there = record { heap_stands = h.heap; there = fits.may.is.there; refers = refers; value_stands = there; typed = fits_typed h.structs fits }

@@ -36,6 +36,7 @@ use Rattle.sk_sym_stores.specs.declared.location.Root.TheVariants.{Field}
 use Rattle.sk_sym_stores.specs.declared.creation.Init.{Init}
 use Rattle.sk_sym_stores.specs.Records.{InitIs, InitsAre, InitsStand, EvaluateFields, AreSet, set_all, IsFirstInit}
 use Rattle.sk_sym_stores.specs.Stores.{Stores}
+use Rattle.sk_sym_stores.proofs.Fields.{stored_whole}
 
 -- ---- lists of fields
 
@@ -96,14 +97,6 @@ fields_in_order_push span (first ∷ others) last s =
     by (Skips span) = refl
 
 -- ---- fields are set
-
--- a store into a whole field is a write of it
-stored_whole : (span : Span) (v w : Value) (field : ℕ) (at : State) → model.store span (record { root = model.Field v field; indexes = [] }) w at ≡ model.write_field span field w v at
-stored_whole span (value.Place p) w field at = refl
-stored_whole span (value.Bit b) w field at = refl
-stored_whole span (value.Int z) w field at = refl
-stored_whole span value.Null w field at = refl
-stored_whole span (value.Array' shape vs) w field at = refl
 
 pub sets_none : {x : Setting} {d : Graph} {s : SymState} {reference : Shape} {list : List Init} (span : Span) → StateStands d x.expanded.now.prog s → list ≡ [] → DoesOn x d d s s (AreSet s.heap reference list) (λ g e (u : Unit {0}). ⊤) (λ e p. set_all span p.0 p.1)
 sets_none {x} {d} {s} {reference} {list} span h is = record {

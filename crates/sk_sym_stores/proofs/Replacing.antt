@@ -1,12 +1,15 @@
 -- A part of a value is replaced.
-use Rattle.std.proofs.Common.{◌≡◌, ℕ, Bool, true, false, true≢false, List, [], ◌∷◌, map, Some, None, option_map, refl, sym, ap, subst, ◌∙◌}
-use Rattle.std.specs.Prelude.{not, ◌||◌, option_and_then, if◌then◌else◌}
+use Rattle.std.proofs.Common.{◌≡◌, ℕ, ℤ, pos, negsuc, Bool, true, false, true≢false, List, [], ◌∷◌, length, map, get_or, Some, None, option_map, refl, sym, ap, subst, ◌∙◌, arith}
+use Rattle.std.specs.Prelude.{nat_lt, not, ◌||◌, option_and_then, if◌then◌else◌}
+use Rattle.std.proofs.lemmas.Bool.{ltb-true}
+use Rattle.std.proofs.lemmas.Option.{slice_get-get_or}
 use Rattle.std.proofs.lemmas.List.Elements.{All-head, All-tail}
 use Rattle.sk_dag.specs.declared.env.Env.{Env}
 use Rattle.sk_dag.specs.declared.node.BoolId.{BoolId}
 use Rattle.sk_dag.specs.declared.node.WordId.{WordId}
 use Rattle.sk_dag.specs.declared.shape.Shape.{Shape}
 use Rattle.sk_dag.specs.declared.shape.Shape.TheVariants as shape
+use Rattle.sk_dag.specs.declared.shape.Seen.{Seen}
 use Rattle.sk_dag.specs.declared.shape.Seen.TheVariants as seen
 use Rattle.sk_dag.specs.Graph.{Graph, Grows, HasBool, HasWord, WordSort}
 use Rattle.sk_dag.specs.Eval.{bool_value, word_value, Keeps}
@@ -16,6 +19,7 @@ use Rattle.sk_arr.specs.Places.{is_within, element_of, replaced_at}
 use Rattle.sk_arr.specs.Answers.{shapes_value, IsCopy, IsRead}
 use Rattle.sk_arr.proofs.Standing.{Stands-keeps, AllStand-keeps, array_stands}
 use Rattle.sk_arr.proofs.Values.{value_array, blank_array, length_map, parts_pass, array_passes}
+use Rattle.sk_prog.specs.declared.value.Value.{Value}
 use Rattle.sk_prog.specs.declared.value.Value.TheVariants as value
 use Rattle.sk_model.specs.Values.{replaced}
 use Rattle.sk_seen.specs.Values.{place_of, value_of, IsLive}
@@ -38,6 +42,10 @@ first_word {d} {indexes} {more} {index} is h = All-head (HasWord d.nodes) index 
 pub more_words : {d : Graph} {indexes more : List WordId} {index : WordId} → IsFirstIndex indexes index more → AreWords d indexes → AreWords d more
 more_words {d} {indexes} {more} {index} is h = record { each = All-tail (HasWord d.nodes) index more (subst (AreWords d) is.front h).each }
 
+pub none_more : (more : List WordId) → length more ≡ 0 → more ≡ []
+none_more [] e = refl
+none_more (index ∷ more) e = absurd (omega (arith, e))
+
 -- ---- no index
 
 pub replaced_whole : {g d : Graph} {indexes : List WordId} {whole part r : Shape} {fails : BoolId} → indexes ≡ [] → Stands d part → Keeps d g → Alike part whole → ((h : Graph) → Stands h part → IsCopy h part r) → HasBool g.nodes fails → ((h : Graph) → Grows g h → (e : Env) → bool_value h e fails ≡ false) → IsReplaced g indexes whole part r fails
@@ -57,8 +65,8 @@ replaced_whole {g} {d} {indexes} {whole} {part} {r} {fails} none stands keeps al
 
 -- ---- one index more
 
-module _ {d1 d2 d3 d4 : Graph} {indexes more : List WordId} {index : WordId} {list : List Shape} {whole part old new r : Shape} {outside inside fails : BoolId} (first : IsFirstIndex indexes index more) (is : whole ≡ shape.Array list)
-    (read : IsRead d1 list index old outside) (one : Keeps d1 d2) (rest : IsReplaced d2 more old part new inside) (two : Keeps d2 d3) (made : HasElement d3 list index new r) (three : Keeps d3 d4)
+module _ {d1 d2 d3 d4 : Graph} {indexes more : List WordId} {index : WordId} {list : List Shape} {whole part old new r : Shape} {outside inside beyond fails : BoolId} (first : IsFirstIndex indexes index more) (is : whole ≡ shape.Array list)
+    (read : IsRead d1 list index old outside) (one : Keeps d1 d2) (rest : IsReplaced d2 more old part new inside) (two : Keeps d2 d3) (made : HasElement d3 list index new r beyond) (three : Keeps d3 d4)
     (there : HasBool d4.nodes fails) (either : (h : Graph) → Grows d4 h → (e : Env) → bool_value h e fails ≡ (bool_value h e outside || bool_value h e inside)) where
   whole_passes : (test : ℕ → Bool) → SlotsPass test whole → SlotsPass test part → SlotsPass test r
   whole_passes test p q =
@@ -117,4 +125,48 @@ module _ {d1 d2 d3 d4 : Graph} {indexes more : List WordId} {index : WordId} {li
         ∙ ap (λ t. option_and_then (λ v. option_and_then (λ w. Some (value.Array (set_at (map (value_of (place_of holds)) (shapes_value h e list)) (word_value h e index) w))) (replaced (map (word_value h e) more) v (worth holds h e part))) t) (element_as (place_of holds) (shapes_value h e list) (word_value h e index))
         ∙ made_value h m e holds (bool_value h e outside) (bool_value h e inside) refl refl
         ∙ ap (λ (b : Bool). if b then None else Some (worth holds h e r)) (sym (either h m e));
+  }
+
+-- ---- the last index
+
+some_inside : (vs : List Seen) (x : ℤ) → not (is_within (length vs) x) ≡ false → (v : Seen) × (element_of vs x ≡ Some v)
+some_inside vs (pos i) h = (get_or vs i (seen.Bit false), slice_get-get_or vs i (seen.Bit false) (ltb-true i (length vs) (by (nat_lt i (length vs)) h)))
+  where
+    by : (b : Bool) → not b ≡ false → b ≡ true
+    by true e = refl
+    by false e = sym e
+some_inside vs (negsuc i) h = absurd (true≢false h)
+
+module _ {d : Graph} {indexes more : List WordId} {index : WordId} {list : List Shape} {whole part r : Shape} {outside : BoolId} (first : IsFirstIndex indexes index more) (last : more ≡ []) (is : whole ≡ shape.Array list) (made : HasElement d list index part r outside) where
+  last_live : (h : Graph) → Grows d h → (e : Env) (holds : ℕ → Bool) → IsLive holds (shape_value h e whole) → IsLive holds (shape_value h e part) → IsLive holds (shape_value h e r)
+  last_live h m e holds p q =
+      let all = array_live holds (shapes_value h e list) (subst (IsLive holds) (ap (shape_value h e) is ∙ value_array h e list) p) in
+      let now : shape_value h e r ≡ seen.Array (replaced_at (shapes_value h e list) (word_value h e index) (shape_value h e part)) = ap (shape_value h e) made.whole ∙ value_array h e made.parts ∙ ap (λ l. seen.Array l) (made.written h m e) in
+      subst (IsLive holds) (sym now) (live_array holds (replaced_at (shapes_value h e list) (word_value h e index) (shape_value h e part)) (replaced_live holds (shapes_value h e list) (word_value h e index) (shape_value h e part) all q))
+
+  within : (h : Graph) (e : Env) → not (is_within (length (shapes_value h e list)) (word_value h e index)) ≡ not (is_within (length list) (word_value h e index))
+  within h e = ap (λ n. not (is_within n (word_value h e index))) (length_map (shape_value h e) list)
+
+  last_value : (h : Graph) → Grows d h → (e : Env) (holds : ℕ → Bool) (b : Bool) → bool_value h e outside ≡ b
+      → option_and_then (λ (v : Value). Some (value.Array (set_at (map (value_of (place_of holds)) (shapes_value h e list)) (word_value h e index) (worth holds h e part)))) (option_map (value_of (place_of holds)) (element_of (shapes_value h e list) (word_value h e index)))
+      ≡ (if b then None else Some (worth holds h e r))
+  last_value h m e holds true o = ap (λ t. option_and_then (λ (v : Value). Some (value.Array (set_at (map (value_of (place_of holds)) (shapes_value h e list)) (word_value h e index) (worth holds h e part)))) (option_map (value_of (place_of holds)) t)) (none_outside (shapes_value h e list) (word_value h e index) (within h e ∙ sym (made.left h m e) ∙ o))
+  last_value h m e holds false o =
+      ap (λ t. option_and_then (λ (v : Value). Some (value.Array (set_at (map (value_of (place_of holds)) (shapes_value h e list)) (word_value h e index) (worth holds h e part)))) (option_map (value_of (place_of holds)) t)) (some_inside (shapes_value h e list) (word_value h e index) (within h e ∙ sym (made.left h m e) ∙ o)).1
+      ∙ ap (λ l. Some (value.Array l)) (sym (map_replaced (place_of holds) (shapes_value h e list) (word_value h e index) (shape_value h e part)) ∙ ap (map (value_of (place_of holds))) (sym (made.written h m e)))
+      ∙ ap (λ v. Some v) (sym (worth_array holds h e made.parts made.whole))
+
+  pub replaced_last : IsReplaced d indexes whole part r outside
+  replaced_last = record {
+    stands = subst (Stands d) (sym made.whole) (array_stands d made.parts made.stand);
+    there = made.there;
+    alike = ap blank made.whole ∙ blank_array made.parts ∙ ap (λ l. seen.Array l) made.alike ∙ sym (blank_array list) ∙ sym (ap blank is);
+    named = λ test p q. subst (SlotsPass test) (sym made.whole) (array_passes test made.parts (made.named test (parts_pass test list (subst (SlotsPass test) is p)) q));
+    live = λ h m e holds p q f. last_live h m e holds p q;
+    value = λ h m e holds.
+        ap (λ l. replaced (map (word_value h e) l) (worth holds h e whole) (worth holds h e part)) (first.front ∙ ap (λ l. index ∷ l) last)
+        ∙ ap (λ v. replaced (word_value h e index ∷ []) v (worth holds h e part)) (worth_array holds h e list is)
+        ∙ replaced_in (word_value h e index) [] (map (value_of (place_of holds)) (shapes_value h e list)) (worth holds h e part)
+        ∙ ap (λ t. option_and_then (λ (v : Value). Some (value.Array (set_at (map (value_of (place_of holds)) (shapes_value h e list)) (word_value h e index) (worth holds h e part)))) t) (element_as (place_of holds) (shapes_value h e list) (word_value h e index))
+        ∙ last_value h m e holds (bool_value h e outside) refl;
   }

@@ -8,7 +8,7 @@ ghost use Rattle.sk_sym_state.specs.Meaning.{DoesOn};
 ghost use Rattle.sk_sym_steps.specs.Steps.{EvaluatesOn};
 ghost use Rattle.sk_sym_stores.specs.Records.{InitsAre, InitsStand, AreSet, set_all, IsFirstInit};
 
-use crate::storing::store_field;
+use crate::storing::write_field;
 use sk_base::Span;
 use sk_dag::{Dag, Shape};
 use sk_prog::StructId;
@@ -63,7 +63,7 @@ fn set_fields(
     let Some(first) = first_init(inits) else {
         return Ok(());
     };
-    store_field(
+    write_field(
         setting,
         dag,
         state,
@@ -71,7 +71,6 @@ fn set_fields(
         reference,
         s,
         first.field,
-        &[],
         first.value,
     )?;
     set_fields(setting, dag, state, span, s, reference, first.more)?;

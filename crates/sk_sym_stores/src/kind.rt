@@ -4,8 +4,9 @@ ghost use Rattle.std.specs.Prelude.{◌≡◌, IsTrue, MatchOption, ⊤};
 ghost use Rattle.sk_arr.specs.Held.{AllPass};
 ghost use Rattle.sk_arr.specs.Shapes.{SlotsPass, AllSlotsPass};
 ghost use Rattle.sk_heap.specs.Types.{elem_of};
-ghost use Rattle.sk_sym_stores.specs.Kinds.{may_name_kind, IsFieldElem, MayHold};
+ghost use Rattle.sk_sym_stores.specs.Kinds.{may_name_kind, IsFieldElem, IsFieldForm, MayHold, FitsField};
 
+use crate::form::has_form;
 use sk_dag::{BoolId, Shape};
 use sk_prog::{Elem, Prog, StructId, Ty};
 use sk_sym_steps::are_kind;
@@ -84,4 +85,31 @@ pub(crate) fn may_hold(
         None => false,
         Some(elem) => names_kind(structs, elem, r),
     }
+}
+
+/// Whether a shape is of the form of the values of a field of a struct, where a program has it.
+fn has_field_form(prog: &Prog, s: StructId, field: u32, r: &Shape) -> bool
+    ensures { IsTrue result → IsFieldForm prog.now s field r.now }
+{
+    match prog.structs.as_slice().get(s.index as usize) {
+        None => false,
+        Some(found) => match found.fields.as_slice().get(field as usize) {
+            None => false,
+            Some(def) => has_form(&def.ty, r),
+        },
+    }
+}
+
+/// Whether a program has a field of a struct, a shape is of the form of its values, and it may refer to each slot that the
+/// shape names.
+pub(crate) fn fits_field(
+    prog: &Prog,
+    structs: &[StructId],
+    s: StructId,
+    field: u32,
+    r: &Shape,
+) -> bool
+    ensures { IsTrue result → FitsField prog.now structs.now s field r.now }
+{
+    may_hold(prog, structs, s, field, r) && has_field_form(prog, s, field, r)
 }

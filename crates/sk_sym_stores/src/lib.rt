@@ -3,6 +3,7 @@
 
 mod creation;
 mod declaration;
+mod form;
 mod kind;
 mod location;
 mod part;

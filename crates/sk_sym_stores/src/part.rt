@@ -64,24 +64,28 @@ pub(crate) fn element_at(
     Ok(Operated { value, fails })
 }
 
-/// The array with another value in the place of the element that an index names. Where it names none, it stays as it is.
+/// The array with another value in the place of the element that an index names, and whether it leaves the range. Where it
+/// does, the array stays as it is.
 pub(crate) fn with_element(
     alloc: Global,
     dag: &mut Dag,
     list: &List<Shape>,
     index: WordId,
     value: &Shape,
-) -> Result<Shape, AllocError>
+) -> Result<Operated, AllocError>
     requires index { HasWord dag.old.nodes index }
     requires list { AllStand dag.old list.now }
     requires value { Stands dag.old value.now }
     ensures keeps { Keeps dag.old dag.new }
-    ensures element { IfOk result (λ r. HasElement dag.new list.now index value.now r) }
+    ensures element { IfOk result (λ made. HasElement dag.new list.now index value.now made.value made.fails) }
 {
     if !like_all(value, list.as_slice()) {
         return Err(AllocError);
     }
     let always = flag(dag, true)?;
-    let (made, _) = write_under(alloc, dag, always, list, index, value)?;
-    Ok(Shape::Array(made))
+    let (made, fails) = write_under(alloc, dag, always, list, index, value)?;
+    Ok(Operated {
+        value: Shape::Array(made),
+        fails,
+    })
 }

@@ -56,9 +56,16 @@ pub(crate) fn replaced(
         return Ok(made);
     };
     let list = row_in(whole)?;
+    if first.more.is_empty() {
+        let last = with_element(alloc, dag, list, first.index, part)?;
+        return Ok(last);
+    }
     let old = element_at(alloc, dag, list, first.index)?;
     let new = replaced(alloc, dag, first.more, &old.value, part)?;
-    let value = with_element(alloc, dag, list, first.index, &new.value)?;
+    let made = with_element(alloc, dag, list, first.index, &new.value)?;
     let fails = or(dag, old.fails, new.fails)?;
-    Ok(Operated { value, fails })
+    Ok(Operated {
+        value: made.value,
+        fails,
+    })
 }

@@ -1,6 +1,6 @@
 //! Stores at the locations that targets name.
 
-ghost use Rattle.std.specs.Prelude.{OnOk};
+ghost use Rattle.std.specs.Prelude.{OnOk, []};
 ghost use Rattle.sk_arr.specs.Shapes.{Stands};
 ghost use Rattle.sk_model.specs.Exec.{onward};
 ghost use Rattle.sk_model.specs.Heap.{store as stored};
@@ -9,11 +9,11 @@ ghost use Rattle.sk_sym_state.specs.Meaning.{ExecutesOn};
 ghost use Rattle.sk_dag.specs.declared.shape.Shape.TheVariants.{Reference};
 ghost use Rattle.sk_heap.specs.Heaps.{RefersTo};
 ghost use Rattle.sk_sym_stores.specs.declared.location.Root.TheVariants.{Variable, Field};
-ghost use Rattle.sk_sym_stores.specs.Kinds.{MayHold};
+ghost use Rattle.sk_sym_stores.specs.Kinds.{MayHold, FitsField};
 ghost use Rattle.sk_sym_stores.specs.Locations.{AreWords, LocationStands};
 ghost use Rattle.sk_sym_stores.specs.Stores.{IsStored, Stores};
 
-use crate::kind::may_hold;
+use crate::kind::{fits_field, may_hold};
 use crate::location::{Location, Root};
 use crate::replacement::replaced;
 use sk_base::Span;
@@ -79,8 +79,61 @@ fn store_target(
     Ok(())
 }
 
+/// Stores a value in a whole field of the slot that a reference is at.
+fn write_target(
+    setting: &Setting<'_>,
+    dag: &mut Dag,
+    state: &mut SymState,
+    span: Span,
+    target: &Targets,
+    kind: StructId,
+    field: u32,
+    value: &Shape,
+) -> Result<(), AllocError>
+    requires stands { StateStands dag.old setting.now.expanded.now.prog state.old }
+    requires target { RefersTo dag.old state.old.heap kind target.now }
+    requires fits { FitsField setting.now.expanded.now.prog state.old.structs kind field value.now }
+    requires value { Stands dag.old value.now }
+    ensures stores { OnOk result (Stores setting.now dag.old dag.new state.old state.new span (record { root = Field (Reference target.now) kind field; indexes = [] }) value.now) }
+{
+    let path = state.path;
+    let null = state
+        .heap
+        .write_field_under(setting.alloc, dag, path, target, field, value)?;
+    state.fail_where(setting, dag, null)?;
+    Ok(())
+}
+
+/// Stores a value in a whole field of what a reference stands for. It fails where the reference is null.
+pub(crate) fn write_field(
+    setting: &Setting<'_>,
+    dag: &mut Dag,
+    state: &mut SymState,
+    span: Span,
+    reference: &Shape,
+    kind: StructId,
+    field: u32,
+    value: &Shape,
+) -> Result<(), AllocError>
+    requires stands { StateStands dag.old setting.now.expanded.now.prog state.old }
+    requires reference { Stands dag.old reference.now }
+    requires value { Stands dag.old value.now }
+    ensures stores { OnOk result (Stores setting.now dag.old dag.new state.old state.new span (record { root = Field reference.now kind field; indexes = [] }) value.now) }
+{
+    let prog = &setting.expanded.prog;
+    let Shape::Reference(target) = reference else {
+        return Err(AllocError);
+    };
+    if !fits_field(prog, state.structs.as_slice(), kind, field, value)
+        || !are_kind(state.structs.as_slice(), kind, target.slots.as_slice())
+    {
+        return Err(AllocError);
+    }
+    write_target(setting, dag, state, span, target, kind, field, value)
+}
+
 /// Stores a value in a field of what a reference stands for, or in a part of it. It fails where the reference is null.
-pub(crate) fn store_field(
+fn store_field(
     setting: &Setting<'_>,
     dag: &mut Dag,
     state: &mut SymState,
@@ -97,6 +150,9 @@ pub(crate) fn store_field(
     requires value { Stands dag.old value.now }
     ensures stores { OnOk result (Stores setting.now dag.old dag.new state.old state.new span (record { root = Field reference.now kind field; indexes = indexes.now }) value.now) }
 {
+    if indexes.is_empty() {
+        return write_field(setting, dag, state, span, reference, kind, field, value);
+    }
     let prog = &setting.expanded.prog;
     let Shape::Reference(target) = reference else {
         return Err(AllocError);

@@ -7,6 +7,7 @@ use Rattle.sk_base.specs.declared.name.Name.{Name}
 use Rattle.sk_dag.specs.declared.env.Env.{Env}
 use Rattle.sk_prog.specs.declared.ids.ConstId.{ConstId}
 use Rattle.sk_prog.specs.declared.ids.StructId.{StructId}
+use Rattle.sk_prog.specs.declared.ids.FunId.{FunId}
 use Rattle.sk_prog.specs.declared.ty.Ty.{Ty}
 use Rattle.sk_prog.specs.declared.value.Value.{Value}
 use Rattle.sk_prog.specs.declared.value.Value.TheVariants as value
@@ -29,7 +30,7 @@ use Rattle.sk_model.specs.Eval.{Does, literal, const_value, binary, choose}
 use Rattle.sk_model.specs.Operators.{operator}
 use Rattle.sk_model.specs.Exec.{Flow, Onward, Returns, unless_returned, one_by_one, onward, declare}
 use Rattle.sk_model.specs.Open.{open_eform, open_field, open_form}
-use Rattle.sk_model.proofs.Layers.{layer_number, layer_true, layer_false, layer_null, layer_var, layer_const, layer_hole, layer_paren, layer_unary, layer_member, layer_index, layer_slice, layer_braces, layer_binary, layer_cond, layer_to_int, layer_pad, layer_of_block, layer_of_if, layer_of_if_else, stmt_layer}
+use Rattle.sk_model.proofs.Layers.{layer_number, layer_true, layer_false, layer_null, layer_var, layer_const, layer_hole, layer_paren, layer_unary, layer_member, layer_index, layer_slice, layer_braces, layer_call, layer_binary, layer_cond, layer_to_int, layer_pad, layer_of_block, layer_of_if, layer_of_if_else, stmt_layer}
 use Rattle.sk_sym_walk.specs.declared.activation.Activation.{Activation}
 use Rattle.sk_sym_forms.specs.declared.act.Act.TheVariants as act
 use Rattle.sk_sym_forms.specs.declared.double.Double.TheVariants as double
@@ -37,6 +38,7 @@ use Rattle.sk_sym_forms.specs.declared.single.Single.TheVariants as single
 use Rattle.sk_sym_forms.specs.Forms.{act_does}
 use Rattle.sk_sym_walk.specs.Walk.{prog_of, values_at, calls_at, expr_part, stmt_part, all_part, eval_part, exec_all_at}
 use Rattle.sk_sym_walk.specs.Parts.{siteless, then_part, then_parts, either_part, given, hole_part, single_part, double_part, binary_part, braces_part, cond_part, act_part, other_part, branch_part}
+use Rattle.sk_sym_walk.specs.Calls.{call_part}
 use Rattle.sk_sym_walk.proofs.Sequences.{SamePart, same_part}
 
 -- ---- expressions
@@ -98,6 +100,9 @@ module _ (a : Activation) (span : Span) (x : PExpr) where
 
   pub same_braces : (ys : List PExpr) → x.form ≡ eform.Braces ys → SamePart (braces_part a span x.ty ys) (eval_part a span x)
   same_braces ys is = same_part (λ env. ap (with_form env) is ∙ ap valued (layer_braces (Option Ty → Part Does) (Part Does) (Part (ℕ × Does)) (step env) (λ e. e.form e.ty) (field_step env) x.span x.ty ys))
+
+  pub same_calling : (f : FunId) (ys : List PExpr) → x.form ≡ eform.Call f ys → SamePart (call_part a span f ys) (eval_part a span x)
+  same_calling f ys is = same_part (λ env. ap (with_form env) is ∙ ap valued (layer_call (Option Ty → Part Does) (Part Does) (Part (ℕ × Does)) (step env) (λ e. e.form e.ty) (field_step env) x.span x.ty f ys))
 
   pub same_binary : (o : BinOp) (y z : PExpr) → x.form ≡ eform.Binary o y z → SamePart (binary_part a span o y z) (eval_part a span x)
   same_binary o y z is = same_part (λ env. ap (with_form env) is ∙ ap valued (layer_binary (Option Ty → Part Does) (Part Does) (Part (ℕ × Does)) (step env) (λ e. e.form e.ty) (field_step env) x.span x.ty o y z))

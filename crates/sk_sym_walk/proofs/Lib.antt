@@ -3,3 +3,4 @@ pub mod Ways
 pub mod Places
 pub mod Layers
 pub mod Lists
+pub mod Called

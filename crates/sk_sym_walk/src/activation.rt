@@ -1,22 +1,33 @@
 //! The walk over the expressions and statements of an active call.
 
-ghost use Rattle.std.specs.Prelude.{◌≡◌, IfOk, OnOk, false, true};
+ghost use Rattle.std.specs.Prelude.{◌≡◌, IfOk, OnOk, Some, false, true};
+ghost use Rattle.std.specs.Option.{option_copied};
 ghost use Rattle.sk_dag.specs.Graph.{HasBool};
+ghost use Rattle.sk_arr.specs.Shapes.{AllStand};
+ghost use Rattle.sk_sym_state.specs.Seen.{AreWorth};
 ghost use Rattle.sk_sym_state.specs.Stands.{StateStands};
+ghost use Rattle.sk_sym_steps.specs.Steps.{EvaluatesOn};
 ghost use Rattle.sk_sym_state.specs.Meaning.{Executes};
 ghost use Rattle.sk_sym_state.specs.Branching.{IsBit};
 ghost use Rattle.sk_sym_walk.specs.Walk.{exec_all_at, eval_part, stmt_part, all_part, IsBehind};
 ghost use Rattle.sk_sym_walk.specs.Parts.{IsEvaluated, IsEvaluatedOn, IsGuarded, IsExecuted, IsExecutedOn, AreEvaluated, given, either_part, single_part, double_part, binary_part, pick_part, cond_part, act_part, other_part, ways_part, branch_part, list_part, braces_part};
+ghost use Rattle.sk_sym_walk.specs.Calls.{callee, value_called, call_part, IsInside, IsCalled};
 
+use crate::calling::{
+    absent, count_of, function_of, pays_nothing, plain_params, value_of, with_function,
+};
 use crate::leaf::{hole, leaf};
 use crate::step::{is_over, joined, pass_other};
 use sk_base::{Bounds, Boxed, List, Span};
 use sk_dag::{BoolId, Dag, Shape};
 use sk_folded::{and, known_bool, not, or};
-use sk_prog::{BinOp, PEForm, PExpr, PForm, PStmt, Ty};
-use sk_sym_forms::{Act, Double, Single, apply, apply_two, declare_zero, give_nothing, perform};
-use sk_sym_sites::{pass_expr, pass_stmt};
-use sk_sym_state::{Setting, SymState};
+use sk_prog::{BinOp, Fun, FunId, PEForm, PExpr, PForm, PStmt, Ty};
+use sk_sym_forms::{
+    Act, Double, Single, apply, apply_two, declare_zero, fail_here, give_nothing, perform,
+};
+use sk_sym_frames::{enter, leave};
+use sk_sym_sites::{pass_expr, pass_stmt, start_of};
+use sk_sym_state::{Ended, Setting, SymState};
 use std::alloc::AllocError;
 
 /// A call that is active. Nothing of it changes while it is.
@@ -32,7 +43,7 @@ pub struct Activation<'a> {
 
 impl Activation<'_> {
     /// The value of an expression.
-    #[cycle(eval)]
+    #[cycle(run)]
     fn eval(
         &self,
         room: u32,
@@ -95,6 +106,9 @@ impl Activation<'_> {
             PEForm::Braces(parts) => {
                 self.braces(room, dag, state, at, span, e.ty, parts.as_slice())
             }
+            PEForm::Call { f, args } => {
+                self.call(room, dag, state, at, span, e.ty, *f, args.as_slice())
+            }
             PEForm::Binary { op, left, right } => {
                 self.binary(room, dag, state, at, span, *op, left.get(), right.get())
             }
@@ -113,7 +127,7 @@ impl Activation<'_> {
     }
 
     /// What is done with the value of one part.
-    #[cycle(eval)]
+    #[cycle(run)]
     #[inline(never)]
     fn single(
         &self,
@@ -142,7 +156,7 @@ impl Activation<'_> {
     }
 
     /// What is done with the values of two parts.
-    #[cycle(eval)]
+    #[cycle(run)]
     #[inline(never)]
     fn double(
         &self,
@@ -174,7 +188,7 @@ impl Activation<'_> {
     }
 
     /// An operator. `&&` and `||` evaluate the second part only where the first does not decide.
-    #[cycle(eval)]
+    #[cycle(run)]
     #[inline(never)]
     fn binary(
         &self,
@@ -219,7 +233,7 @@ impl Activation<'_> {
     }
 
     /// The second part of `&&`, behind a bit.
-    #[cycle(eval)]
+    #[cycle(run)]
     #[inline(never)]
     fn also(
         &self,
@@ -250,7 +264,7 @@ impl Activation<'_> {
     }
 
     /// The second part of `||`, behind a bit.
-    #[cycle(eval)]
+    #[cycle(run)]
     #[inline(never)]
     fn otherwise(
         &self,
@@ -282,7 +296,7 @@ impl Activation<'_> {
     }
 
     /// A bit, evaluated where a condition holds.
-    #[cycle(eval)]
+    #[cycle(run)]
     #[inline(never)]
     fn guarded(
         &self,
@@ -309,7 +323,7 @@ impl Activation<'_> {
     }
 
     /// The one value or the other by a condition.
-    #[cycle(eval)]
+    #[cycle(run)]
     #[inline(never)]
     fn cond(
         &self,
@@ -333,7 +347,7 @@ impl Activation<'_> {
     }
 
     /// The one value or the other by a bit.
-    #[cycle(eval)]
+    #[cycle(run)]
     #[inline(never)]
     fn pick(
         &self,
@@ -365,7 +379,7 @@ impl Activation<'_> {
     }
 
     /// Both values, of which one is taken by a bit.
-    #[cycle(eval)]
+    #[cycle(run)]
     #[inline(never)]
     fn both(
         &self,
@@ -391,7 +405,7 @@ impl Activation<'_> {
     }
 
     /// The values of expressions, from left to right.
-    #[cycle(eval)]
+    #[cycle(run)]
     #[inline(never)]
     fn all(
         &self,
@@ -414,7 +428,7 @@ impl Activation<'_> {
     }
 
     /// An array of elements that are written out, at its type.
-    #[cycle(eval)]
+    #[cycle(run)]
     #[inline(never)]
     fn braces(
         &self,
@@ -440,6 +454,140 @@ impl Activation<'_> {
             Shape::Array(made),
         )?;
         Ok(r)
+    }
+
+    /// The function that a call means, where it may be made.
+    fn callee(&self, f: u32) -> Option<&Fun>
+        ensures { option_copied result ≡ callee self.now f }
+    {
+        if self.left > 0 && count_of(self.active, f) < self.bounds.inline_amnt as usize {
+            return self.setting.expanded.prog.funs.as_slice().get(f as usize);
+        }
+        None
+    }
+
+    /// A call. One of a function with `ref` parameters counts as want of memory.
+    #[cycle(run)]
+    #[inline(never)]
+    fn call(
+        &self,
+        room: u32,
+        dag: &mut Dag,
+        state: &mut SymState,
+        at: &mut usize,
+        span: Span,
+        ty: Option<Ty>,
+        f: FunId,
+        args: &[PExpr],
+    ) -> Result<Shape, AllocError>
+        requires stands { StateStands dag.old self.now.setting.expanded.now.prog state.old }
+        ensures evaluated { IfOk result (λ r. IsEvaluated self.now dag.old dag.new state.old state.new at.old at.new (call_part self.now span f args.now) r) }
+    {
+        let found = function_of(&self.setting.expanded.prog, f);
+        plain_params(found)?;
+        let values = self.all(room, dag, state, at, span, args)?;
+        let r = self.call_with(room, dag, state, span, ty, f.index, values)?;
+        Ok(r)
+    }
+
+    /// A call on these values. Where the run is seen to go on nowhere, it is not entered.
+    #[cycle(run)]
+    #[inline(never)]
+    fn call_with(
+        &self,
+        room: u32,
+        dag: &mut Dag,
+        state: &mut SymState,
+        span: Span,
+        ty: Option<Ty>,
+        f: u32,
+        values: List<Shape>,
+    ) -> Result<Shape, AllocError>
+        requires stands { StateStands dag.old self.now.setting.expanded.now.prog state.old }
+        requires values { AllStand dag.old values }
+        ensures evaluates { IfOk result (λ r. EvaluatesOn self.now.setting dag.old dag.new state.old state.new (λ g e vs. AreWorth g e state.old.heap values vs) r (value_called self.now span f)) }
+    {
+        if is_over(dag, state) {
+            let r = absent(self.setting.alloc, dag, ty)?;
+            return Ok(r);
+        }
+        match self.callee(f) {
+            None => {
+                fail_here(&self.setting, dag, state, span)?;
+                let r = absent(self.setting.alloc, dag, ty)?;
+                Ok(r)
+            }
+            Some(fun) => {
+                let r = self.call_of(room, dag, state, span, f, fun, values)?;
+                Ok(r)
+            }
+        }
+    }
+
+    /// A call of a function that may be made.
+    #[cycle(run)]
+    #[inline(never)]
+    fn call_of(
+        &self,
+        room: u32,
+        dag: &mut Dag,
+        state: &mut SymState,
+        span: Span,
+        f: u32,
+        fun: &Fun,
+        values: List<Shape>,
+    ) -> Result<Shape, AllocError>
+        requires stands { StateStands dag.old self.now.setting.expanded.now.prog state.old }
+        requires values { AllStand dag.old values }
+        requires callee { callee self.now f ≡ Some fun.now }
+        ensures evaluates { IfOk result (λ r. EvaluatesOn self.now.setting dag.old dag.new state.old state.new (λ g e vs. AreWorth g e state.old.heap values vs) r (value_called self.now span f)) }
+    {
+        let _span = span;
+        if room == 0 {
+            return Err(AllocError);
+        }
+        pays_nothing(fun)?;
+        let start = start_of(&self.setting.expanded.prog, f)?;
+        let active = with_function(self.setting.alloc, self.active, f)?;
+        let left = self.left.saturating_sub(1);
+        let inner = Activation {
+            setting: Setting {
+                alloc: self.setting.alloc,
+                expanded: self.setting.expanded,
+                choice: self.setting.choice,
+                fun,
+            },
+            bounds: self.bounds,
+            left,
+            active: active.as_slice(),
+        };
+        let ended = self.within(room - 1, dag, state, &inner, start, values)?;
+        let r = value_of(self.setting.alloc, dag, fun.result, ended.result)?;
+        Ok(r)
+    }
+
+    /// Runs the body of a call that is made inside this one.
+    #[cycle(run)]
+    #[inline(never)]
+    fn within(
+        &self,
+        room: u32,
+        dag: &mut Dag,
+        state: &mut SymState,
+        inner: &Activation<'_>,
+        start: usize,
+        values: List<Shape>,
+    ) -> Result<Ended, AllocError>
+        requires stands { StateStands dag.old self.now.setting.expanded.now.prog state.old }
+        requires values { AllStand dag.old values }
+        requires inside { IsInside self.now inner.now }
+        ensures called { IfOk result (λ r. IsCalled self.now inner.now start dag.old dag.new state.old state.new values r) }
+    {
+        let caller = enter(&self.setting, dag, state, values)?;
+        let mut at = start;
+        inner.exec_all(room, dag, state, &mut at, inner.setting.fun.body.as_slice())?;
+        let ended = leave(&self.setting, dag, state, inner.setting.fun, caller)?;
+        Ok(ended)
     }
 
     /// Runs statements one after another, until one returns. The first of their sites has the place `at`, which moves behind
@@ -515,6 +663,7 @@ impl Activation<'_> {
     }
 
     /// A statement of one expression.
+    #[cycle(run)]
     #[inline(never)]
     fn act(
         &self,

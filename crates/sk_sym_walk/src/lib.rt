@@ -2,6 +2,7 @@
 #![tactic(auto)]
 
 mod activation;
+mod calling;
 mod leaf;
 mod step;
 

@@ -1,21 +1,414 @@
-use Rattle.std.proofs.Common.{◌≡◌, ℕ, ◌+◌, take, arith, refl, sym, ap, subst, ◌∙◌}
+use Rattle.std.proofs.Common.{◌≡◌, ◌+◌, true, false, arith, refl, sym, ap, subst, ◌∙◌, ℕ, take, Some, List}
 use Rattle.std.proofs.lemmas.List.{take_all}
-use Rattle.sk_dag.specs.Graph.{BoolSort}
+use Rattle.sk_dag.specs.declared.env.Env.{Env}
+use Rattle.sk_dag.specs.Graph.{Graph, Grows, BoolSort}
+use Rattle.sk_dag.specs.Eval.{bool_value}
 use Rattle.sk_dag.proofs.EvalLemmas.{Keeps-trans}
-use Rattle.sk_arr.proofs.Standing.{bit_there}
+use Rattle.sk_arr.proofs.Makers.{Keeps-refl}
+use Rattle.sk_arr.proofs.Standing.{Stands-keeps, bit_there, bit_stands, array_stands}
+use Rattle.sk_sym_state.proofs.Standing.{StateStands-keeps, SideStands-keeps, turned_stands, gone_stands}
+use Rattle.sk_sym_walk.specs.Walk.{eval_part, exec_all_at, stmt_part, all_part}
+use Rattle.sk_sym_walk.specs.Parts.{given, list_part, AreEvaluated, other_part}
+use Rattle.sk_sym_walk.proofs.Sequences.{ok_more, evaluated_as, bit_worth, evaluated_then, evaluated_parts, two_evaluated, given_evaluated, on_ok, same_part, executed_as, executed_parts, executed_none, executed_over, siteless_executed, executes_cut, executes_nothing, executed_then}
+use Rattle.sk_sym_walk.proofs.Ways.{first_evaluated, second_evaluated, both_evaluated, guarded_is, also_evaluated, otherwise_evaluated, first_executed, second_executed, both_executed}
+use Rattle.sk_sym_walk.proofs.Layers.{same_paren, same_unary, same_to_int, same_pad, same_member, same_index, same_slice, same_braces, same_binary, same_cond, same_eager, same_also, same_otherwise, same_block, same_assert, same_assume, same_minimize, same_call, same_return, same_end, same_zero, same_declare, same_branch, all_count, all_more, same_calling}
+use Rattle.sk_sym_walk.proofs.Lists.{list_none, list_more, braces_evaluated}
+use Rattle.sk_sym_walk.proofs.Places.{expr_behind, stmt_behind, other_behind}
 use Rattle.sk_model.specs.Step.{and_then}
 use Rattle.sk_model.specs.Exec.{unless_returned}
 use Rattle.sk_sym_state.specs.Meaning.{Executes}
 use Rattle.sk_sym_state.proofs.Ends.{executes_same}
 use Rattle.sk_sym_state.proofs.Following.{executes_then}
-use Rattle.sk_sym_state.proofs.Standing.{SideStands-keeps, turned_stands, gone_stands}
-use Rattle.sk_sym_walk.specs.Walk.{exec_all_at, stmt_part, all_part}
-use Rattle.sk_sym_walk.specs.Parts.{other_part}
-use Rattle.sk_sym_walk.proofs.Sequences.{ok_more, on_ok, same_part, executed_as, bit_worth, executed_parts, executed_none, executed_over, siteless_executed, executes_cut, executes_nothing}
-use Rattle.sk_sym_walk.proofs.Ways.{first_executed, second_executed, both_executed}
-use Rattle.sk_sym_walk.proofs.Layers.{same_block, same_assert, same_assume, same_minimize, same_call, same_return, same_end, same_zero, same_declare, same_branch, all_count, all_more}
-use Rattle.sk_sym_walk.proofs.Places.{stmt_behind, other_behind}
+use Rattle.std.specs.Option.{option_copied}
+use Rattle.sk_prog.specs.declared.prog.Fun.{Fun}
+use Rattle.sk_model.specs.declared.expanded.Expanded.{Expanded}
+use Rattle.sk_model.specs.Eval.{params_of}
+use Rattle.sk_sym_state.specs.Stands.{StateStands}
+use Rattle.sk_sym_frames.proofs.Frames.{CallerStands-keeps}
+use Rattle.sk_sym_walk.specs.Calls.{callee, NoRefs, IsCallOf}
+use Rattle.sk_sym_walk.proofs.Called.{called_is, call_evaluates, refused_evaluates, over_evaluates, call_evaluated}
 use Rattle.sk_sym_walk.proofs.activation.Activation.+run.Goals as goal
+
+-- ---- forms
+
+pub eval-eval-requires : goal.eval-eval-requires
+eval-eval-requires t c = (omega arith, c.requires.stands)
+
+pub eval-single-requires : goal.eval-single-requires
+eval-single-requires t c = (omega arith, c.requires.stands)
+
+pub eval-single-requires-in-ToInt : goal.eval-single-requires-in-ToInt
+eval-single-requires-in-ToInt t c = (omega arith, c.requires.stands)
+
+pub eval-single-requires-in-Pad : goal.eval-single-requires-in-Pad
+eval-single-requires-in-Pad t c = (omega arith, c.requires.stands)
+
+pub eval-binary-requires : goal.eval-binary-requires
+eval-binary-requires t c = (omega arith, c.requires.stands)
+
+pub eval-cond-requires : goal.eval-cond-requires
+eval-cond-requires t c = (omega arith, c.requires.stands)
+
+pub eval-returns-in-Paren : goal.eval-returns-in-Paren
+eval-returns-in-Paren t c =
+    let is = rw (← c.get.ensures) at c.in-Paren.is in
+    record { evaluated = ok_more c.eval.result (λ r. evaluated_as (same_paren c.args.self.now c.args.span c.args.e.now c.get.result.now is)) c.eval.ensures.evaluated }
+
+pub eval-returns-in-Unary : goal.eval-returns-in-Unary
+eval-returns-in-Unary t c =
+    let is = rw (← c.get-in-Unary.ensures) at c.in-Unary.is in
+    record { evaluated = ok_more c.single.result (λ r. evaluated_as (same_unary c.args.self.now c.args.span c.args.e.now c.in-Unary.op c.get-in-Unary.result.now is)) c.single.ensures.evaluated }
+
+pub eval-returns-in-ToInt : goal.eval-returns-in-ToInt
+eval-returns-in-ToInt t c =
+    let is = rw (← c.get-in-ToInt.ensures) at c.in-ToInt.is in
+    record { evaluated = ok_more c.single-in-ToInt.result (λ r. evaluated_as (same_to_int c.args.self.now c.args.span c.args.e.now c.get-in-ToInt.result.now is)) c.single-in-ToInt.ensures.evaluated }
+
+pub eval-returns-in-Pad : goal.eval-returns-in-Pad
+eval-returns-in-Pad t c =
+    let is = rw (← c.get-in-Pad.ensures) at c.in-Pad.is in
+    record { evaluated = ok_more c.single-in-Pad.result (λ r. evaluated_as (same_pad c.args.self.now c.args.span c.args.e.now c.get-in-Pad.result.now is)) c.single-in-Pad.ensures.evaluated }
+
+pub eval-returns-in-Binary : goal.eval-returns-in-Binary
+eval-returns-in-Binary t c =
+    let is = rw (← c.get-in-Binary.ensures, ← c.get-in-Binary-2.ensures) at c.in-Binary.is in
+    record { evaluated = ok_more c.binary.result (λ r. evaluated_as (same_binary c.args.self.now c.args.span c.args.e.now c.in-Binary.op c.get-in-Binary.result.now c.get-in-Binary-2.result.now is)) c.binary.ensures.evaluated }
+
+pub eval-returns-in-Cond : goal.eval-returns-in-Cond
+eval-returns-in-Cond t c =
+    let is = rw (← c.get-in-Cond.ensures, ← c.get-in-Cond-2.ensures, ← c.get-in-Cond-3.ensures) at c.in-Cond.is in
+    record { evaluated = ok_more c.cond.result (λ r. evaluated_as (same_cond c.args.self.now c.args.span c.args.e.now c.get-in-Cond.result.now c.get-in-Cond-2.result.now c.get-in-Cond-3.result.now is)) c.cond.ensures.evaluated }
+
+pub eval-single-requires-in-Member : goal.eval-single-requires-in-Member
+eval-single-requires-in-Member t c = (omega arith, c.requires.stands)
+
+pub eval-double-requires : goal.eval-double-requires
+eval-double-requires t c = (omega arith, c.requires.stands)
+
+pub eval-double-requires-in-Slice : goal.eval-double-requires-in-Slice
+eval-double-requires-in-Slice t c = (omega arith, c.requires.stands)
+
+pub eval-braces-requires : goal.eval-braces-requires
+eval-braces-requires t c = (omega arith, c.requires.stands)
+
+pub eval-returns-in-Member : goal.eval-returns-in-Member
+eval-returns-in-Member t c =
+    let is = rw (← c.get-in-Member.ensures) at c.in-Member.is in
+    record { evaluated = ok_more c.single-in-Member.result (λ r. evaluated_as (same_member c.args.self.now c.args.span c.args.e.now c.get-in-Member.result.now c.in-Member.s c.in-Member.field is)) c.single-in-Member.ensures.evaluated }
+
+pub eval-returns-in-Index : goal.eval-returns-in-Index
+eval-returns-in-Index t c =
+    let is = rw (← c.get-in-Index.ensures, ← c.get-in-Index-2.ensures) at c.in-Index.is in
+    record { evaluated = ok_more c.double.result (λ r. evaluated_as (same_index c.args.self.now c.args.span c.args.e.now c.get-in-Index.result.now c.get-in-Index-2.result.now is)) c.double.ensures.evaluated }
+
+pub eval-returns-in-Slice : goal.eval-returns-in-Slice
+eval-returns-in-Slice t c =
+    let is = rw (← c.get-in-Slice.ensures, ← c.get-in-Slice-2.ensures) at c.in-Slice.is in
+    record { evaluated = ok_more c.double-in-Slice.result (λ r. evaluated_as (same_slice c.args.self.now c.args.span c.args.e.now c.get-in-Slice.result.now c.get-in-Slice-2.result.now c.in-Slice.length is)) c.double-in-Slice.ensures.evaluated }
+
+pub eval-returns-in-Braces : goal.eval-returns-in-Braces
+eval-returns-in-Braces t c =
+    let is = rw (← c.as_slice.ensures) at c.in-Braces.is in
+    record { evaluated = ok_more c.braces.result (λ r. evaluated_as (same_braces c.args.self.now c.args.span c.args.e.now c.as_slice.result.now is)) c.braces.ensures.evaluated }
+
+-- ---- lists
+
+pub all-eval-requires : goal.all-eval-requires
+all-eval-requires t c = (omega arith, c.loop-part.invariant.evaluate.does.moves.stands)
+
+pub all-loop-part-init : goal.all-loop-part-init
+all-loop-part-init t c = rw c.new-made.ensures (list_none c.args.span c.requires.stands)
+
+pub all-loop-part-preserved : goal.all-loop-part-preserved
+all-loop-part-preserved t c = rw c.in_ok-push.ensures.ok (list_more c.args.self.now c.args.span c.args.parts.now c.loop-part.part-index c.part-item.result c.loop-part-test.true c.part-item.is c.loop-part.invariant c.in_ok-one.ensures.evaluated)
+
+pub all-returns : goal.all-returns
+all-returns t c =
+    let whole = take_all c.loop-part.part-index c.args.parts.now (omega arith) in
+    record { evaluated = subst (λ xs. AreEvaluated c.args.self.now c.args.dag.now c.loop-part.dag c.args.state.now c.loop-part.state c.args.at.now c.loop-part.at (list_part c.args.self.now c.args.span xs) c.loop-part.made) whole c.loop-part.invariant }
+
+pub braces-all-requires : goal.braces-all-requires
+braces-all-requires t c = (omega arith, c.requires.stands)
+
+pub braces-apply-requires-clause-a : goal.braces-apply-requires-clause-a
+braces-apply-requires-clause-a t c = array_stands _ _ c.in_ok-made.ensures.evaluated.evaluate.there
+
+pub braces-returns : goal.braces-returns
+braces-returns t c = record { evaluated = braces_evaluated c.args.span c.args.ty c.args.parts.now c.in_ok-made.ensures.evaluated c.in_ok-r.ensures.evaluates }
+
+-- ---- parts, one after another
+
+pub single-eval-requires : goal.single-eval-requires
+single-eval-requires t c = (omega arith, c.requires.stands)
+
+pub single-returns : goal.single-returns
+single-returns t c = record { evaluated = evaluated_then c.in_ok-a.ensures.evaluated c.in_ok-r.ensures.evaluates }
+
+pub double-eval-requires : goal.double-eval-requires
+double-eval-requires t c = (omega arith, c.requires.stands)
+
+pub double-eval-requires-2 : goal.double-eval-requires-2
+double-eval-requires-2 t c = (omega arith, c.in_ok-a.ensures.evaluated.evaluates.does.moves.stands)
+
+pub double-apply_two-requires-clause-a : goal.double-apply_two-requires-clause-a
+double-apply_two-requires-clause-a t c = Stands-keeps c.in_ok-b.ensures.evaluated.evaluates.does.moves.keeps c.in_ok-a.ensures.evaluated.evaluates.there
+
+pub double-returns : goal.double-returns
+double-returns t c = record { evaluated = two_evaluated c.in_ok-a.ensures.evaluated c.in_ok-b.ensures.evaluated c.in_ok-r.ensures.evaluates }
+
+-- ---- operators
+
+pub binary-eval-requires : goal.binary-eval-requires
+binary-eval-requires t c = (omega arith, c.requires.stands)
+
+pub binary-eval-requires-in-OrElse : goal.binary-eval-requires-in-OrElse
+binary-eval-requires-in-OrElse t c = (omega arith, c.requires.stands)
+
+pub binary-double-requires : goal.binary-double-requires
+binary-double-requires t c = (omega arith, c.requires.stands)
+
+pub binary-also-requires : goal.binary-also-requires
+binary-also-requires t c = let v = c.in_ok-v-in-AndThen.ensures.evaluated.evaluates in (omega arith, (v.does.moves.stands, bit_there v.there c.in-Bit.is))
+
+pub binary-otherwise-requires : goal.binary-otherwise-requires
+binary-otherwise-requires t c = let v = c.in_ok-v-in-OrElse.ensures.evaluated.evaluates in (omega arith, (v.does.moves.stands, bit_there v.there c.in-Bit-v.is))
+
+pub binary-returns-in-Bit : goal.binary-returns-in-Bit
+binary-returns-in-Bit t c =
+    let v = rw c.in-Bit.is at c.in_ok-v-in-AndThen.ensures.evaluated in
+    record { evaluated = ok_more c.also.result (λ r h. evaluated_as (same_also c.args.self.now c.args.span c.args.op c.args.left.now c.args.right.now c.in-AndThen.is) (evaluated_parts (λ g e v w. bit_worth w) v h)) c.also.ensures.evaluated }
+
+pub binary-returns-in-Bit-v : goal.binary-returns-in-Bit-v
+binary-returns-in-Bit-v t c =
+    let v = rw c.in-Bit-v.is at c.in_ok-v-in-OrElse.ensures.evaluated in
+    record { evaluated = ok_more c.otherwise.result (λ r h. evaluated_as (same_otherwise c.args.self.now c.args.span c.args.op c.args.left.now c.args.right.now c.in-OrElse.is) (evaluated_parts (λ g e v w. bit_worth w) v h)) c.otherwise.ensures.evaluated }
+
+pub binary-returns-in_default : goal.binary-returns-in_default
+binary-returns-in_default t c = record { evaluated = ok_more c.double.result (λ r. evaluated_as (same_eager c.args.self.now c.args.span c.args.op c.args.left.now c.args.right.now c.in_default.not-AndThen c.in_default.not-OrElse)) c.double.ensures.evaluated }
+
+-- ---- `&&` and `||`
+
+pub also-eval-requires : goal.also-eval-requires
+also-eval-requires t c = (omega arith, c.requires.stands)
+
+pub also-guarded-requires : goal.also-guarded-requires
+also-guarded-requires t c = (omega arith, (c.requires.stands, c.requires.cond))
+
+pub also-and-requires-clause-a : goal.also-and-requires-clause-a
+also-and-requires-clause-a t c = c.in_ok-y-in-None.ensures.guarded.does.moves.keeps.sorts _ BoolSort c.requires.cond
+
+pub also-and-requires-clause-b : goal.also-and-requires-clause-b
+also-and-requires-clause-b t c = c.in_ok-y-in-None.ensures.guarded.there
+
+pub also-returns-in-Some-true : goal.also-returns-in-Some-true
+also-returns-in-Some-true t c = record { evaluated = ok_more c.eval.result (λ r h. first_evaluated c.args.span c.args.cond (eval_part c.args.self.now c.args.span c.args.e.now) (given false) (λ g more e. c.in-Some-true.ensures g (h.evaluates.does.moves.keeps.later g more) e ∙ c.in-Some-true.field-0-test) h (λ e. omega arith)) c.eval.ensures.evaluated }
+
+pub also-returns-in_ok-pass_expr-in-Some-false : goal.also-returns-in_ok-pass_expr-in-Some-false
+also-returns-in_ok-pass_expr-in-Some-false t c =
+    let known : (g : Graph) → Grows c.args.dag.now g → (e : Env) → bool_value g e c.args.cond ≡ false = λ g more e. c.in-Some-false.ensures g more e ∙ c.in-Some-false.field-0-test in
+    record { evaluated = second_evaluated c.args.span c.args.cond (eval_part c.args.self.now c.args.span c.args.e.now) (given false) known (expr_behind _ c.args.self.now c.args.span c.args.e.now c.in_ok-pass_expr-in-Some-false.ensures) (given_evaluated c.requires.stands c.requires.cond (bit_stands c.args.dag.now c.args.cond c.requires.cond) known) }
+
+pub also-returns-in_ok-r-in-None : goal.also-returns-in_ok-r-in-None
+also-returns-in_ok-r-in-None t c = record { evaluated = also_evaluated c.args.span c.in_ok-y-in-None.ensures.guarded c.in_ok-r-in-None.ensures.keeps (bit_stands c.and.new.dag _ c.in_ok-r-in-None.ensures.there) c.in_ok-r-in-None.ensures.value }
+
+pub otherwise-eval-requires : goal.otherwise-eval-requires
+otherwise-eval-requires t c = (omega arith, c.requires.stands)
+
+pub otherwise-guarded-requires : goal.otherwise-guarded-requires
+otherwise-guarded-requires t c = (omega arith, (StateStands-keeps c.in_ok-other-in-None.ensures.keeps c.requires.stands, c.in_ok-other-in-None.ensures.there))
+
+pub otherwise-or-requires-clause-a : goal.otherwise-or-requires-clause-a
+otherwise-or-requires-clause-a t c = c.in_ok-y-in-None.ensures.guarded.does.moves.keeps.sorts _ BoolSort (c.in_ok-other-in-None.ensures.keeps.sorts _ BoolSort c.requires.cond)
+
+pub otherwise-or-requires-clause-b : goal.otherwise-or-requires-clause-b
+otherwise-or-requires-clause-b t c = c.in_ok-y-in-None.ensures.guarded.there
+
+pub otherwise-returns-in_ok-pass_expr-in-Some-true : goal.otherwise-returns-in_ok-pass_expr-in-Some-true
+otherwise-returns-in_ok-pass_expr-in-Some-true t c =
+    let known : (g : Graph) → Grows c.args.dag.now g → (e : Env) → bool_value g e c.args.cond ≡ true = λ g more e. c.in-Some-true.ensures g more e ∙ c.in-Some-true.field-0-test in
+    record { evaluated = first_evaluated c.args.span c.args.cond (given true) (eval_part c.args.self.now c.args.span c.args.e.now) known (given_evaluated c.requires.stands c.requires.cond (bit_stands c.args.dag.now c.args.cond c.requires.cond) known) (expr_behind _ c.args.self.now c.args.span c.args.e.now c.in_ok-pass_expr-in-Some-true.ensures) }
+
+pub otherwise-returns-in-Some-false : goal.otherwise-returns-in-Some-false
+otherwise-returns-in-Some-false t c = record { evaluated = ok_more c.eval.result (λ r h. second_evaluated c.args.span c.args.cond (given true) (eval_part c.args.self.now c.args.span c.args.e.now) (λ g more e. c.in-Some-false.ensures g (h.evaluates.does.moves.keeps.later g more) e ∙ c.in-Some-false.field-0-test) (λ e. omega arith) h) c.eval.ensures.evaluated }
+
+pub otherwise-returns-in_ok-r-in-None : goal.otherwise-returns-in_ok-r-in-None
+otherwise-returns-in_ok-r-in-None t c =
+    let other = c.in_ok-other-in-None.ensures in
+    record { evaluated = otherwise_evaluated c.args.span c.args.cond other.keeps c.requires.stands other.value c.in_ok-y-in-None.ensures.guarded c.in_ok-r-in-None.ensures.keeps (bit_stands c.or.new.dag _ c.in_ok-r-in-None.ensures.there) c.in_ok-r-in-None.ensures.value }
+
+pub guarded-eval-requires : goal.guarded-eval-requires
+guarded-eval-requires t c = (omega arith, c.in_ok-waits.ensures.forked.stands)
+
+pub guarded-join-requires-clause-stands : goal.guarded-join-requires-clause-stands
+guarded-join-requires-clause-stands t c =
+    let a = c.in_ok-v.ensures.evaluated.evaluates.does.moves in
+    turned_stands c.turn-gone.ensures (SideStands-keeps a.keeps c.in_ok-waits.ensures.forked.waits) a.stands
+
+pub guarded-join-requires-clause-cond : goal.guarded-join-requires-clause-cond
+guarded-join-requires-clause-cond t c = (Keeps-trans c.in_ok-waits.ensures.forked.keeps c.in_ok-v.ensures.evaluated.evaluates.does.moves.keeps).sorts _ BoolSort c.requires.cond
+
+pub guarded-join-requires-clause-gone : goal.guarded-join-requires-clause-gone
+guarded-join-requires-clause-gone t c =
+    let a = c.in_ok-v.ensures.evaluated.evaluates.does.moves in
+    gone_stands c.turn-gone.ensures (SideStands-keeps a.keeps c.in_ok-waits.ensures.forked.waits) a.stands
+
+pub guarded-returns : goal.guarded-returns
+guarded-returns t c =
+    let f = c.in_ok-waits.ensures.forked in
+    let v = rw c.in-Bit.is at c.in_ok-v.ensures.evaluated in
+    let a = v.evaluates.does.moves in
+    record { guarded = guarded_is c.args.span f v c.turn-gone.ensures (turned_stands c.turn-gone.ensures (SideStands-keeps a.keeps f.waits) a.stands) c.in_ok-join.ensures.joined (c.in_ok-join.ensures.joined.keeps.sorts _ BoolSort (bit_there v.evaluates.there refl)) }
+
+-- ---- `?:`
+
+pub cond-eval-requires : goal.cond-eval-requires
+cond-eval-requires t c = (omega arith, c.requires.stands)
+
+pub cond-pick-requires : goal.cond-pick-requires
+cond-pick-requires t c = let v = c.in_ok-v.ensures.evaluated.evaluates in (omega arith, (v.does.moves.stands, bit_there v.there c.in-Bit.is))
+
+pub cond-returns : goal.cond-returns
+cond-returns t c =
+    let v = rw c.in-Bit.is at c.in_ok-v.ensures.evaluated in
+    record { evaluated = ok_more c.pick.result (λ r. evaluated_parts (λ g e v w. bit_worth w) v) c.pick.ensures.evaluated }
+
+pub pick-eval-requires : goal.pick-eval-requires
+pick-eval-requires t c = (omega arith, c.requires.stands)
+
+pub pick-eval-requires-in-Some-false : goal.pick-eval-requires-in-Some-false
+pick-eval-requires-in-Some-false t c = (omega arith, c.requires.stands)
+
+pub pick-both-requires : goal.pick-both-requires
+pick-both-requires t c = (omega arith, (c.requires.stands, c.requires.cond))
+
+pub pick-returns-in_ok-pass_expr-in-Some-true : goal.pick-returns-in_ok-pass_expr-in-Some-true
+pick-returns-in_ok-pass_expr-in-Some-true t c =
+    let h = c.in_ok-r-in-Some-true.ensures.evaluated in
+    record { evaluated = first_evaluated c.args.span c.args.cond (eval_part c.args.self.now c.args.span c.args.a.now) (eval_part c.args.self.now c.args.span c.args.b.now) (λ g more e. c.in-Some-true.ensures g (h.evaluates.does.moves.keeps.later g more) e ∙ c.in-Some-true.field-0-test) h (expr_behind _ c.args.self.now c.args.span c.args.b.now c.in_ok-pass_expr-in-Some-true.ensures) }
+
+pub pick-returns-in_ok-pass_expr-in-Some-false : goal.pick-returns-in_ok-pass_expr-in-Some-false
+pick-returns-in_ok-pass_expr-in-Some-false t c =
+    let p = c.in_ok-pass_expr-in-Some-false.ensures in
+    record { evaluated = ok_more c.eval-in-Some-false.result (λ r h. second_evaluated c.args.span c.args.cond (eval_part c.args.self.now c.args.span c.args.a.now) (eval_part c.args.self.now c.args.span c.args.b.now) (λ g more e. c.in-Some-false.ensures g (h.evaluates.does.moves.keeps.later g more) e ∙ c.in-Some-false.field-0-test) (expr_behind _ c.args.self.now c.args.span c.args.a.now p) h) c.eval-in-Some-false.ensures.evaluated }
+
+pub both-eval-requires : goal.both-eval-requires
+both-eval-requires t c = (omega arith, c.in_ok-waits.ensures.forked.stands)
+
+pub both-eval-requires-2 : goal.both-eval-requires-2
+both-eval-requires-2 t c =
+    let a = c.in_ok-x.ensures.evaluated.evaluates.does.moves in
+    (omega arith, turned_stands c.turn-gone.ensures (SideStands-keeps a.keeps c.in_ok-waits.ensures.forked.waits) a.stands)
+
+pub both-joined-requires-clause-stands : goal.both-joined-requires-clause-stands
+both-joined-requires-clause-stands t c = c.in_ok-y.ensures.evaluated.evaluates.does.moves.stands
+
+pub both-joined-requires-clause-cond : goal.both-joined-requires-clause-cond
+both-joined-requires-clause-cond t c =
+    let f = c.in_ok-waits.ensures.forked in
+    let a = c.in_ok-x.ensures.evaluated.evaluates.does.moves in
+    let b = c.in_ok-y.ensures.evaluated.evaluates.does.moves in
+    (Keeps-trans f.keeps (Keeps-trans a.keeps b.keeps)).sorts _ BoolSort c.requires.cond
+
+pub both-joined-requires-clause-gone : goal.both-joined-requires-clause-gone
+both-joined-requires-clause-gone t c =
+    let f = c.in_ok-waits.ensures.forked in
+    let a = c.in_ok-x.ensures.evaluated.evaluates.does.moves in
+    let b = c.in_ok-y.ensures.evaluated.evaluates.does.moves in
+    SideStands-keeps b.keeps (gone_stands c.turn-gone.ensures (SideStands-keeps a.keeps f.waits) a.stands)
+
+pub both-joined-requires-clause-a : goal.both-joined-requires-clause-a
+both-joined-requires-clause-a t c = Stands-keeps c.in_ok-y.ensures.evaluated.evaluates.does.moves.keeps c.in_ok-x.ensures.evaluated.evaluates.there
+
+pub both-joined-requires-clause-b : goal.both-joined-requires-clause-b
+both-joined-requires-clause-b t c = c.in_ok-y.ensures.evaluated.evaluates.there
+
+pub both-returns : goal.both-returns
+both-returns t c = record { evaluated = both_evaluated c.args.span c.in_ok-waits.ensures.forked c.in_ok-x.ensures.evaluated c.turn-gone.ensures c.in_ok-y.ensures.evaluated c.in_ok-r.ensures.joined }
+
+-- ---- calls
+
+pub eval-call-requires : goal.eval-call-requires
+eval-call-requires t c = (omega arith, c.requires.stands)
+
+pub eval-returns-in-Call : goal.eval-returns-in-Call
+eval-returns-in-Call t c =
+    let is = rw (← c.as_slice-in-Call.ensures) at c.in-Call.is in
+    record { evaluated = ok_more c.call.result (λ r. evaluated_as (same_calling c.args.self.now c.args.span c.args.e.now c.in-Call.f c.as_slice-in-Call.result.now is)) c.call.ensures.evaluated }
+
+pub call-all-requires : goal.call-all-requires
+call-all-requires t c = (omega arith, c.requires.stands)
+
+pub call-call_with-requires : goal.call-call_with-requires
+call-call_with-requires t c = let v = c.in_ok-values.ensures.evaluated.evaluate in (omega arith, (v.does.moves.stands, v.there))
+
+pub call-returns : goal.call-returns
+call-returns t c = record { evaluated = call_evaluated c.args.span c.args.f c.args.args.now (subst (λ o. NoRefs (params_of o)) c.function_of-found.ensures c.in_ok-plain_params.ensures) c.in_ok-values.ensures.evaluated c.in_ok-r.ensures.evaluates }
+
+pub call_with-call_of-requires : goal.call_with-call_of-requires
+call_with-call_of-requires t c = (omega arith, (c.requires.stands, (c.requires.values, sym c.callee.ensures ∙ ap option_copied c.in-Some.is)))
+
+pub call_with-returns-then-is_over : goal.call_with-returns-then-is_over
+call_with-returns-then-is_over t c = record { evaluates = over_evaluates c.requires.stands (c.is_over.ensures c.if-is_over.true) c.in_ok-r.ensures.keeps c.in_ok-r.ensures.stands }
+
+pub call_with-returns-in_ok-r-in-None : goal.call_with-returns-in_ok-r-in-None
+call_with-returns-in_ok-r-in-None t c = record { evaluates = refused_evaluates c.args.self.now c.args.f c.args.span c.in_ok-fail_here-in-None.ensures.executes c.in_ok-r-in-None.ensures.keeps c.in_ok-r-in-None.ensures.stands (sym c.callee.ensures ∙ ap option_copied c.in-None.is) }
+
+pub call_of-within-requires : goal.call_of-within-requires
+call_of-within-requires t c = (omega arith, (c.requires.stands, (c.requires.values, record { expanded = refl; choice = refl })))
+
+pub call_of-returns : goal.call_of-returns
+call_of-returns t c = record {
+  evaluates = call_evaluates c.args.span c.args.fun.now c.in_ok-ended.ensures.called c.in_ok-r.ensures.keeps c.in_ok-r.ensures.result c.requires.callee
+      (record { inside = record { expanded = refl; choice = refl }; bounds = refl; left = c.saturating_sub-left.ensures; active = c.as_slice.ensures.value ∙ c.in_ok-active.ensures; of = refl })
+      c.in_ok-pays_nothing.ensures c.in_ok-start.ensures;
+}
+
+pub within-exec_all-requires : goal.within-exec_all-requires
+within-exec_all-requires t c = (omega arith, subst (λ (x : Expanded). StateStands c.enter.new.dag x.prog c.enter.new.state) (sym c.requires.inside.expanded) c.in_ok-caller.ensures.entered.stands)
+
+pub within-leave-requires-clause-stands : goal.within-leave-requires-clause-stands
+within-leave-requires-clause-stands t c = subst (λ (x : Expanded). StateStands c.exec_all.new.dag x.prog c.exec_all.new.state) c.requires.inside.expanded c.in_ok-exec_all.ensures.executes.moves.stands
+
+pub within-leave-requires-clause-caller : goal.within-leave-requires-clause-caller
+within-leave-requires-clause-caller t c = CallerStands-keeps c.in_ok-exec_all.ensures.executes.moves.keeps c.in_ok-caller.ensures.entered.waits
+
+pub within-returns : goal.within-returns
+within-returns t c =
+    let inner = c.args.inner.now in
+    record {
+      called = called_is c.requires.inside c.in_ok-caller.ensures.entered
+          (subst (λ ss. Executes inner.setting c.enter.new.dag c.exec_all.new.dag c.enter.new.state c.exec_all.new.state (exec_all_at inner c.args.start ss)) c.as_slice.ensures c.in_ok-exec_all.ensures.executes)
+          c.in_ok-ended.ensures.left;
+    }
+
+-- ---- statements of one expression
+
+pub act-eval-requires : goal.act-eval-requires
+act-eval-requires t c = (omega arith, c.requires.stands)
+
+pub act-returns : goal.act-returns
+act-returns t c = record { executed = executed_then c.in_ok-v.ensures.evaluated c.in_ok-perform.ensures.executes }
+
+pub branches-eval-requires : goal.branches-eval-requires
+branches-eval-requires t c = (omega arith, c.requires.stands)
+
+pub exec-act-requires : goal.exec-act-requires
+exec-act-requires t c = (omega arith, c.requires.stands)
+
+pub exec-act-requires-in-Assume : goal.exec-act-requires-in-Assume
+exec-act-requires-in-Assume t c = (omega arith, c.requires.stands)
+
+pub exec-act-requires-in-Minimize : goal.exec-act-requires-in-Minimize
+exec-act-requires-in-Minimize t c = (omega arith, c.requires.stands)
+
+pub exec-act-requires-in-Call : goal.exec-act-requires-in-Call
+exec-act-requires-in-Call t c = (omega arith, c.requires.stands)
+
+pub exec-act-requires-in-Some : goal.exec-act-requires-in-Some
+exec-act-requires-in-Some t c = (omega arith, c.requires.stands)
+
+pub exec-act-requires-in-Some-value : goal.exec-act-requires-in-Some-value
+exec-act-requires-in-Some-value t c = (omega arith, c.requires.stands)
 
 pub block-exec_all-requires : goal.block-exec_all-requires
 block-exec_all-requires t c = (omega arith, c.requires.stands)
