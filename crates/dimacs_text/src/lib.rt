@@ -6,8 +6,6 @@ mod law;
 mod read;
 mod rows;
 mod show;
-#[cfg(test)]
-mod tests;
 mod words;
 
 pub use fault::{Fault, Flaw};
