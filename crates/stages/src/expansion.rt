@@ -2,8 +2,9 @@
 use crate::fault::Fault;
 use crate::front::program_of;
 use crate::reading::push_span;
+use crate::shown::Shown;
 use crate::task::numbers_of;
-use sk_base::{Bounds, List, at, push_number};
+use sk_base::{Bounds, List, at};
 use sk_expand::expand;
 use sk_holes::fill;
 use sk_model::{Choice, Expanded};
@@ -11,7 +12,7 @@ use sk_print::print;
 use sk_prog::{PEForm, PExpr, PForm, PStmt, Prog};
 use sk_sizes::{Sizes, sizes};
 use sk_trials::{Completion, complete, is_small};
-use std::alloc::{AllocError, Global};
+use std::alloc::Global;
 
 fn expansion_of(alloc: Global, text: &[u8], bounds: &Bounds) -> Result<Expanded, Fault> {
     let prog = program_of(alloc, text, bounds)?;
@@ -19,22 +20,22 @@ fn expansion_of(alloc: Global, text: &[u8], bounds: &Bounds) -> Result<Expanded,
     Ok(expanded)
 }
 
-fn push_part(shown: &mut Vec<u8>, word: &[u8], number: u64) -> Result<(), AllocError> {
-    shown.extend_from_slice(word)?;
-    push_number(shown, number)
+fn push_part(shown: &mut Shown, word: &[u8], number: u64) {
+    shown.extend_from_slice(word);
+    shown.push_number(number)
 }
 
 // Appends the numbers of functions, steps, records and sites.
-fn push_sizes(shown: &mut Vec<u8>, expanded: &Expanded, sizes: &Sizes) -> Result<(), AllocError> {
-    push_part(shown, b"functions ", expanded.prog.funs.len() as u64)?;
-    push_part(shown, b" steps ", u64::from(sizes.steps))?;
-    push_part(shown, b" records ", u64::from(sizes.news))?;
+fn push_sizes(shown: &mut Shown, expanded: &Expanded, sizes: &Sizes) {
+    push_part(shown, b"functions ", expanded.prog.funs.len() as u64);
+    push_part(shown, b" steps ", u64::from(sizes.steps));
+    push_part(shown, b" records ", u64::from(sizes.news));
     push_part(shown, b" sites ", expanded.sites.len() as u64)
 }
 
 /// Appends how large the expansion of a text is, and how many values each site has where they are wanted.
 pub fn push_sizes_of(
-    shown: &mut Vec<u8>,
+    shown: &mut Shown,
     alloc: Global,
     text: &[u8],
     bounds: &Bounds,
@@ -42,10 +43,10 @@ pub fn push_sizes_of(
 ) -> Result<(), Fault> {
     let expanded = expansion_of(alloc, text, bounds)?;
     let found = sizes(alloc, &expanded, bounds)?;
-    push_sizes(shown, &expanded, &found)?;
+    push_sizes(shown, &expanded, &found);
     if each {
         for site in expanded.sites.as_slice() {
-            push_part(shown, b" ", site.size)?;
+            push_part(shown, b" ", site.size);
         }
     }
     Ok(())
@@ -53,32 +54,32 @@ pub fn push_sizes_of(
 
 /// Appends how many functions of an expansion are no copies, and its layout.
 pub fn push_expansion(
-    shown: &mut Vec<u8>,
+    shown: &mut Shown,
     alloc: Global,
     text: &[u8],
     bounds: &Bounds,
 ) -> Result<(), Fault> {
     let expanded = expansion_of(alloc, text, bounds)?;
-    push_part(shown, b"ordinary ", u64::from(expanded.ordinary))?;
-    shown.push(b'\n')?;
+    push_part(shown, b"ordinary ", u64::from(expanded.ordinary));
+    shown.push(b'\n');
     let layout = print(alloc, &expanded.prog)?;
-    shown.extend_from_slice(layout.as_slice())?;
+    shown.extend_from_slice(layout.as_slice());
     Ok(())
 }
 
 /// Appends how many values each site of an expansion has, and its place.
 pub fn push_sites(
-    shown: &mut Vec<u8>,
+    shown: &mut Shown,
     alloc: Global,
     text: &[u8],
     bounds: &Bounds,
 ) -> Result<(), Fault> {
     let expanded = expansion_of(alloc, text, bounds)?;
     for site in expanded.sites.as_slice() {
-        push_part(shown, b"", site.size)?;
-        shown.push(b' ')?;
-        push_span(shown, site.span)?;
-        shown.push(b'\n')?;
+        push_part(shown, b"", site.size);
+        shown.push(b' ');
+        push_span(shown, site.span);
+        shown.push(b'\n');
     }
     Ok(())
 }
@@ -109,7 +110,7 @@ fn filling_of(
 
 /// Appends the layout of a filling.
 pub fn push_filling(
-    shown: &mut Vec<u8>,
+    shown: &mut Shown,
     alloc: Global,
     text: &[u8],
     bounds: &Bounds,
@@ -117,7 +118,7 @@ pub fn push_filling(
 ) -> Result<(), Fault> {
     let filling = filling_of(alloc, text, bounds, words)?;
     let layout = print(alloc, &filling)?;
-    shown.extend_from_slice(layout.as_slice())?;
+    shown.extend_from_slice(layout.as_slice());
     Ok(())
 }
 
@@ -137,37 +138,35 @@ fn expression(s: &PStmt) -> Option<&PExpr> {
 }
 
 // Appends the spans of what stands in parentheses or braces.
-fn push_inner(shown: &mut Vec<u8>, e: &PExpr) -> Result<(), AllocError> {
+fn push_inner(shown: &mut Shown, e: &PExpr) {
     match &e.form {
         PEForm::Paren(of) => {
-            shown.push(b' ')?;
+            shown.push(b' ');
             push_span(shown, of.get().span)
         }
         PEForm::Braces(es) => {
             for e in es.as_slice() {
-                shown.push(b' ')?;
-                push_span(shown, e.span)?;
+                shown.push(b' ');
+                push_span(shown, e.span);
             }
-            Ok(())
         }
-        _ => Ok(()),
+        _ => {},
     }
 }
 
-fn push_statement(shown: &mut Vec<u8>, s: &PStmt) -> Result<(), AllocError> {
-    push_span(shown, s.span)?;
+fn push_statement(shown: &mut Shown, s: &PStmt) {
+    push_span(shown, s.span);
     if let Some(e) = expression(s) {
-        shown.push(b' ')?;
-        push_span(shown, e.span)?;
-        push_inner(shown, e)?;
+        shown.push(b' ');
+        push_span(shown, e.span);
+        push_inner(shown, e);
     }
-    shown.push(b'\n')?;
-    Ok(())
+    shown.push(b'\n');
 }
 
 /// Appends the spans of what stands in a function of a filling.
 pub fn push_spans(
-    shown: &mut Vec<u8>,
+    shown: &mut Shown,
     alloc: Global,
     text: &[u8],
     bounds: &Bounds,
@@ -182,7 +181,7 @@ pub fn push_spans(
     let filling = filling_of(alloc, text, bounds, values)?;
     if let Some(f) = at(filling.funs.as_slice(), which) {
         for s in f.body.as_slice() {
-            push_statement(shown, s)?;
+            push_statement(shown, s);
         }
     }
     Ok(())
@@ -208,19 +207,19 @@ fn completed(alloc: Global, prog: &Prog, bounds: &Bounds) -> Result<Option<Compl
 
 /// Appends the value of a completion and its choice.
 pub fn push_completion(
-    shown: &mut Vec<u8>,
+    shown: &mut Shown,
     alloc: Global,
     text: &[u8],
     bounds: &Bounds,
 ) -> Result<(), Fault> {
     let prog = program_of(alloc, text, bounds)?;
     match completed(alloc, &prog, bounds)? {
-        None => shown.extend_from_slice(b"none")?,
+        None => shown.extend_from_slice(b"none"),
         Some(found) => {
-            push_part(shown, b"value ", found.value)?;
-            shown.extend_from_slice(b" choice")?;
+            push_part(shown, b"value ", found.value);
+            shown.extend_from_slice(b" choice");
             for value in found.choice.values.as_slice() {
-                push_part(shown, b" ", *value)?;
+                push_part(shown, b" ", *value);
             }
         }
     }

@@ -10,7 +10,7 @@ use thiserror::Error;
 
 /// Why a text does not come to a stage. It is written in place of what the stage would write: its name, and a place or
 /// a number where it has one.
-#[derive(Debug, Drop, Clone, Copy, PartialEq, Eq, Error)]
+#[derive(Debug, Drop, Clone, Copy, Error)]
 pub enum Fault {
     /// The words of the row say no stage, or not what it asks for.
     #[error("Words")]

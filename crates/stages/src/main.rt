@@ -8,6 +8,7 @@ mod expansion;
 mod fault;
 mod front;
 mod reading;
+mod shown;
 mod shown_expr;
 mod shown_item;
 mod shown_stmt;

@@ -1,24 +1,25 @@
 //! Stages of reading: tokens, trees, strings of patterns, spellings and plain trees.
 use crate::fault::Fault;
 use crate::front::{joined, tokens_of, tree_of};
+use crate::shown::Shown;
 use crate::shown_expr::push_expr;
 use crate::shown_item::push_tree;
 use crate::shown_stmt::push_block;
 use crate::spelled::push_kind;
-use sk_base::{Span, push_number};
+use sk_base::Span;
 use sk_plain::{plain, unsteady_step};
 use sk_spell::{spell, strings};
 use sk_tree::{EForm, Expr, Item, Kind, Token, Tree};
-use std::alloc::{AllocError, Global};
+use std::alloc::Global;
 
 /// Appends a span.
-pub fn push_span(shown: &mut Vec<u8>, span: Span) -> Result<(), AllocError> {
-    push_number(shown, u64::from(span.from))?;
-    shown.push(b' ')?;
-    push_number(shown, u64::from(span.to))
+pub fn push_span(shown: &mut Shown, span: Span) {
+    shown.push_number(u64::from(span.from));
+    shown.push(b' ');
+    shown.push_number(u64::from(span.to))
 }
 
-fn push_token(shown: &mut Vec<u8>, token: &Token) -> Result<(), AllocError> {
+fn push_token(shown: &mut Shown, token: &Token) {
     let letter = match &token.kind {
         Kind::Word(_) => b'W',
         Kind::Number(_) => b'N',
@@ -26,31 +27,31 @@ fn push_token(shown: &mut Vec<u8>, token: &Token) -> Result<(), AllocError> {
         Kind::Key(_) => b'K',
         Kind::Mark(_) => b'M',
     };
-    shown.push(letter)?;
+    shown.push(letter);
     if let Kind::Number(number) = &token.kind {
-        shown.push(b' ')?;
-        push_number(shown, u64::from(*number))?;
+        shown.push(b' ');
+        shown.push_number(u64::from(*number));
     }
-    shown.push(b' ')?;
+    shown.push(b' ');
     push_span(shown, token.span)
 }
 
 /// Appends the tokens of a text.
-pub fn push_tokens(shown: &mut Vec<u8>, alloc: Global, text: &[u8]) -> Result<(), Fault> {
+pub fn push_tokens(shown: &mut Shown, alloc: Global, text: &[u8]) -> Result<(), Fault> {
     let found = tokens_of(alloc, text)?;
     for token in found.as_slice() {
         if !shown.is_empty() {
-            shown.extend_from_slice(b", ")?;
+            shown.extend_from_slice(b", ");
         }
-        push_token(shown, token)?;
+        push_token(shown, token);
     }
     Ok(())
 }
 
 /// Appends the tree of a text.
-pub fn push_tree_of(shown: &mut Vec<u8>, alloc: Global, text: &[u8]) -> Result<(), Fault> {
+pub fn push_tree_of(shown: &mut Shown, alloc: Global, text: &[u8]) -> Result<(), Fault> {
     let tree = tree_of(alloc, text)?;
-    push_tree(shown, &tree)?;
+    push_tree(shown, &tree);
     Ok(())
 }
 
@@ -69,42 +70,42 @@ fn first_value(tree: &Tree) -> Option<&Expr> {
 }
 
 /// Appends the tree of an expression.
-pub fn push_expression(shown: &mut Vec<u8>, alloc: Global, text: &[u8]) -> Result<(), Fault> {
+pub fn push_expression(shown: &mut Shown, alloc: Global, text: &[u8]) -> Result<(), Fault> {
     let tree = tree_between(alloc, b"int N = ", text, b";")?;
     if tree.items.len() != 1 {
         return Err(Fault::Words);
     }
     if let Some(value) = first_value(&tree) {
-        push_expr(shown, value)?;
+        push_expr(shown, value);
     }
     Ok(())
 }
 
-fn push_body(shown: &mut Vec<u8>, item: Option<&Item>) -> Result<(), AllocError> {
+fn push_body(shown: &mut Shown, item: Option<&Item>) {
     match item {
         Some(Item::Fun(fun)) => push_block(shown, b"", fun.body.as_slice()),
-        _ => Ok(()),
+        _ => {},
     }
 }
 
 /// Appends the trees of statements.
-pub fn push_statements(shown: &mut Vec<u8>, alloc: Global, text: &[u8]) -> Result<(), Fault> {
+pub fn push_statements(shown: &mut Shown, alloc: Global, text: &[u8]) -> Result<(), Fault> {
     let tree = tree_between(alloc, b"void f() { ", text, b" }")?;
     if tree.items.len() != 1 {
         return Err(Fault::Words);
     }
-    push_body(shown, tree.items.get(0))?;
+    push_body(shown, tree.items.get(0));
     Ok(())
 }
 
 /// Appends the numbers of bytes after which the text up to there reads.
-pub fn push_fronts(shown: &mut Vec<u8>, alloc: Global, text: &[u8]) -> Result<(), Fault> {
+pub fn push_fronts(shown: &mut Shown, alloc: Global, text: &[u8]) -> Result<(), Fault> {
     for end in 0..=text.len() {
         if tree_of(alloc, &text[..end]).is_ok() {
             if !shown.is_empty() {
-                shown.push(b' ')?;
+                shown.push(b' ');
             }
-            push_number(shown, end as u64)?;
+            shown.push_number(end as u64);
         }
     }
     Ok(())
@@ -112,9 +113,9 @@ pub fn push_fronts(shown: &mut Vec<u8>, alloc: Global, text: &[u8]) -> Result<()
 
 // The tree of a text, or its fault.
 fn tree_or_fault(alloc: Global, text: &[u8]) -> Result<Vec<u8>, Fault> {
-    let mut shown = Vec::new(alloc);
+    let mut shown = Shown::new(alloc);
     match push_tree_of(&mut shown, alloc, text) {
-        Ok(()) => Ok(shown),
+        Ok(()) => Ok(shown.into_bytes()?),
         Err(fault) => {
             let name = fault.to_string(alloc)?;
             Ok(name.into_bytes())
@@ -123,13 +124,13 @@ fn tree_or_fault(alloc: Global, text: &[u8]) -> Result<Vec<u8>, Fault> {
 }
 
 /// Appends the tree or fault of each byte; equal ones behind one another once.
-pub fn push_bytes(shown: &mut Vec<u8>, alloc: Global, text: &[u8]) -> Result<(), Fault> {
+pub fn push_bytes(shown: &mut Shown, alloc: Global, text: &[u8]) -> Result<(), Fault> {
     let mut last = Vec::new(alloc);
     for byte in text {
         let next = tree_or_fault(alloc, [*byte].as_slice())?;
         if next.as_slice() != last.as_slice() {
-            shown.extend_from_slice(next.as_slice())?;
-            shown.push(b'\n')?;
+            shown.extend_from_slice(next.as_slice());
+            shown.push(b'\n');
         }
         last = next;
     }
@@ -137,20 +138,19 @@ pub fn push_bytes(shown: &mut Vec<u8>, alloc: Global, text: &[u8]) -> Result<(),
 }
 
 // Appends kinds with blanks between them.
-fn push_string(shown: &mut Vec<u8>, string: &[Token]) -> Result<(), AllocError> {
+fn push_string(shown: &mut Shown, string: &[Token]) {
     let mut is_first = true;
     for token in string {
         if !is_first {
-            shown.push(b' ')?;
+            shown.push(b' ');
         }
         is_first = false;
-        push_kind(shown, &token.kind)?;
+        push_kind(shown, &token.kind);
     }
-    shown.push(b'\n')?;
-    Ok(())
+    shown.push(b'\n');
 }
 
-fn push_pattern(shown: &mut Vec<u8>, alloc: Global, value: &Expr) -> Result<(), Fault> {
+fn push_pattern(shown: &mut Shown, alloc: Global, value: &Expr) -> Result<(), Fault> {
     if let EForm::Pattern {
         pattern,
         strings: _,
@@ -158,14 +158,14 @@ fn push_pattern(shown: &mut Vec<u8>, alloc: Global, value: &Expr) -> Result<(), 
     {
         let found = strings(alloc, pattern)?;
         for string in found.as_slice() {
-            push_string(shown, string.as_slice())?;
+            push_string(shown, string.as_slice());
         }
     }
     Ok(())
 }
 
 /// Appends the strings of a pattern, a line each.
-pub fn push_strings(shown: &mut Vec<u8>, alloc: Global, text: &[u8]) -> Result<(), Fault> {
+pub fn push_strings(shown: &mut Shown, alloc: Global, text: &[u8]) -> Result<(), Fault> {
     let tree = tree_between(alloc, b"int N = {| ", text, b" |};")?;
     if let Some(value) = first_value(&tree) {
         push_pattern(shown, alloc, value)?;
@@ -174,27 +174,27 @@ pub fn push_strings(shown: &mut Vec<u8>, alloc: Global, text: &[u8]) -> Result<(
 }
 
 /// Appends the kinds that spell the tree of a text.
-pub fn push_spelling(shown: &mut Vec<u8>, alloc: Global, text: &[u8]) -> Result<(), Fault> {
+pub fn push_spelling(shown: &mut Shown, alloc: Global, text: &[u8]) -> Result<(), Fault> {
     let tree = tree_of(alloc, text)?;
     let kinds = spell(alloc, &tree)?;
     for kind in kinds.as_slice() {
         if !shown.is_empty() {
-            shown.push(b' ')?;
+            shown.push(b' ');
         }
-        push_kind(shown, kind)?;
+        push_kind(shown, kind);
     }
     Ok(())
 }
 
 /// Appends the plain tree of a text, or the place of the step whose target is none.
-pub fn push_plain(shown: &mut Vec<u8>, alloc: Global, text: &[u8]) -> Result<(), Fault> {
+pub fn push_plain(shown: &mut Shown, alloc: Global, text: &[u8]) -> Result<(), Fault> {
     let tree = tree_of(alloc, text)?;
     if let Some(span) = unsteady_step(&tree) {
-        shown.extend_from_slice(b"unsteady ")?;
-        push_span(shown, span)?;
+        shown.extend_from_slice(b"unsteady ");
+        push_span(shown, span);
         return Ok(());
     }
     let made = plain(alloc, &tree)?;
-    push_tree(shown, &made)?;
+    push_tree(shown, &made);
     Ok(())
 }

@@ -1,81 +1,81 @@
 //! Items, with a line feed behind each.
+use crate::shown::Shown;
 use crate::shown_expr::push_expr;
 use crate::shown_stmt::{push_block, push_ty};
 use sk_base::Name;
 use sk_tree::{Field, FunItem, FunKind, Item, Param, Tree, TyTree};
-use std::alloc::AllocError;
 
-fn push_word(shown: &mut Vec<u8>, before: &[u8], name: &Name) -> Result<(), AllocError> {
-    shown.extend_from_slice(before)?;
+fn push_word(shown: &mut Shown, before: &[u8], name: &Name) {
+    shown.extend_from_slice(before);
     shown.extend_from_slice(name.as_bytes())
 }
 
-fn push_pragma(shown: &mut Vec<u8>, word: &Name, text: &Name) -> Result<(), AllocError> {
-    push_word(shown, b"pragma ", word)?;
+fn push_pragma(shown: &mut Shown, word: &Name, text: &Name) {
+    push_word(shown, b"pragma ", word);
     push_word(shown, b" ", text)
 }
 
-fn push_struct(shown: &mut Vec<u8>, name: &Name, fields: &[Field]) -> Result<(), AllocError> {
-    push_word(shown, b"struct ", name)?;
-    shown.extend_from_slice(b"{")?;
+fn push_struct(shown: &mut Shown, name: &Name, fields: &[Field]) {
+    push_word(shown, b"struct ", name);
+    shown.extend_from_slice(b"{");
     for field in fields {
-        push_ty(shown, &field.ty)?;
-        push_word(shown, b"", &field.name)?;
-        shown.extend_from_slice(b",")?;
+        push_ty(shown, &field.ty);
+        push_word(shown, b"", &field.name);
+        shown.extend_from_slice(b",");
     }
     shown.extend_from_slice(b"}")
 }
 
-fn push_kind(shown: &mut Vec<u8>, kind: FunKind) -> Result<(), AllocError> {
+fn push_kind(shown: &mut Shown, kind: FunKind) {
     match kind {
-        FunKind::Plain => Ok(()),
+        FunKind::Plain => {},
         FunKind::Harness => shown.extend_from_slice(b"harness "),
         FunKind::Generator => shown.extend_from_slice(b"generator "),
     }
 }
 
-fn push_result(shown: &mut Vec<u8>, ty: &Option<TyTree>) -> Result<(), AllocError> {
+fn push_result(shown: &mut Shown, ty: &Option<TyTree>) {
     match ty {
         None => shown.extend_from_slice(b"void "),
         Some(ty) => push_ty(shown, ty),
     }
 }
 
-fn push_param(shown: &mut Vec<u8>, param: &Param) -> Result<(), AllocError> {
+fn push_param(shown: &mut Shown, param: &Param) {
     if param.by_ref {
-        shown.extend_from_slice(b"ref ")?;
+        shown.extend_from_slice(b"ref ");
     }
-    push_ty(shown, &param.ty)?;
+    push_ty(shown, &param.ty);
     push_word(shown, b"", &param.name)
 }
 
-fn push_params(shown: &mut Vec<u8>, params: &[Param]) -> Result<(), AllocError> {
-    shown.extend_from_slice(b"(")?;
+fn push_params(shown: &mut Shown, params: &[Param]) {
+    shown.extend_from_slice(b"(");
     for param in params {
-        push_param(shown, param)?;
-        shown.extend_from_slice(b",")?;
+        push_param(shown, param);
+        shown.extend_from_slice(b",");
     }
     shown.extend_from_slice(b")")
 }
 
-fn push_fun(shown: &mut Vec<u8>, fun: &FunItem) -> Result<(), AllocError> {
-    push_kind(shown, fun.kind)?;
-    push_result(shown, &fun.result)?;
-    push_word(shown, b"", &fun.name)?;
-    push_params(shown, fun.params.as_slice())?;
+fn push_fun(shown: &mut Shown, fun: &FunItem) {
+    push_kind(shown, fun.kind);
+    push_result(shown, &fun.result);
+    push_word(shown, b"", &fun.name);
+    push_params(shown, fun.params.as_slice());
     if let Some(name) = &fun.implements {
-        push_word(shown, b" implements ", name)?;
+        push_word(shown, b" implements ", name);
     }
     push_block(shown, b"", fun.body.as_slice())
 }
 
-fn push_item(shown: &mut Vec<u8>, item: &Item) -> Result<(), AllocError> {
+fn push_item(shown: &mut Shown, item: &Item) {
     match item {
         Item::Pragma { word, text } => push_pragma(shown, word, text),
         Item::Struct { name, fields } => push_struct(shown, name, fields.as_slice()),
         Item::Const { name, value } => {
-            push_word(shown, b"", name)?;
-            shown.extend_from_slice(b"=")?;
+            push_word(shown, b"", name);
+            shown.extend_from_slice(b"=");
             push_expr(shown, value)
         }
         Item::Fun(fun) => push_fun(shown, fun),
@@ -83,10 +83,9 @@ fn push_item(shown: &mut Vec<u8>, item: &Item) -> Result<(), AllocError> {
 }
 
 /// The items of a tree.
-pub fn push_tree(shown: &mut Vec<u8>, tree: &Tree) -> Result<(), AllocError> {
+pub fn push_tree(shown: &mut Shown, tree: &Tree) {
     for item in tree.items.as_slice() {
-        push_item(shown, item)?;
-        shown.extend_from_slice(b"\n")?;
+        push_item(shown, item);
+        shown.extend_from_slice(b"\n");
     }
-    Ok(())
 }

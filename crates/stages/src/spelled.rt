@@ -1,7 +1,6 @@
 //! Kinds of tokens, as they are written.
-use sk_base::push_number;
+use crate::shown::Shown;
 use sk_tree::{Key, Kind, Mark};
-use std::alloc::AllocError;
 
 /// The bytes of a mark.
 pub fn mark_bytes(mark: Mark) -> &'static [u8] {
@@ -82,10 +81,10 @@ fn key_bytes(key: Key) -> &'static [u8] {
 }
 
 /// Appends a kind. A text stands without its quotes.
-pub fn push_kind(shown: &mut Vec<u8>, kind: &Kind) -> Result<(), AllocError> {
+pub fn push_kind(shown: &mut Shown, kind: &Kind) {
     match kind {
         Kind::Word(word) => shown.extend_from_slice(word.as_bytes()),
-        Kind::Number(number) => push_number(shown, u64::from(*number)),
+        Kind::Number(number) => shown.push_number(u64::from(*number)),
         Kind::Text(text) => shown.extend_from_slice(text.as_bytes()),
         Kind::Key(key) => shown.extend_from_slice(key_bytes(*key)),
         Kind::Mark(mark) => shown.extend_from_slice(mark_bytes(*mark)),

@@ -4,7 +4,7 @@ use sk_base::Bounds;
 use std::alloc::Global;
 
 /// What is done with the text of a row, and written.
-#[derive(Debug, Drop, Clone, Copy, PartialEq, Eq)]
+#[derive(Drop, Clone, Copy)]
 pub enum Stage {
     /// Its tokens: K for a keyword, M a mark, N a number, T a text, W a word, each with its place.
     Tokens,

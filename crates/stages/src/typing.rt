@@ -1,6 +1,7 @@
 //! Stages of typing: where expressions can stand, which rules are broken, and how programs are laid out.
 use crate::fault::Fault;
 use crate::front::{joined, meant, program_of};
+use crate::shown::Shown;
 use sk_base::{Bounds, List, Name, Span};
 use sk_print::print;
 use sk_tree::{EForm, Expr, Item, Tree};
@@ -50,7 +51,7 @@ fn mark(stands: bool) -> u8 {
 
 /// Appends for each type whether an expression can stand there.
 pub fn push_stands(
-    shown: &mut Vec<u8>,
+    shown: &mut Shown,
     alloc: Global,
     types: &[String],
     text: &[u8],
@@ -58,7 +59,7 @@ pub fn push_stands(
 ) -> Result<(), Fault> {
     for ty in types {
         let found = stands(alloc, ty.as_str(), text, bounds)?;
-        shown.push(mark(found))?;
+        shown.push(mark(found));
     }
     Ok(())
 }
@@ -87,8 +88,9 @@ fn sort_marks(
     let mut marks = Vec::new(alloc);
     for operator in operators {
         let value = with_operator(alloc, text, *operator)?;
-        let mut next = Vec::new(alloc);
-        push_stands(&mut next, alloc, types, value.as_slice(), bounds)?;
+        let mut shown = Shown::new(alloc);
+        push_stands(&mut shown, alloc, types, value.as_slice(), bounds)?;
+        let next = shown.into_bytes()?;
         if !marks.is_empty() && marks.as_slice() != next.as_slice() {
             marks.extend_from_slice(b" but ")?;
             marks.extend_from_slice(*operator)?;
@@ -101,7 +103,7 @@ fn sort_marks(
 
 /// Appends for each sort of operators and each type whether the expression with such an operator can stand there.
 pub fn push_operators(
-    shown: &mut Vec<u8>,
+    shown: &mut Shown,
     alloc: Global,
     types: &[String],
     text: &[u8],
@@ -110,37 +112,37 @@ pub fn push_operators(
     for operators in SORTS {
         let marks = sort_marks(alloc, operators, types, text, bounds)?;
         if !shown.is_empty() {
-            shown.push(b' ')?;
+            shown.push(b' ');
         }
-        shown.extend_from_slice(marks.as_slice())?;
+        shown.extend_from_slice(marks.as_slice());
     }
     Ok(())
 }
 
 /// Appends whether a text keeps the rules.
 pub fn push_typed(
-    shown: &mut Vec<u8>,
+    shown: &mut Shown,
     alloc: Global,
     text: &[u8],
     bounds: &Bounds,
 ) -> Result<(), Fault> {
     if keeps_rules(alloc, text, bounds)? {
-        shown.extend_from_slice(b"typed")?;
+        shown.extend_from_slice(b"typed");
     } else {
-        shown.extend_from_slice(b"refused")?;
+        shown.extend_from_slice(b"refused");
     }
     Ok(())
 }
 
 /// Appends that a text keeps the rules.
 pub fn push_rule(
-    shown: &mut Vec<u8>,
+    shown: &mut Shown,
     alloc: Global,
     text: &[u8],
     bounds: &Bounds,
 ) -> Result<(), Fault> {
     let _prog = program_of(alloc, text, bounds)?;
-    shown.extend_from_slice(b"typed")?;
+    shown.extend_from_slice(b"typed");
     Ok(())
 }
 
@@ -167,7 +169,7 @@ fn number_of(text: &[u8]) -> Option<u32> {
 
 /// Appends that a constant with the number of the text keeps the rules.
 pub fn push_literal(
-    shown: &mut Vec<u8>,
+    shown: &mut Shown,
     alloc: Global,
     text: &[u8],
     bounds: &Bounds,
@@ -177,7 +179,7 @@ pub fn push_literal(
     };
     let tree = constant(alloc, number)?;
     let _prog = meant(alloc, &tree, bounds)?;
-    shown.extend_from_slice(b"typed")?;
+    shown.extend_from_slice(b"typed");
     Ok(())
 }
 
@@ -189,17 +191,17 @@ fn laid_out(alloc: Global, text: &[u8], bounds: &Bounds) -> Result<Vec<u8>, Faul
 
 /// Appends the layout of a text, and where this layout is laid out otherwise than it stands, that too.
 pub fn push_layout(
-    shown: &mut Vec<u8>,
+    shown: &mut Shown,
     alloc: Global,
     text: &[u8],
     bounds: &Bounds,
 ) -> Result<(), Fault> {
     let layout = laid_out(alloc, text, bounds)?;
-    shown.extend_from_slice(layout.as_slice())?;
+    shown.extend_from_slice(layout.as_slice());
     let again = laid_out(alloc, layout.as_slice(), bounds)?;
     if again.as_slice() != layout.as_slice() {
-        shown.extend_from_slice(b"but then\n")?;
-        shown.extend_from_slice(again.as_slice())?;
+        shown.extend_from_slice(b"but then\n");
+        shown.extend_from_slice(again.as_slice());
     }
     Ok(())
 }

@@ -9,6 +9,7 @@ use crate::reading::{
     push_bytes, push_expression, push_fronts, push_plain, push_spelling, push_statements,
     push_strings, push_tokens, push_tree_of,
 };
+use crate::shown::Shown;
 use crate::task::{Stage, Task, task_of};
 use crate::typing::{
     push_layout, push_literal, push_operators, push_rule, push_stands, push_typed,
@@ -16,7 +17,7 @@ use crate::typing::{
 use row_files::words_of;
 use std::alloc::{AllocError, Global};
 
-fn push_reading(shown: &mut Vec<u8>, alloc: Global, task: &Task, text: &[u8]) -> Result<(), Fault> {
+fn push_reading(shown: &mut Shown, alloc: Global, task: &Task, text: &[u8]) -> Result<(), Fault> {
     match task.stage {
         Stage::Tokens => push_tokens(shown, alloc, text),
         Stage::Tree => push_tree_of(shown, alloc, text),
@@ -24,7 +25,7 @@ fn push_reading(shown: &mut Vec<u8>, alloc: Global, task: &Task, text: &[u8]) ->
         Stage::Statements => push_statements(shown, alloc, text),
         Stage::Reads => {
             let _tree = tree_of(alloc, text)?;
-            shown.extend_from_slice(b"reads")?;
+            shown.extend_from_slice(b"reads");
             Ok(())
         }
         Stage::Fronts => push_fronts(shown, alloc, text),
@@ -36,7 +37,7 @@ fn push_reading(shown: &mut Vec<u8>, alloc: Global, task: &Task, text: &[u8]) ->
     }
 }
 
-fn push_typing(shown: &mut Vec<u8>, alloc: Global, task: &Task, text: &[u8]) -> Result<(), Fault> {
+fn push_typing(shown: &mut Shown, alloc: Global, task: &Task, text: &[u8]) -> Result<(), Fault> {
     let bounds = &task.bounds;
     let words = task.others.as_slice();
     match task.stage {
@@ -50,12 +51,7 @@ fn push_typing(shown: &mut Vec<u8>, alloc: Global, task: &Task, text: &[u8]) -> 
     }
 }
 
-fn push_expanding(
-    shown: &mut Vec<u8>,
-    alloc: Global,
-    task: &Task,
-    text: &[u8],
-) -> Result<(), Fault> {
+fn push_expanding(shown: &mut Shown, alloc: Global, task: &Task, text: &[u8]) -> Result<(), Fault> {
     let bounds = &task.bounds;
     let words = task.others.as_slice();
     match task.stage {
@@ -70,12 +66,7 @@ fn push_expanding(
     }
 }
 
-fn push_written(
-    shown: &mut Vec<u8>,
-    alloc: Global,
-    words: &[u8],
-    text: &[u8],
-) -> Result<(), Fault> {
+fn push_written(shown: &mut Shown, alloc: Global, words: &[u8], text: &[u8]) -> Result<(), Fault> {
     let words = words_of(alloc, words)?;
     let task = task_of(alloc, words.as_slice())?;
     if task.is_escaped {
@@ -86,21 +77,20 @@ fn push_written(
 }
 
 // Ends the last line.
-fn end_line(shown: &mut Vec<u8>) -> Result<(), AllocError> {
+fn end_line(shown: &mut Shown) {
     if !shown.is_empty() && !shown.as_slice().ends_with(b"\n") {
-        shown.push(b'\n')?;
+        shown.push(b'\n');
     }
-    Ok(())
 }
 
 /// What is written of a text by the stage that the words of its row name, in full lines: what the stage shows of it, or
 /// the name of the fault for which it does not come there.
 pub fn written(alloc: Global, words: &[u8], text: &[u8]) -> Result<Vec<u8>, AllocError> {
-    let mut shown = Vec::new(alloc);
+    let mut shown = Shown::new(alloc);
     match push_written(&mut shown, alloc, words, text) {
         Ok(()) => {
-            end_line(&mut shown)?;
-            Ok(shown)
+            end_line(&mut shown);
+            shown.into_bytes()
         }
         Err(Fault::Memory) => Err(AllocError),
         Err(fault) => {
