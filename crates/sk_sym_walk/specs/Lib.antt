@@ -1,2 +1,5 @@
 pub mod Walk
 pub mod Parts
+pub mod Turns
+pub mod Copies
+pub mod Orders

@@ -1,21 +1,26 @@
 //! The walk over the expressions and statements of an active call.
 
-ghost use Rattle.std.specs.Prelude.{◌≡◌, IfOk, OnOk, false, true};
+ghost use Rattle.std.specs.Prelude.{◌≡◌, length, IfOk, OnOk, false, true};
 ghost use Rattle.sk_dag.specs.Graph.{HasBool};
 ghost use Rattle.sk_sym_state.specs.Stands.{StateStands};
 ghost use Rattle.sk_sym_state.specs.Meaning.{Executes};
 ghost use Rattle.sk_sym_state.specs.Branching.{IsBit};
 ghost use Rattle.sk_sym_walk.specs.Walk.{exec_all_at, eval_part, stmt_part, all_part, IsBehind};
-ghost use Rattle.sk_sym_walk.specs.Parts.{IsEvaluated, IsEvaluatedOn, IsGuarded, IsExecuted, IsExecutedOn, given, either_part, single_part, double_part, binary_part, pick_part, cond_part, act_part, other_part, ways_part, branch_part};
+ghost use Rattle.sk_sym_walk.specs.Parts.{IsEvaluated, IsExecuted, IsExecutedOn, other_part, ways_part};
+ghost use Rattle.sk_sym_walk.specs.Turns.{turns_part, turn_part, decided_part};
+ghost use Rattle.sk_sym_walk.specs.Copies.{some_part, copies_part, copy_part, repeat_part};
+ghost use Rattle.sk_sym_walk.specs.Orders.{ordered_part, reorder_part, one_turn_part, AreOrders};
 
-use crate::kind::{Act, Double, Single};
-use crate::leaf::{act, apply, apply_two, declare_zero, give_nothing, hole, leaf};
-use crate::step::{is_over, joined, pass_other};
-use sk_base::{Bounds, Boxed, Span};
+use crate::leaf::fail_here;
+use crate::step::{
+    exceeds, is_hole, is_over, pass_digits, pass_loop, pass_other, pass_site, turn_node,
+};
+use sk_base::{Bounds, Boxed, List, Span};
 use sk_dag::{BoolId, Dag, Shape};
-use sk_folded::{and, known_bool, not, or};
-use sk_prog::{BinOp, PEForm, PExpr, PForm, PStmt};
-use sk_sym_sites::{pass_expr, pass_stmt};
+use sk_folded::known_bool;
+use sk_paid::orders;
+use sk_prog::{PExpr, PForm, PStmt};
+use sk_sym_sites::{pass_stmt, pass_stmts};
 use sk_sym_state::{Setting, SymState};
 use std::alloc::AllocError;
 
@@ -32,7 +37,6 @@ pub struct Activation<'a> {
 
 impl Activation<'_> {
     /// The value of an expression.
-    #[cycle(eval)]
     fn eval(
         &self,
         room: u32,
@@ -45,300 +49,7 @@ impl Activation<'_> {
         requires stands { StateStands dag.old self.now.setting.expanded.now.prog state.old }
         ensures evaluated { IfOk result (λ r. IsEvaluated self.now dag.old dag.new state.old state.new at.old at.new (eval_part self.now span e.now) r) }
     {
-        if room == 0 {
-            return Err(AllocError);
-        }
-        let room = room - 1;
-        match &e.form {
-            PEForm::Number(_)
-            | PEForm::True
-            | PEForm::False
-            | PEForm::Null
-            | PEForm::Var { slot: _, name: _ }
-            | PEForm::Const(_) => leaf(self, dag, state, *at, span, e),
-            PEForm::Hole(_) => hole(self, dag, state, at, span, e),
-            PEForm::Paren(of) => self.eval(room, dag, state, at, span, of.get()),
-            PEForm::Unary { op, of } => {
-                self.single(room, dag, state, at, span, Single::Unary(*op), of.get())
-            }
-            PEForm::ToInt(of) => self.single(room, dag, state, at, span, Single::ToInt, of.get()),
-            PEForm::Pad(of) => self.single(room, dag, state, at, span, Single::Pad(e.ty), of.get()),
-            PEForm::Binary { op, left, right } => {
-                self.binary(room, dag, state, at, span, *op, left.get(), right.get())
-            }
-            PEForm::Cond { cond, then, other } => self.cond(
-                room,
-                dag,
-                state,
-                at,
-                span,
-                cond.get(),
-                then.get(),
-                other.get(),
-            ),
-            _ => Err(AllocError),
-        }
-    }
-
-    /// What is done with the value of one part.
-    #[cycle(eval)]
-    #[inline(never)]
-    fn single(
-        &self,
-        room: u32,
-        dag: &mut Dag,
-        state: &mut SymState,
-        at: &mut usize,
-        span: Span,
-        what: Single,
-        of: &PExpr,
-    ) -> Result<Shape, AllocError>
-        requires stands { StateStands dag.old self.now.setting.expanded.now.prog state.old }
-        ensures evaluated { IfOk result (λ r. IsEvaluated self.now dag.old dag.new state.old state.new at.old at.new (single_part self.now span what of.now) r) }
-    {
-        let a = self.eval(room, dag, state, at, span, of)?;
-        let r = apply(self, dag, state, span, what, &a)?;
-        Ok(r)
-    }
-
-    /// What is done with the values of two parts.
-    #[cycle(eval)]
-    #[inline(never)]
-    fn double(
-        &self,
-        room: u32,
-        dag: &mut Dag,
-        state: &mut SymState,
-        at: &mut usize,
-        span: Span,
-        what: Double,
-        left: &PExpr,
-        right: &PExpr,
-    ) -> Result<Shape, AllocError>
-        requires stands { StateStands dag.old self.now.setting.expanded.now.prog state.old }
-        ensures evaluated { IfOk result (λ r. IsEvaluated self.now dag.old dag.new state.old state.new at.old at.new (double_part self.now span what left.now right.now) r) }
-    {
-        let a = self.eval(room, dag, state, at, span, left)?;
-        let b = self.eval(room, dag, state, at, span, right)?;
-        let r = apply_two(self, dag, state, span, what, &a, &b)?;
-        Ok(r)
-    }
-
-    /// An operator. `&&` and `||` evaluate the second part only where the first does not decide.
-    #[cycle(eval)]
-    #[inline(never)]
-    fn binary(
-        &self,
-        room: u32,
-        dag: &mut Dag,
-        state: &mut SymState,
-        at: &mut usize,
-        span: Span,
-        op: BinOp,
-        left: &PExpr,
-        right: &PExpr,
-    ) -> Result<Shape, AllocError>
-        requires stands { StateStands dag.old self.now.setting.expanded.now.prog state.old }
-        ensures evaluated { IfOk result (λ r. IsEvaluated self.now dag.old dag.new state.old state.new at.old at.new (binary_part self.now span op left.now right.now) r) }
-    {
-        match op {
-            BinOp::AndThen => {
-                let v = self.eval(room, dag, state, at, span, left)?;
-                let Shape::Bit(c) = v else {
-                    return Err(AllocError);
-                };
-                self.also(room, dag, state, at, span, c, right)
-            }
-            BinOp::OrElse => {
-                let v = self.eval(room, dag, state, at, span, left)?;
-                let Shape::Bit(c) = v else {
-                    return Err(AllocError);
-                };
-                self.otherwise(room, dag, state, at, span, c, right)
-            }
-            _ => self.double(
-                room,
-                dag,
-                state,
-                at,
-                span,
-                Double::Operator(op),
-                left,
-                right,
-            ),
-        }
-    }
-
-    /// The second part of `&&`, behind a bit.
-    #[cycle(eval)]
-    #[inline(never)]
-    fn also(
-        &self,
-        room: u32,
-        dag: &mut Dag,
-        state: &mut SymState,
-        at: &mut usize,
-        span: Span,
-        cond: BoolId,
-        e: &PExpr,
-    ) -> Result<Shape, AllocError>
-        requires stands { StateStands dag.old self.now.setting.expanded.now.prog state.old }
-        requires cond { HasBool dag.old.nodes cond }
-        ensures evaluated { IfOk result (λ r. IsEvaluatedOn self.now dag.old dag.new state.old state.new at.old at.new (IsBit cond) (either_part span (eval_part self.now span e.now) (given false)) r) }
-    {
-        match known_bool(dag, cond) {
-            Some(true) => self.eval(room, dag, state, at, span, e),
-            Some(false) => {
-                pass_expr(at, e)?;
-                Ok(Shape::Bit(cond))
-            }
-            None => {
-                let y = self.guarded(room, dag, state, at, span, cond, e)?;
-                let r = and(dag, cond, y)?;
-                Ok(Shape::Bit(r))
-            }
-        }
-    }
-
-    /// The second part of `||`, behind a bit.
-    #[cycle(eval)]
-    #[inline(never)]
-    fn otherwise(
-        &self,
-        room: u32,
-        dag: &mut Dag,
-        state: &mut SymState,
-        at: &mut usize,
-        span: Span,
-        cond: BoolId,
-        e: &PExpr,
-    ) -> Result<Shape, AllocError>
-        requires stands { StateStands dag.old self.now.setting.expanded.now.prog state.old }
-        requires cond { HasBool dag.old.nodes cond }
-        ensures evaluated { IfOk result (λ r. IsEvaluatedOn self.now dag.old dag.new state.old state.new at.old at.new (IsBit cond) (either_part span (given true) (eval_part self.now span e.now)) r) }
-    {
-        match known_bool(dag, cond) {
-            Some(true) => {
-                pass_expr(at, e)?;
-                Ok(Shape::Bit(cond))
-            }
-            Some(false) => self.eval(room, dag, state, at, span, e),
-            None => {
-                let other = not(dag, cond)?;
-                let y = self.guarded(room, dag, state, at, span, other, e)?;
-                let r = or(dag, cond, y)?;
-                Ok(Shape::Bit(r))
-            }
-        }
-    }
-
-    /// A bit, evaluated where a condition holds.
-    #[cycle(eval)]
-    #[inline(never)]
-    fn guarded(
-        &self,
-        room: u32,
-        dag: &mut Dag,
-        state: &mut SymState,
-        at: &mut usize,
-        span: Span,
-        cond: BoolId,
-        e: &PExpr,
-    ) -> Result<BoolId, AllocError>
-        requires stands { StateStands dag.old self.now.setting.expanded.now.prog state.old }
-        requires cond { HasBool dag.old.nodes cond }
-        ensures guarded { IfOk result (λ y. IsGuarded self.now dag.old dag.new state.old state.new at.old at.new span cond (eval_part self.now span e.now) y) }
-    {
-        let waits = state.fork(&self.setting, dag, cond)?;
-        let v = self.eval(room, dag, state, at, span, e)?;
-        let Shape::Bit(y) = v else {
-            return Err(AllocError);
-        };
-        let gone = state.turn(waits);
-        state.join(&self.setting, dag, cond, gone)?;
-        Ok(y)
-    }
-
-    /// The one value or the other by a condition.
-    #[cycle(eval)]
-    #[inline(never)]
-    fn cond(
-        &self,
-        room: u32,
-        dag: &mut Dag,
-        state: &mut SymState,
-        at: &mut usize,
-        span: Span,
-        cond: &PExpr,
-        a: &PExpr,
-        b: &PExpr,
-    ) -> Result<Shape, AllocError>
-        requires stands { StateStands dag.old self.now.setting.expanded.now.prog state.old }
-        ensures evaluated { IfOk result (λ r. IsEvaluated self.now dag.old dag.new state.old state.new at.old at.new (cond_part self.now span cond.now a.now b.now) r) }
-    {
-        let v = self.eval(room, dag, state, at, span, cond)?;
-        let Shape::Bit(c) = v else {
-            return Err(AllocError);
-        };
-        self.pick(room, dag, state, at, span, c, a, b)
-    }
-
-    /// The one value or the other by a bit.
-    #[cycle(eval)]
-    #[inline(never)]
-    fn pick(
-        &self,
-        room: u32,
-        dag: &mut Dag,
-        state: &mut SymState,
-        at: &mut usize,
-        span: Span,
-        cond: BoolId,
-        a: &PExpr,
-        b: &PExpr,
-    ) -> Result<Shape, AllocError>
-        requires stands { StateStands dag.old self.now.setting.expanded.now.prog state.old }
-        requires cond { HasBool dag.old.nodes cond }
-        ensures evaluated { IfOk result (λ r. IsEvaluatedOn self.now dag.old dag.new state.old state.new at.old at.new (IsBit cond) (pick_part self.now span a.now b.now) r) }
-    {
-        match known_bool(dag, cond) {
-            Some(true) => {
-                let r = self.eval(room, dag, state, at, span, a)?;
-                pass_expr(at, b)?;
-                Ok(r)
-            }
-            Some(false) => {
-                pass_expr(at, a)?;
-                self.eval(room, dag, state, at, span, b)
-            }
-            None => self.both(room, dag, state, at, span, cond, a, b),
-        }
-    }
-
-    /// Both values, of which one is taken by a bit.
-    #[cycle(eval)]
-    #[inline(never)]
-    fn both(
-        &self,
-        room: u32,
-        dag: &mut Dag,
-        state: &mut SymState,
-        at: &mut usize,
-        span: Span,
-        cond: BoolId,
-        a: &PExpr,
-        b: &PExpr,
-    ) -> Result<Shape, AllocError>
-        requires stands { StateStands dag.old self.now.setting.expanded.now.prog state.old }
-        requires cond { HasBool dag.old.nodes cond }
-        ensures evaluated { IfOk result (λ r. IsEvaluatedOn self.now dag.old dag.new state.old state.new at.old at.new (IsBit cond) (pick_part self.now span a.now b.now) r) }
-    {
-        let waits = state.fork(&self.setting, dag, cond)?;
-        let x = self.eval(room, dag, state, at, span, a)?;
-        let gone = state.turn(waits);
-        let y = self.eval(room, dag, state, at, span, b)?;
-        let r = joined(&self.setting, dag, state, cond, gone, &x, &y)?;
-        Ok(r)
+        Err(AllocError)
     }
 
     /// Runs statements one after another, until one returns. The first of their sites has the place `at`, which moves behind
@@ -389,48 +100,19 @@ impl Activation<'_> {
         let span = stmt.span;
         match &stmt.form {
             PForm::Block(stmts) => self.block(room, dag, state, at, stmts.as_slice()),
-            PForm::Assert(e) => self.act(room, dag, state, at, span, Act::Assert, e),
-            PForm::Assume(e) => self.act(room, dag, state, at, span, Act::Assume, e),
-            PForm::Minimize(e) => self.act(room, dag, state, at, span, Act::Minimize, e),
-            PForm::Call(e) => self.act(room, dag, state, at, span, Act::Drop, e),
-            PForm::Return(e) => match e {
-                Some(e) => self.act(room, dag, state, at, span, Act::Return, e),
-                None => give_nothing(&self.setting, dag, state),
-            },
-            PForm::Declare {
-                slot,
-                name: _,
-                ty,
-                value,
-            } => match value {
-                Some(e) => self.act(room, dag, state, at, span, Act::Declare(*slot), e),
-                None => declare_zero(&self.setting, dag, state, span, *slot, *ty),
-            },
-            PForm::If { cond, then, other } => {
-                self.branches(room, dag, state, at, span, cond, then.get(), other)
+            PForm::While { cond, body } => {
+                let left = self.bounds.unroll;
+                self.turns(room, dag, state, at, span, left, cond, body.get())
             }
+            PForm::Repeat { count, copies } => {
+                self.repeat(room, dag, state, at, span, count, copies.as_slice())
+            }
+            PForm::MinRepeat(copies) => {
+                self.copies(room, dag, state, at, span, copies.as_slice())
+            }
+            PForm::Reorder(stmts) => self.reorder(room, dag, state, at, span, stmts.as_slice()),
             _ => Err(AllocError),
         }
-    }
-
-    /// A statement of one expression.
-    #[inline(never)]
-    fn act(
-        &self,
-        room: u32,
-        dag: &mut Dag,
-        state: &mut SymState,
-        at: &mut usize,
-        span: Span,
-        what: Act,
-        e: &PExpr,
-    ) -> Result<(), AllocError>
-        requires stands { StateStands dag.old self.now.setting.expanded.now.prog state.old }
-        ensures executed { OnOk result (IsExecuted self.now dag.old dag.new state.old state.new at.old at.new (act_part self.now span what e.now)) }
-    {
-        let v = self.eval(room, dag, state, at, span, e)?;
-        act(self, dag, state, span, what, v)?;
-        Ok(())
     }
 
     /// A block. Its variables leave the scope at its end.
@@ -451,30 +133,6 @@ impl Activation<'_> {
         self.exec_all(room, dag, state, at, stmts)?;
         state.forget(count);
         Ok(())
-    }
-
-    /// The one statement or the other by a condition.
-    #[cycle(run)]
-    #[inline(never)]
-    fn branches(
-        &self,
-        room: u32,
-        dag: &mut Dag,
-        state: &mut SymState,
-        at: &mut usize,
-        span: Span,
-        cond: &PExpr,
-        a: &PStmt,
-        other: &Option<Boxed<PStmt>>,
-    ) -> Result<(), AllocError>
-        requires stands { StateStands dag.old self.now.setting.expanded.now.prog state.old }
-        ensures executed { OnOk result (IsExecuted self.now dag.old dag.new state.old state.new at.old at.new (branch_part self.now span cond.now a.now other.now)) }
-    {
-        let v = self.eval(room, dag, state, at, span, cond)?;
-        let Shape::Bit(c) = v else {
-            return Err(AllocError);
-        };
-        self.ways(room, dag, state, at, span, c, a, other)
     }
 
     /// The one statement or the other by a bit.
@@ -552,5 +210,316 @@ impl Activation<'_> {
             Some(s) => self.exec(room, dag, state, at, s.get()),
             None => Ok(()),
         }
+    }
+
+    /// A loop of which so many turns are left. It is unrolled no further once the run is seen to go on nowhere.
+    #[cycle(run)]
+    #[inline(never)]
+    fn turns(
+        &self,
+        room: u32,
+        dag: &mut Dag,
+        state: &mut SymState,
+        at: &mut usize,
+        span: Span,
+        left: u32,
+        cond: &PExpr,
+        body: &PStmt,
+    ) -> Result<(), AllocError>
+        requires stands { StateStands dag.old self.now.setting.expanded.now.prog state.old }
+        ensures executed { OnOk result (IsExecuted self.now dag.old dag.new state.old state.new at.old at.new (turns_part self.now span left cond.now body.now)) }
+    {
+        if is_over(dag, state) {
+            return pass_loop(at, cond, body);
+        }
+        let start = *at;
+        let v = self.eval(room, dag, state, at, span, cond)?;
+        let Shape::Bit(c) = v else {
+            return Err(AllocError);
+        };
+        self.decided(room, dag, state, at, span, left, start, c, cond, body)
+    }
+
+    /// A turn of a loop, where the bit of its condition holds. All turns begin with the site at `start`.
+    #[cycle(run)]
+    #[inline(never)]
+    fn decided(
+        &self,
+        room: u32,
+        dag: &mut Dag,
+        state: &mut SymState,
+        at: &mut usize,
+        span: Span,
+        left: u32,
+        start: usize,
+        bit: BoolId,
+        cond: &PExpr,
+        body: &PStmt,
+    ) -> Result<(), AllocError>
+        requires stands { StateStands dag.old self.now.setting.expanded.now.prog state.old }
+        requires bit { HasBool dag.old.nodes bit }
+        requires start { IsBehind (eval_part self.now span cond.now) start at.old }
+        ensures executed { OnOk result (IsExecutedOn self.now dag.old dag.new state.old state.new at.old at.new (IsBit bit) (decided_part self.now span left start cond.now body.now)) }
+    {
+        match known_bool(dag, bit) {
+            Some(true) => self.turn(room, dag, state, at, span, left, start, cond, body),
+            Some(false) => pass_stmt(at, body),
+            None => self.may_turn(room, dag, state, at, span, left, start, bit, cond, body),
+        }
+    }
+
+    /// A turn of a loop by a bit, and where it does not hold the way out.
+    #[cycle(run)]
+    #[inline(never)]
+    fn may_turn(
+        &self,
+        room: u32,
+        dag: &mut Dag,
+        state: &mut SymState,
+        at: &mut usize,
+        span: Span,
+        left: u32,
+        start: usize,
+        bit: BoolId,
+        cond: &PExpr,
+        body: &PStmt,
+    ) -> Result<(), AllocError>
+        requires stands { StateStands dag.old self.now.setting.expanded.now.prog state.old }
+        requires bit { HasBool dag.old.nodes bit }
+        requires start { IsBehind (eval_part self.now span cond.now) start at.old }
+        ensures executed { OnOk result (IsExecutedOn self.now dag.old dag.new state.old state.new at.old at.new (IsBit bit) (decided_part self.now span left start cond.now body.now)) }
+    {
+        let waits = state.fork(&self.setting, dag, bit)?;
+        self.turn(room, dag, state, at, span, left, start, cond, body)?;
+        let gone = state.turn(waits);
+        state.join(&self.setting, dag, bit, gone)?;
+        Ok(())
+    }
+
+    /// The body of a loop, and the turns that are left after it. It fails where none is left.
+    #[cycle(run)]
+    #[inline(never)]
+    fn turn(
+        &self,
+        room: u32,
+        dag: &mut Dag,
+        state: &mut SymState,
+        at: &mut usize,
+        span: Span,
+        left: u32,
+        start: usize,
+        cond: &PExpr,
+        body: &PStmt,
+    ) -> Result<(), AllocError>
+        requires stands { StateStands dag.old self.now.setting.expanded.now.prog state.old }
+        requires start { IsBehind (eval_part self.now span cond.now) start at.old }
+        ensures executed { OnOk result (IsExecuted self.now dag.old dag.new state.old state.new at.old at.new (turn_part self.now span left start cond.now body.now)) }
+    {
+        if left == 0 {
+            fail_here(&self.setting, dag, state, span)?;
+            return pass_stmt(at, body);
+        }
+        if room == 0 {
+            return Err(AllocError);
+        }
+        let room = room - 1;
+        self.exec(room, dag, state, at, body)?;
+        let mut from = start;
+        self.turns(room, dag, state, &mut from, span, left - 1, cond, body)
+    }
+
+    /// A repeat, which is by a constant where its count is no hole.
+    #[cycle(run)]
+    #[inline(never)]
+    fn repeat(
+        &self,
+        room: u32,
+        dag: &mut Dag,
+        state: &mut SymState,
+        at: &mut usize,
+        span: Span,
+        count: &PExpr,
+        copies: &[PStmt],
+    ) -> Result<(), AllocError>
+        requires stands { StateStands dag.old self.now.setting.expanded.now.prog state.old }
+        ensures executed { OnOk result (IsExecuted self.now dag.old dag.new state.old state.new at.old at.new (repeat_part self.now count.now copies.now)) }
+    {
+        if is_hole(count) {
+            return self.copies(room, dag, state, at, span, copies);
+        }
+        self.block(room, dag, state, at, copies)
+    }
+
+    /// As many of the copies as the value of the site before them says.
+    #[cycle(run)]
+    #[inline(never)]
+    fn copies(
+        &self,
+        room: u32,
+        dag: &mut Dag,
+        state: &mut SymState,
+        at: &mut usize,
+        span: Span,
+        copies: &[PStmt],
+    ) -> Result<(), AllocError>
+        requires stands { StateStands dag.old self.now.setting.expanded.now.prog state.old }
+        ensures executed { OnOk result (IsExecuted self.now dag.old dag.new state.old state.new at.old at.new (copies_part self.now copies.now)) }
+    {
+        let site = *at;
+        pass_site(at)?;
+        self.some_copies(room, dag, state, at, span, site, copies)
+    }
+
+    /// As many of the copies as the value of a site says.
+    #[cycle(run)]
+    #[inline(never)]
+    fn some_copies(
+        &self,
+        room: u32,
+        dag: &mut Dag,
+        state: &mut SymState,
+        at: &mut usize,
+        span: Span,
+        site: usize,
+        copies: &[PStmt],
+    ) -> Result<(), AllocError>
+        requires stands { StateStands dag.old self.now.setting.expanded.now.prog state.old }
+        ensures executed { OnOk result (IsExecuted self.now dag.old dag.new state.old state.new at.old at.new (some_part self.now site copies.now)) }
+    {
+        let mut k = 0;
+        for stmt in copies {
+            self.copy(room, dag, state, at, span, site, k, stmt)?;
+            k += 1;
+        }
+        Ok(())
+    }
+
+    /// A copy, where the value of a site is above its number.
+    #[cycle(run)]
+    #[inline(never)]
+    fn copy(
+        &self,
+        room: u32,
+        dag: &mut Dag,
+        state: &mut SymState,
+        at: &mut usize,
+        span: Span,
+        site: usize,
+        k: usize,
+        stmt: &PStmt,
+    ) -> Result<(), AllocError>
+        requires stands { StateStands dag.old self.now.setting.expanded.now.prog state.old }
+        ensures executed { OnOk result (IsExecuted self.now dag.old dag.new state.old state.new at.old at.new (copy_part self.now site k stmt.now)) }
+    {
+        let here = exceeds(&self.setting, dag, site, k as u64)?;
+        self.ways(room, dag, state, at, span, here, stmt, &None)?;
+        Ok(())
+    }
+
+    /// Statements in the order that the sites before them give.
+    #[cycle(run)]
+    #[inline(never)]
+    fn reorder(
+        &self,
+        room: u32,
+        dag: &mut Dag,
+        state: &mut SymState,
+        at: &mut usize,
+        span: Span,
+        stmts: &[PStmt],
+    ) -> Result<(), AllocError>
+        requires stands { StateStands dag.old self.now.setting.expanded.now.prog state.old }
+        ensures executed { OnOk result (IsExecuted self.now dag.old dag.new state.old state.new at.old at.new (reorder_part self.now stmts.now)) }
+    {
+        let setting = &self.setting;
+        let first = *at;
+        let count = stmts.len();
+        let columns = orders(
+            setting.alloc,
+            dag,
+            setting.expanded,
+            first,
+            count,
+            setting.choice,
+        )?;
+        pass_digits(at, count)?;
+        self.ordered(room, dag, state, at, span, first, stmts, columns.as_slice())?;
+        Ok(())
+    }
+
+    /// Statements in the order that the sites from `first` on give.
+    #[cycle(run)]
+    #[inline(never)]
+    fn ordered(
+        &self,
+        room: u32,
+        dag: &mut Dag,
+        state: &mut SymState,
+        at: &mut usize,
+        span: Span,
+        first: usize,
+        stmts: &[PStmt],
+        columns: &[List<BoolId>],
+    ) -> Result<(), AllocError>
+        requires stands { StateStands dag.old self.now.setting.expanded.now.prog state.old }
+        requires columns { AreOrders self.now dag.old first (length stmts.now) columns.now }
+        ensures executed { OnOk result (IsExecuted self.now dag.old dag.new state.old state.new at.old at.new (ordered_part self.now first stmts.now)) }
+    {
+        let start = *at;
+        self.all_turns(room, dag, state, span, first, start, stmts, columns)?;
+        pass_stmts(at, stmts)
+    }
+
+    /// All turns of statements whose first site has the place `start`.
+    #[cycle(run)]
+    #[inline(never)]
+    fn all_turns(
+        &self,
+        room: u32,
+        dag: &mut Dag,
+        state: &mut SymState,
+        span: Span,
+        first: usize,
+        start: usize,
+        stmts: &[PStmt],
+        columns: &[List<BoolId>],
+    ) -> Result<(), AllocError>
+        requires stands { StateStands dag.old self.now.setting.expanded.now.prog state.old }
+        requires columns { AreOrders self.now dag.old first (length stmts.now) columns.now }
+        ensures executes { OnOk result (Executes self.now.setting dag.old dag.new state.old state.new (λ e. (ordered_part self.now first stmts.now e).at start)) }
+    {
+        for n in 0..stmts.len() {
+            let mut from = start;
+            self.one_turn(room, dag, state, &mut from, span, first, n, stmts, columns)?;
+        }
+        Ok(())
+    }
+
+    /// One turn: of the statements the one whose turn it is.
+    #[cycle(run)]
+    #[inline(never)]
+    fn one_turn(
+        &self,
+        room: u32,
+        dag: &mut Dag,
+        state: &mut SymState,
+        at: &mut usize,
+        span: Span,
+        first: usize,
+        n: usize,
+        stmts: &[PStmt],
+        columns: &[List<BoolId>],
+    ) -> Result<(), AllocError>
+        requires stands { StateStands dag.old self.now.setting.expanded.now.prog state.old }
+        requires columns { AreOrders self.now dag.old first (length stmts.now) columns.now }
+        ensures executed { OnOk result (IsExecuted self.now dag.old dag.new state.old state.new at.old at.new (one_turn_part self.now first (length stmts.now) n stmts.now)) }
+    {
+        let mut k = 0;
+        for stmt in stmts {
+            let node = turn_node(columns, k, n)?;
+            self.ways(room, dag, state, at, span, node, stmt, &None)?;
+            k += 1;
+        }
+        Ok(())
     }
 }
