@@ -32,7 +32,7 @@ use sk_sym_forms::{
     Act, Double, Single, apply, apply_two, declare_zero, fail_here, give_nothing, perform,
 };
 use sk_sym_frames::{enter, leave};
-use sk_sym_sites::{pass_expr, pass_stmt, start_of};
+use sk_sym_sites::{pass_expr, pass_stmt, pass_stmts, start_of};
 use sk_sym_state::{Ended, Setting, SymState};
 use std::alloc::AllocError;
 
