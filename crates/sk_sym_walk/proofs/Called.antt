@@ -3,6 +3,7 @@ use Rattle.std.proofs.Common.{◌≡◌, ◌<◌, ℕ, zero, suc, ◌+◌, ◌-�
 use Rattle.std.specs.Prelude.{All, ◌==◌, ◌&&◌, nat_lt, count_by, if◌then◌else◌, slice_get}
 use Rattle.std.specs.Option.{option_copied}
 use Rattle.std.proofs.lemmas.Bool.{lt-ltb}
+
 use Rattle.std.proofs.lemmas.List.Elements.{All-head, All-tail}
 use Rattle.sk_base.specs.declared.span.Span.{Span}
 use Rattle.sk_base.specs.declared.bounds.Bounds.{Bounds}

@@ -4,3 +4,4 @@ pub mod Places
 pub mod Layers
 pub mod Lists
 pub mod Called
+pub mod Targets

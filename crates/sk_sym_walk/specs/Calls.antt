@@ -28,6 +28,8 @@ use Rattle.sk_sym_state.specs.Meaning.{DoesOn}
 use Rattle.sk_sym_walk.specs.declared.activation.Activation.{Activation}
 use Rattle.sk_sym_walk.specs.Walk.{prog_of, calls_at, expr_part, exec_all_at}
 
+
+
 -- the function that a call means, where it may be made
 abbrev pub callee : Activation → ℕ → Option Fun
 callee a f = if nat_lt 0 a.left && nat_lt (count_by (λ g. g == f) a.active.now) a.bounds.inline_amnt then slice_get (prog_of a).funs f else None
@@ -65,6 +67,7 @@ pub record IsCallOf (outer : Activation) (f : ℕ) (fun : Fun) (inner : Activati
   pub left : inner.left ≡ outer.left - 1
   pub active : inner.active.now ≡ outer.active.now ++ f ∷ []
   pub of : inner.setting.fun.now ≡ fun
+
 
 -- a call has ended whose body begins at this place, and gives this
 pub record IsCalled (a inner : Activation) (i : ℕ) (d0 d1 : Graph) (s0 s1 : SymState) (args : List Shape) (r : Ended) : Type 0 where

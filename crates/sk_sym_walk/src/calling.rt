@@ -59,7 +59,11 @@ pub(crate) fn function_of(prog: &Prog, f: FunId) -> Option<&Fun>
 }
 
 /// These functions and one more.
-pub(crate) fn with_function(alloc: Global, active: &[u32], f: u32) -> Result<Vec<u32>, AllocError>
+pub(crate) fn with_function(
+    alloc: Global,
+    active: &[u32],
+    f: u32,
+) -> Result<Vec<u32>, AllocError>
     ensures { IfOk result (λ all. all.items ≡ active.now ++ f ∷ []) }
 {
     let mut all = Vec::from_slice(alloc, active)?;

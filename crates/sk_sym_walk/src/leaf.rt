@@ -56,14 +56,7 @@ pub(crate) fn hole(
         return Err(AllocError);
     };
     let _span = span;
-    let r = hole_here(
-        &active.setting,
-        dag,
-        state,
-        active.bounds.int_bits,
-        e.ty,
-        *at,
-    )?;
+    let r = hole_here(&active.setting, dag, state, active.bounds.int_bits, e.ty, *at)?;
     pass_expr(at, e)?;
     Ok(r)
 }
