@@ -1,7 +1,8 @@
 //! How a line ends on a text in memory.
-use crate::settings::Settings;
+use crate::halting::Halting;
+use crate::settings::{Settings, Stream};
 use row_files::words_of;
-use sk_app::{message, run, status};
+use sk_app::{Ending, StdSink, StdSource, message, run, status};
 use sk_base::{List, MemSink, MemSource, push_number};
 use std::alloc::{AllocError, Global};
 
@@ -24,14 +25,49 @@ pub fn run_line(
     let Settings {
         source,
         sink,
+        adapted,
         once: _,
     } = settings;
+    if adapted {
+        run_adapted(alloc, words.as_slice(), text, source, sink)
+    } else {
+        run_in_memory(alloc, words.as_slice(), text, source, sink)
+    }
+}
+
+// The streams are those in memory.
+fn run_in_memory(
+    alloc: Global,
+    words: &[String],
+    text: Vec<u8>,
+    source: Stream,
+    sink: Stream,
+) -> Result<Ended, AllocError> {
     let mut source = MemSource::new(List::from_vec(text), source.fails, source.step);
     let mut sink = MemSink::new(alloc, sink.fails, sink.step);
-    let ending = run(alloc, words.as_slice(), &mut source, &mut sink);
-    let message = message(alloc, &ending)?;
-    let head = head_of(alloc, status(&ending), message.as_bytes())?;
+    let ending = run(alloc, words, &mut source, &mut sink);
     let output = Vec::from_slice(alloc, sink.bytes())?;
+    ended(alloc, &ending, output)
+}
+
+// The streams are a reader and a writer, behind the adapters of standard input and output.
+fn run_adapted(
+    alloc: Global,
+    words: &[String],
+    text: Vec<u8>,
+    source: Stream,
+    sink: Stream,
+) -> Result<Ended, AllocError> {
+    let mut source = StdSource::new(Halting::reader(text, source));
+    let mut writer = Halting::writer(alloc, sink);
+    let ending = run(alloc, words, &mut source, &mut StdSink::new(&mut writer));
+    ended(alloc, &ending, writer.into_bytes())
+}
+
+// What there is to tell of an ending.
+fn ended(alloc: Global, ending: &Ending, output: Vec<u8>) -> Result<Ended, AllocError> {
+    let message = message(alloc, ending)?;
+    let head = head_of(alloc, status(ending), message.as_bytes())?;
     Ok(Ended { head, output })
 }
 

@@ -3,6 +3,7 @@
 #![tactic(auto)]
 
 mod ended;
+mod halting;
 mod judged;
 mod settings;
 

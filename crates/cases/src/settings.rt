@@ -18,6 +18,8 @@ pub struct Stream {
 pub struct Settings {
     pub source: Stream,
     pub sink: Stream,
+    /// Whether the streams are a reader and a writer, behind the adapters of standard input and output.
+    pub adapted: bool,
     /// Whether the completion of the text is not to be completed again.
     pub once: bool,
 }
@@ -75,13 +77,25 @@ fn set_stream(settings: &mut Settings, name: &str, stream: Stream) -> bool {
     }
 }
 
+// Sets what a word alone sets; nothing is set where it sets nothing.
+fn set_word(settings: &mut Settings, word: &str) -> bool {
+    match word {
+        "once" => {
+            settings.once = true;
+            true
+        }
+        "adapted" => {
+            settings.adapted = true;
+            true
+        }
+        _ => false,
+    }
+}
+
 // Whether words set something; nothing is set where they do not.
 fn set(alloc: Global, settings: &mut Settings, words: &[String]) -> Result<bool, AllocError> {
     match words {
-        [once] if once.as_str() == "once" => {
-            settings.once = true;
-            Ok(true)
-        }
+        [word] => Ok(set_word(settings, word.as_str())),
         [name, step, rest @ ..] => set_numbers(alloc, settings, name.as_str(), step.as_str(), rest),
         _ => Ok(false),
     }
@@ -109,6 +123,7 @@ pub fn calm_settings(alloc: Global) -> Settings {
     Settings {
         source: calm(alloc),
         sink: calm(alloc),
+        adapted: false,
         once: false,
     }
 }

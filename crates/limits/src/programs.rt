@@ -9,6 +9,51 @@ use std::alloc::{AllocError, Global};
 /// levels; a run has stack for the first two.
 const CALLS: [(u64, u64); 3] = [(128, 8), (8, 100), (128, 240)];
 
+/// Chains of functions, each of which calls the next one in parentheses. A statement is a level, and so is an expression; in a run
+/// a call is one more.
+#[derive(Clone, Copy)]
+struct Chain {
+    /// How deep it nests in all.
+    levels: u64,
+    /// How many functions it has.
+    count: u64,
+    /// How many parentheses stand round each call, and round what the last function gives back.
+    each: u64,
+    last: u64,
+}
+
+/// As deep as a run may nest, and one level deeper.
+const RUNS: [Chain; 2] = [
+    Chain {
+        levels: 4096,
+        count: 128,
+        each: 29,
+        last: 30,
+    },
+    Chain {
+        levels: 4097,
+        count: 128,
+        each: 29,
+        last: 31,
+    },
+];
+
+/// As deep as an expansion may nest, and one level deeper. The harness that calls the first generator has three levels.
+const EXPANSIONS: [Chain; 2] = [
+    Chain {
+        levels: 768,
+        count: 24,
+        each: 31,
+        last: 4,
+    },
+    Chain {
+        levels: 769,
+        count: 24,
+        each: 31,
+        last: 5,
+    },
+];
+
 /// Levels round a hole.
 const HOLES: [u64; 2] = [8, 240];
 
@@ -35,16 +80,17 @@ fn call(alloc: Global, i: u64) -> Result<String, AllocError> {
 }
 
 /// `f0` calls `f1`, and so on; the last gives its argument back.
-fn calls(alloc: Global, nest: &Nest, count: u64, levels: u64) -> Result<Vec<u8>, AllocError> {
+fn calls(alloc: Global, kind: &str, nest: &Nest, chain: &Chain) -> Result<Vec<u8>, AllocError> {
     let mut text = Vec::from_slice(alloc, BEFORE)?;
-    for i in 1..count {
-        head(&mut text, "int f", i - 1)?;
+    for i in 1..chain.count {
+        head(&mut text, kind, i - 1)?;
         let next = call(alloc, i)?;
-        push_nested(&mut text, nest, levels, ("return ", next.as_str(), ";"))?;
+        push_nested(&mut text, nest, chain.each, ("return ", next.as_str(), ";"))?;
         text.extend_from_slice(b" }\n")?;
     }
-    head(&mut text, "int f", count.saturating_sub(1))?;
-    text.extend_from_slice(b"return x; }\n")?;
+    head(&mut text, kind, chain.count.saturating_sub(1))?;
+    push_nested(&mut text, nest, chain.last, ("return ", "x", ";"))?;
+    text.extend_from_slice(b" }\n")?;
     Ok(text)
 }
 
@@ -86,7 +132,13 @@ fn about(lines: &mut Vec<u8>, parts: [&str; 2], numbers: [u64; 2]) -> Result<(),
 fn tell_nest(alloc: Global, lines: &mut Vec<u8>, nest: &Nest) -> Result<(), AllocError> {
     for (count, levels) in CALLS {
         about(lines, [nest.name, ", calls and levels"], [count, levels])?;
-        let text = calls(alloc, nest, count, levels)?;
+        let chain = Chain {
+            levels,
+            count,
+            each: levels,
+            last: 0,
+        };
+        let text = calls(alloc, "int f", nest, &chain)?;
         tell(alloc, lines, "exec f0 7", text.as_slice())?;
     }
     for levels in HOLES {
@@ -98,11 +150,37 @@ fn tell_nest(alloc: Global, lines: &mut Vec<u8>, nest: &Nest) -> Result<(), Allo
     Ok(())
 }
 
+/// Tells how a chain of functions ends, and how a chain of generators does that a harness calls.
+fn tell_chains(alloc: Global, lines: &mut Vec<u8>) -> Result<(), AllocError> {
+    let [nest, ..] = &NESTS;
+    for chain in &RUNS {
+        about(
+            lines,
+            ["levels of a run", " and functions"],
+            [chain.levels, chain.count],
+        )?;
+        let text = calls(alloc, "int f", nest, chain)?;
+        tell(alloc, lines, "exec f0 7", text.as_slice())?;
+    }
+    for chain in &EXPANSIONS {
+        about(
+            lines,
+            ["levels of an expansion", " and generators"],
+            [chain.levels, chain.count],
+        )?;
+        let mut text = calls(alloc, "generator int f", nest, chain)?;
+        text.extend_from_slice(b"harness void main(int x) { assert f0(x) == x; }\n")?;
+        tell(alloc, lines, "exec main 7", text.as_slice())?;
+    }
+    Ok(())
+}
+
 /// Tells how each of the programs ends.
 pub fn tell_programs(alloc: Global, lines: &mut Vec<u8>) -> Result<(), AllocError> {
     for nest in &NESTS {
         tell_nest(alloc, lines, nest)?;
     }
+    tell_chains(alloc, lines)?;
     for line in [
         "exec main 7 --bnd-inline-amnt 16",
         "synth --bnd-inline-amnt 16",
