@@ -4,3 +4,8 @@ pub mod WordByWord
 pub mod PragmaWords
 pub mod InRange
 pub mod LineLaws
+pub mod ClapRules
+pub mod ClapRows
+pub mod ClapWords
+pub mod ClapWalk
+pub mod ClapLaw
