@@ -78,11 +78,11 @@ pub has_text : (seen : Seen) (rows : List Row) (s : Setting) → Holds seen rows
 has_text seen rows s h =
     has_is (setting_name s) rows ∙ sym (is_some_map (λ (r : Row). r.values) (row_at (setting_name s) rows)) ∙ ap is_some (h.options s) ∙ is_some_map (λ v. v ∷ []) (text_of s seen.texts)
 
-values_or : (a b : Option Row) → values_of (or_row a b) ≡ or_row (values_of a) (values_of b)
+pub values_or : (a b : Option Row) → values_of (or_row a b) ≡ or_row (values_of a) (values_of b)
 values_or None b = refl
 values_or (Some r) b = refl
 
-texts_or : (a b : Option (List ℕ)) → one_text (or_row a b) ≡ or_row (one_text a) (one_text b)
+pub texts_or : (a b : Option (List ℕ)) → one_text (or_row a b) ≡ or_row (one_text a) (one_text b)
 texts_or None b = refl
 texts_or (Some r) b = refl
 
@@ -90,7 +90,7 @@ values_cond : (v : Bool) (r : Row) (x : List ℕ) → r.values ≡ x ∷ [] → 
 values_cond true r x e = ap (λ l. Some l) e
 values_cond false r x e = refl
 
-or_none : {X : Type 0} (o : Option X) → or_row o None ≡ o
+pub or_none : {X : Type 0} (o : Option X) → or_row o None ≡ o
 or_none None = refl
 or_none (Some x) = refl
 

@@ -19,7 +19,7 @@ or_false : (b : Bool) → (b || false) ≡ b
 or_false true = refl
 or_false false = refl
 
-eq_turned : (xs ys : List ℕ) → bytes_eq xs ys ≡ bytes_eq ys xs
+pub eq_turned : (xs ys : List ℕ) → bytes_eq xs ys ≡ bytes_eq ys xs
 eq_turned xs ys =
     elim (bytes_eq xs ys) as (λ v. bytes_eq xs ys ≡ v → v ≡ bytes_eq ys xs) [
       | true ↦ λ e. sym ((bytes_eq-Decides ys xs).1 (sym ((bytes_eq-Decides xs ys).0 e)))

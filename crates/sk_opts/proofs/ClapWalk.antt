@@ -331,7 +331,7 @@ use_agrees has w x ws seen s v h next turn goes settles =
     ] refl
 
 -- what is read is spelt so
-among_named : (has : List Setting) (w : Text) (s : Setting) → setting_among has w ≡ Some s → setting_among has (setting_bytes s) ≡ Some s
+pub among_named : (has : List Setting) (w : Text) (s : Setting) → setting_among has w ≡ Some s → setting_among has (setting_bytes s) ≡ Some s
 among_named has w s e = ap (setting_among has) (sym (spelt has e)) ∙ e
   where
     none_some : {X : Type 0} {x : X} → None ≡ Some x → ⊥

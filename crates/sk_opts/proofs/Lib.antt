@@ -9,3 +9,5 @@ pub mod ClapRows
 pub mod ClapWords
 pub mod ClapWalk
 pub mod ClapLaw
+pub mod ClapValues
+pub mod ClapReading
