@@ -19,14 +19,14 @@ use Rattle.sk_opts.specs.declared.words.Words.{Words}
 use Rattle.sk_opts.specs.Settings.{setting_bytes, lowest, highest, is_flag, setting_among, is_number, number_in, value_in, all_once, is_of}
 use Rattle.sk_opts.specs.CommandLine.{is_option}
 use Rattle.sk_opts.specs.Reader.{Piece, Ends, Names, Sets, Plain, Unknown, before_equals, after_equals, option_piece, piece_of, with_setting, with_positional, words_with, words_from, if_once, words_of}
-use Rattle.sk_opts.specs.Matching.{value_more, has_short_word, command_app, IsOptions, SameReading, words_with_settings, matched_words}
+use Rattle.sk_opts.specs.Matching.{has_short_word, command_app, IsOptions, SameReading, words_with_settings, matched_words}
 use Rattle.sk_opts.proofs.InRange.{same_setting}
 use Rattle.sk_opts.proofs.ClapRules.{built_rules, eq_turned, names_as}
 use Rattle.sk_opts.proofs.ClapRows.{Seen, Holds, text_of, seen_option, seen_word}
 use Rattle.sk_opts.proofs.ClapWords.{at}
 use Rattle.sk_opts.proofs.ClapWalk.{total, read_texts, read_piece, once_more, rows_at_end, Agree, among_named}
 use Rattle.sk_opts.proofs.ClapLaw.{fault_is, matches_are, nothing_seen, walk_agrees}
-use Rattle.sk_opts.proofs.ClapValues.{Texts, value_by, valued, AllRead, read_more, IsValued, once_if, matched_is_taken, words_read, same_values}
+use Rattle.sk_opts.proofs.ClapValues.{Texts, value_by, value_more, valued, AllRead, read_more, IsValued, once_if, matched_is_taken, words_read, same_values}
 
 none_some : {X : Type 0} {x : X} → None ≡ Some x → ⊥
 none_some e = cc

@@ -10,7 +10,7 @@ use Rattle.sk_opts.specs.declared.setting.Setting.{Setting}
 use Rattle.sk_opts.specs.declared.setting.Given.{Given}
 use Rattle.sk_opts.specs.declared.words.Words.{Words}
 use Rattle.sk_opts.specs.Settings.{setting_bytes, is_flag, setting_among, value_in, all_once, is_of, last_from, last_of}
-use Rattle.sk_opts.specs.Matching.{setting_name, value_more, matched_more, matched_settings, matched_positionals, SameWords, SameReading, words_with_settings}
+use Rattle.sk_opts.specs.Matching.{setting_name, flag_match, value_match, match_of, more_by, matched_settings, matched_positionals, SameWords, SameReading, words_with_settings}
 use Rattle.sk_opts.proofs.InRange.{same_setting}
 use Rattle.sk_opts.proofs.ClapRules.{built_as, built_option, built_rules, eq_turned, no_words, names_as, names_differ, same_name}
 use Rattle.sk_opts.proofs.ClapRows.{row_at, or_row, or_none, values_of, values_or, has_is, row_more, at_none, Seen, text_of, one_text, texts_or, if_any, Holds, first_is}
@@ -151,6 +151,9 @@ Texts = List (Setting × List ℕ)
 abbrev pub value_by : Setting → List ℕ → Option ℕ
 value_by s v = cond (is_flag s) (Some 0) (value_in s v)
 
+abbrev pub value_more : Setting → Option ℕ → Option (List Given) → Option (List Given)
+value_more s n more = more_by s (value_match n) more
+
 abbrev pub valued : Texts → Option (List Given)
 valued [] = Some []
 valued (g ∷ gs) = value_more g.0 (value_by g.0 g.1) (valued gs)
@@ -218,32 +221,24 @@ taken [] texts = Some []
 taken (s ∷ ss) texts = taken_more s (text_of s texts) (taken ss texts)
 
 more_as : (s : Setting) (o m : Option Text) (more : Option (List Given)) → ((v : Text) → o ≡ Some v → is_flag s ≡ true → v ≡ codes "true") → (is_flag s ≡ false → m ≡ None) → IsFalse m
-    → matched_more s (or_row o m) more ≡ taken_more s o more
+    → more_by s (match_of s (or_row o m)) more ≡ taken_more s o more
 more_as s None None more flag none is = refl
 more_as s None (Some w) more flag none is =
-    elim (is_flag s) as (λ b. is_flag s ≡ b → cond b (option_map (λ (gs : List Given). cond (bytes_eq w (codes "true")) (record { setting = s; value = 0 } ∷ gs) gs) more) (value_more s (value_in s w) more) ≡ more) [
-      | true ↦ λ e. ap (λ x. option_map (λ (gs : List Given). cond (bytes_eq x (codes "true")) (record { setting = s; value = 0 } ∷ gs) gs) more) is ∙ same more
+    elim (is_flag s) as (λ b. is_flag s ≡ b → more_by s (cond b (flag_match (bytes_eq w (codes "true"))) (value_match (value_in s w))) more ≡ more) [
+      | true ↦ λ e. ap (λ x. more_by s (flag_match (bytes_eq x (codes "true"))) more) is
       | false ↦ λ e. absurd (some_none (sym (none e)))
     ] refl
-  where
-    same : (o : Option (List Given)) → option_map (λ (gs : List Given). gs) o ≡ o
-    same None = refl
-    same (Some gs) = refl
 more_as s (Some v) m more flag none is =
-    elim (is_flag s) as (λ b. is_flag s ≡ b → cond b (option_map (λ (gs : List Given). cond (bytes_eq v (codes "true")) (record { setting = s; value = 0 } ∷ gs) gs) more) (value_more s (value_in s v) more) ≡ value_more s (cond b (Some 0) (value_in s v)) more) [
-      | true ↦ λ e. ap (λ x. option_map (λ (gs : List Given). cond (bytes_eq x (codes "true")) (record { setting = s; value = 0 } ∷ gs) gs) more) (flag v refl e) ∙ given more
+    elim (is_flag s) as (λ b. is_flag s ≡ b → more_by s (cond b (flag_match (bytes_eq v (codes "true"))) (value_match (value_in s v))) more ≡ value_more s (cond b (Some 0) (value_in s v)) more) [
+      | true ↦ λ e. ap (λ x. more_by s (flag_match (bytes_eq x (codes "true"))) more) (flag v refl e)
       | false ↦ λ e. refl
     ] refl
-  where
-    given : (o : Option (List Given)) → option_map (λ (gs : List Given). record { setting = s; value = 0 } ∷ gs) o ≡ value_more s (Some 0) o
-    given None = refl
-    given (Some gs) = refl
 
 pub matched_is_taken : (has all : List Setting) (seen : Seen) (rows : List Row) → Holds seen rows → AllRead all seen.texts
     → matched_settings has (fold with_default rows (built_rules all)) ≡ taken has seen.texts
 matched_is_taken [] all seen rows h k = refl
 matched_is_taken (s ∷ ss) all seen rows h k =
-    ap₂ (matched_more s) (first_read all seen rows s h) (matched_is_taken ss all seen rows h k)
+    ap₂ (λ o more. more_by s (match_of s o) more) (first_read all seen rows s h) (matched_is_taken ss all seen rows h k)
     ∙ more_as s (text_of s seen.texts) (missing_of all (setting_name s)) (taken ss seen.texts) (λ v e flag. flag_true all seen.texts s v k e flag) (missing_valued all s) (missing_false all (setting_name s))
 
 -- Both have the same values

@@ -1,6 +1,5 @@
 mod Computed
 pub mod Numbers
-pub mod WordByWord
 pub mod PragmaWords
 pub mod InRange
 pub mod LineLaws
@@ -11,3 +10,4 @@ pub mod ClapWalk
 pub mod ClapLaw
 pub mod ClapValues
 pub mod ClapReading
+pub mod SameLines

@@ -9,6 +9,8 @@ use Rattle.clap.specs.declared.builder.action.ArgAction.TheVariants.{Append, Set
 use Rattle.sk_opts.specs.declared.setting.Setting.{Setting}
 use Rattle.sk_opts.specs.declared.setting.Given.{Given}
 use Rattle.sk_opts.specs.declared.words.Words.{Words}
+use Rattle.sk_opts.specs.declared.matching.Matched.{Matched}
+use Rattle.sk_opts.specs.declared.matching.Matched.TheVariants.{Absent, Value, NoValue}
 use Rattle.sk_opts.specs.Settings.{setting_bytes, is_flag, of_bounds, of_synth, value_in, last_of}
 
 -- Commands
@@ -49,23 +51,29 @@ has_short_word (w ∷ ws) = if bytes_eq w (codes "--") then false else (is_short
 
 -- Matches
 
-abbrev pub flag_value : List ℕ → List Given → Setting → List Given
-flag_value text more s = if bytes_eq text (codes "true") then record { setting = s; value = 0 } ∷ more else more
+abbrev pub flag_match : Bool → Matched
+flag_match true = Value 0
+flag_match false = Absent
 
-abbrev pub value_more : Setting → Option ℕ → Option (List Given) → Option (List Given)
-value_more s None more = None
-value_more s (Some n) None = None
-value_more s (Some n) (Some gs) = Some (record { setting = s; value = n } ∷ gs)
+abbrev pub value_match : Option ℕ → Matched
+value_match None = NoValue
+value_match (Some n) = Value n
 
--- an option's text, in front of what the others give: none where it is no value of the option
-abbrev pub matched_more : Setting → Option (List ℕ) → Option (List Given) → Option (List Given)
-matched_more s None more = more
-matched_more s (Some text) more = if is_flag s then option_map (λ gs. flag_value text gs s) more else value_more s (value_in s text) more
+-- what an option's text in the matches says of it
+abbrev pub match_of : Setting → Option (List ℕ) → Matched
+match_of s None = Absent
+match_of s (Some text) = if is_flag s then flag_match (bytes_eq text (codes "true")) else value_match (value_in s text)
+
+-- an option, in front of what the others give: none where its text is no value of it
+abbrev pub more_by : Setting → Matched → Option (List Given) → Option (List Given)
+more_by s Absent more = more
+more_by s (Value n) more = option_map (λ gs. record { setting = s; value = n } ∷ gs) more
+more_by s NoValue more = None
 
 -- what the matches give these options, in their order
 abbrev pub matched_settings : List Setting → List Row → Option (List Given)
 matched_settings [] rows = Some []
-matched_settings (s ∷ ss) rows = matched_more s (first_of (setting_name s) rows) (matched_settings ss rows)
+matched_settings (s ∷ ss) rows = more_by s (match_of s (first_of (setting_name s) rows)) (matched_settings ss rows)
 
 abbrev pub matched_positionals : List Row → List (List ℕ)
 matched_positionals rows = unwrap_or (all_of (codes "words") rows) []

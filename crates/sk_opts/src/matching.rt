@@ -1,16 +1,28 @@
-//! The commands of `clap` with which words are read, and what its matches say.
-ghost use Rattle.std.specs.Prelude.{◌≡◌, false, IfOk};
+//! The commands of `clap` with which words are read, and what its matches say of an option.
+ghost use Rattle.std.specs.Prelude.{◌≡◌, false, option_map, codes, IfOk};
+ghost use Rattle.std.specs.Str.{bytes_eq};
 ghost use Rattle.clap.specs.Walk.{rule_of};
 ghost use Rattle.clap.specs.Simple.{app_of};
-ghost use Rattle.sk_opts.specs.Settings.{is_flag};
-ghost use Rattle.sk_opts.specs.Matching.{setting_name, setting_action as action_as, option_rule, words_rule, bare_app, command_app};
+ghost use Rattle.sk_opts.specs.Settings.{is_flag, value_in};
+ghost use Rattle.sk_opts.specs.Matching.{setting_name, setting_action as action_as, option_rule, words_rule, bare_app, command_app, flag_match, value_match, match_of};
 
-use crate::setting::{Setting, is_flag};
+use crate::setting::{Setting, is_flag, value_in};
 use clap::{Arg, ArgAction, Command};
 use std::alloc::{AllocError, Global};
 
+/// What the matches say of an option.
+#[derive(Debug, Drop, Clone, Copy, PartialEq, Eq)]
+pub enum Matched {
+    /// It was not given.
+    Absent,
+    /// It was given this value.
+    Value(u32),
+    /// It was given a text that is no value of it.
+    NoValue,
+}
+
 /// The name of an option, without its two minus signs.
-fn setting_name<'a>(setting: Setting) -> &'a str
+pub fn setting_name<'a>(setting: Setting) -> &'a str
     ensures { result.now ≡ setting_name setting }
 {
     match setting {
@@ -72,4 +84,39 @@ pub fn command_of<'a>(alloc: Global, has: &[Setting]) -> Result<Command<'a>, All
         rest = others;
     }
     command.arg(words_arg(alloc))
+}
+
+fn flag_match(text: &str) -> Matched
+    ensures { result ≡ flag_match (bytes_eq text.now (codes "true")) }
+{
+    if text == "true" {
+        Matched::Value(0)
+    } else {
+        Matched::Absent
+    }
+}
+
+fn value_match(setting: Setting, text: &str) -> Matched
+    ensures { result ≡ value_match (value_in setting text.now) }
+{
+    match value_in(setting, text.as_bytes()) {
+        None => Matched::NoValue,
+        Some(value) => Matched::Value(value),
+    }
+}
+
+/// What the text of an option in the matches says of it.
+pub fn match_of(setting: Setting, text: Option<&str>) -> Matched
+    ensures { result ≡ match_of setting (option_map (λ s. s.now) text) }
+{
+    match text {
+        None => Matched::Absent,
+        Some(text) => {
+            if is_flag(setting) {
+                flag_match(text)
+            } else {
+                value_match(setting, text)
+            }
+        }
+    }
 }
