@@ -173,6 +173,7 @@ reads_option has ws s v n seen next k among flag is =
     absent : (o : Option Text) → is_some o ≡ false → o ≡ None
     absent None e = refl
     absent (Some x) e = absurd (false_true (sym e))
+
     same : from_here has (seen_option s v seen) (words_from has None ws) ≡ from_here has seen (with_setting s n (words_from has None ws))
     same =
         ap (λ o. if_once (behind o seen.positionals (words_from has None ws))) (valued_more seen.texts s v ∙ ap (ended (valued seen.texts) s) is)
@@ -249,6 +250,7 @@ minus_first s c r e = elim (eqb c 61) as (λ b. bytes_eq (45 ∷ cond b [] (c �
     short Rounds = refl
     short Conflicts = refl
     short Certificate = refl
+
     other : (s : Setting) → bytes_eq (45 ∷ c ∷ before_equals r) (setting_bytes s) ≡ false
     other HoleBits = rw e refl
     other InputBits = rw e refl
@@ -335,6 +337,7 @@ short_none has (w ∷ ws) e m =
     at_short : (m : Option Setting) → IsShort w → words_from has m (w ∷ ws) ≡ None
     at_short None s = ap (λ p. words_with p w ws (λ x. words_from has x ws)) (short_piece has w s)
     at_short (Some t) s = ap (λ n. with_setting t n (words_from has None ws)) (no_value t w (short_option w s))
+
     later : (m : Option Setting) → bytes_eq w (codes "--") ≡ false → ((x : Option Setting) → words_from has x ws ≡ None) → words_from has m (w ∷ ws) ≡ None
     later None b next = piece_none has (piece_of has w) w ws (not_ends has w b) next
     later (Some t) b next = ap (with_setting t (value_in t w)) (next None) ∙ with_none t (value_in t w)
@@ -359,6 +362,7 @@ matched_read has ws o ns none = by_reading (read_texts has None nothing_seen ws)
   where
     rows : List Row
     rows = rows_at_end has (at nothing_held idle false) ws
+
     by_reading : (r : Option Seen) → Agree r (total has (at nothing_held idle false) ws) rows → Reads has r (words_of has ws) → SameReading (matched_words has (matches_of (command_app has) ws)) (words_of has ws)
     by_reading None a h = absurd (a (sym (fault_is has ws o) ∙ none))
     by_reading (Some seen) a h =

@@ -128,7 +128,7 @@ word_row : (w : Text) (rows : List Row) → values_of (row_at (codes "words") (u
 word_row w [] = refl
 word_row w (r ∷ rs) =
     elim (bytes_eq r.id (codes "words")) as (λ v. bytes_eq r.id (codes "words") ≡ v
-        → values_of (row_at (codes "words") (cond v (more_values CommandLine (w ∷ []) r ++ rs) (r ∷ used built_words (w ∷ []) rs))) ≡ Some (grown w (cond v (Some r) (row_at (codes "words") rs)))) [
+    → values_of (row_at (codes "words") (cond v (more_values CommandLine (w ∷ []) r ++ rs) (r ∷ used built_words (w ∷ []) rs))) ≡ Some (grown w (cond v (Some r) (row_at (codes "words") rs)))) [
       | true ↦ λ e. rw e refl
       | false ↦ λ e. rw e (word_row w rs)
     ] refl
@@ -137,7 +137,7 @@ other_row : (s : Setting) (w : Text) (rows : List Row) → row_at (setting_name 
 other_row s w [] = ap (λ b. cond b (Some (words_row w)) None) (words_differ s)
 other_row s w (r ∷ rs) =
     elim (bytes_eq r.id (codes "words")) as (λ v. bytes_eq r.id (codes "words") ≡ v
-        → row_at (setting_name s) (cond v (more_values CommandLine (w ∷ []) r ++ rs) (r ∷ used built_words (w ∷ []) rs)) ≡ cond (bytes_eq r.id (setting_name s)) (Some r) (row_at (setting_name s) rs)) [
+    → row_at (setting_name s) (cond v (more_values CommandLine (w ∷ []) r ++ rs) (r ∷ used built_words (w ∷ []) rs)) ≡ cond (bytes_eq r.id (setting_name s)) (Some r) (row_at (setting_name s) rs)) [
       | true ↦ λ e. let no : bytes_eq r.id (setting_name s) ≡ false = ap (λ i. bytes_eq i (setting_name s)) ((bytes_eq-Decides r.id (codes "words")).0 e) ∙ words_differ s in rw no refl
       | false ↦ λ e. ap (λ o. cond (bytes_eq r.id (setting_name s)) (Some r) o) (other_row s w rs)
     ] refl
@@ -175,6 +175,7 @@ first_is rows id o e = through (row_at id rows) ∙ ap (λ vs. option_and_then (
     through : (r : Option Row) → option_and_then (λ (x : Row). slice_get x.values 0) r ≡ option_and_then (λ l. slice_get l 0) (values_of r)
     through None = refl
     through (Some r) = refl
+
     back : (v : Option (List ℕ)) → option_and_then (λ l. slice_get l 0) (one_text v) ≡ v
     back None = refl
     back (Some v) = refl

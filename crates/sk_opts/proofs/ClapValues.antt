@@ -64,7 +64,7 @@ default_row : (rows : List Row) (name id : Text) (flag : Bool)
 default_row rows name id false = ap (λ rs. values_of (row_at id rs)) (same_rows (has_row name rows) rows) ∙ sym (or_none (values_of (row_at id rows)))
 default_row rows name id true =
     elim (has_row name rows) as (λ v. has_row name rows ≡ v
-        → values_of (row_at id (cond v rows (with_values name (reading_by (built_as name true)) DefaultValue (codes "false" ∷ []) rows))) ≡ or_row (values_of (row_at id rows)) (one_text (if_flag name id true))) [
+    → values_of (row_at id (cond v rows (with_values name (reading_by (built_as name true)) DefaultValue (codes "false" ∷ []) rows))) ≡ or_row (values_of (row_at id rows)) (one_text (if_flag name id true))) [
       | true ↦ λ e. elim (bytes_eq name id) as (λ v. bytes_eq name id ≡ v → values_of (row_at id rows) ≡ or_row (values_of (row_at id rows)) (one_text (cond v (Some (codes "false")) None))) [
         | true ↦ λ f. some_first (values_of (row_at id rows)) (Some (codes "false" ∷ []))
             (is_some_values (row_at id rows) ∙ ap (λ n. is_some (row_at n rows)) (sym ((bytes_eq-Decides name id).0 f)) ∙ sym (has_is name rows) ∙ e)
@@ -172,7 +172,8 @@ pub read_more : (has : List Setting) (texts : Texts) (s : Setting) (v : List ℕ
 read_more has [] s v k among flag none = (among, flag, refl, tt)
 read_more has (g ∷ gs) s v k among flag none =
     let other = text_when (bytes_eq (setting_name g.0) (setting_name s)) g.1 (text_of s gs) none in (
-      k.0, k.1,
+      k.0,
+      k.1,
       once (text_of g.0 (gs ++ (s, v) ∷ [])) (text_of g.0 gs) (bytes_eq (setting_name s) (setting_name g.0)) (more gs g.0) k.2 (eq_turned (setting_name s) (setting_name g.0) ∙ other.0),
       read_more has gs s v k.3 among flag other.1,
     )
@@ -184,6 +185,7 @@ read_more has (g ∷ gs) s v k among flag none =
           | true ↦ refl
           | false ↦ more xs t
         ]
+
     once : (o before : Option Text) (b : Bool) → o ≡ or_row before (cond b (Some v) None) → before ≡ None → b ≡ false → o ≡ None
     once o before b e f h = e ∙ ap₂ (λ x y. or_row x (cond y (Some v) None)) f h
 
@@ -349,7 +351,7 @@ taken_without : (t : Setting) (ss : List Setting) (texts : Texts) (gs : List Giv
 taken_without t ss texts gs none h = record {
   last = λ s.
       h.last s ∙ elim (bytes_eq (setting_bytes s) (setting_bytes t)) as (λ b. bytes_eq (setting_bytes s) (setting_bytes t) ≡ b
-          → cond (is_some (setting_among ss (setting_bytes s))) (value_of s texts) None ≡ cond (is_some (cond b (Some t) (setting_among ss (setting_bytes s)))) (value_of s texts) None) [
+      → cond (is_some (setting_among ss (setting_bytes s))) (value_of s texts) None ≡ cond (is_some (cond b (Some t) (setting_among ss (setting_bytes s)))) (value_of s texts) None) [
         | true ↦ λ b. let nothing = absent s b in ap (λ o. cond (is_some (setting_among ss (setting_bytes s))) o None) nothing ∙ both_none (is_some (setting_among ss (setting_bytes s))) ∙ sym nothing
         | false ↦ λ b. refl
       ] refl;
@@ -370,7 +372,7 @@ taken_with t ss texts v n gs found is h = record {
       last_is (cond (bytes_eq (setting_bytes s) (setting_bytes t)) (Some n) None) s gs
       ∙ ap (λ o. or_row o (cond (bytes_eq (setting_bytes s) (setting_bytes t)) (Some n) None)) (h.last s)
       ∙ elim (bytes_eq (setting_bytes s) (setting_bytes t)) as (λ b. bytes_eq (setting_bytes s) (setting_bytes t) ≡ b
-          → or_row (cond (is_some (setting_among ss (setting_bytes s))) (value_of s texts) None) (cond b (Some n) None) ≡ cond (is_some (cond b (Some t) (setting_among ss (setting_bytes s)))) (value_of s texts) None) [
+      → or_row (cond (is_some (setting_among ss (setting_bytes s))) (value_of s texts) None) (cond b (Some n) None) ≡ cond (is_some (cond b (Some t) (setting_among ss (setting_bytes s)))) (value_of s texts) None) [
         | true ↦ λ b. let value = here s b in ap (λ o. or_row (cond (is_some (setting_among ss (setting_bytes s))) o None) (Some n)) value ∙ either (is_some (setting_among ss (setting_bytes s))) ∙ sym value
         | false ↦ λ b. or_none (cond (is_some (setting_among ss (setting_bytes s))) (value_of s texts) None)
       ] refl;
@@ -383,6 +385,7 @@ taken_with t ss texts v n gs found is h = record {
   where
     here : (s : Setting) → bytes_eq (setting_bytes s) (setting_bytes t) ≡ true → value_of s texts ≡ Some n
     here s b = ap (λ x. value_of x texts) (same_setting s t b) ∙ ap (option_and_then (value_by t)) found ∙ is
+
     either : (b : Bool) → or_row (cond b (Some n) None) (Some n) ≡ Some n
     either true = refl
     either false = refl
@@ -398,6 +401,7 @@ taken_is (t ∷ ss) texts =
     without : (o : Option (List Given)) → text_of t texts ≡ None → Taken ss texts o → Taken (t ∷ ss) texts o
     without None e h = h
     without (Some gs) e h = taken_without t ss texts gs e h
+
     with : (v : List ℕ) → text_of t texts ≡ Some v → (n : Option ℕ) (o : Option (List Given)) → value_by t v ≡ n → Taken ss texts o → Taken (t ∷ ss) texts (value_more t n o)
     with v e None o is h = record { setting = t; text = v; found = e; bad = is }
     with v e (Some n) None is h = h
@@ -409,12 +413,16 @@ same_values has texts ps k = both (taken has texts) (valued texts) (taken_is has
     unread : (s : Setting) (o : Option (List ℕ)) → text_of s texts ≡ o → is_some (setting_among has (setting_bytes s)) ≡ false → None ≡ option_and_then (value_by s) o
     unread s None e none = refl
     unread s (Some v) e none = absurd (true_false (sym (ap is_some (read_among has texts s v k e)) ∙ none))
+
     both : (a b : Option (List Given)) → Taken has texts a → Valued texts b → SameReading (words_with_settings a ps) (words_with_settings b ps)
     both None None h v = tt
     both None (Some gs) h v = v.fits h.setting h.text h.found h.bad
     both (Some gs) None h v = h.fits v.setting v.text (ap is_some (read_among has texts v.setting v.text k v.found)) v.found v.bad
-    both (Some gs) (Some vs) h v = (refl, λ s.
-        h.last s ∙ elim (is_some (setting_among has (setting_bytes s))) as (λ b. is_some (setting_among has (setting_bytes s)) ≡ b → cond b (value_of s texts) None ≡ value_of s texts) [
-          | true ↦ λ e. refl
-          | false ↦ λ e. unread s (text_of s texts) refl e
-        ] refl ∙ sym (v.last s))
+    both (Some gs) (Some vs) h v = (
+      refl,
+      λ s.
+          h.last s ∙ elim (is_some (setting_among has (setting_bytes s))) as (λ b. is_some (setting_among has (setting_bytes s)) ≡ b → cond b (value_of s texts) None ≡ value_of s texts) [
+            | true ↦ λ e. refl
+            | false ↦ λ e. unread s (text_of s texts) refl e
+          ] refl ∙ sym (v.last s),
+    )

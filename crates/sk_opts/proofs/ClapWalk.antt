@@ -336,8 +336,10 @@ among_named has w s e = ap (setting_among has) (sym (spelt has e)) ∙ e
   where
     none_some : {X : Type 0} {x : X} → None ≡ Some x → ⊥
     none_some f = cc
+
     some_same : {X : Type 0} {x y : X} → Some x ≡ Some y → x ≡ y
     some_same f = cc
+
     spelt : (ss : List Setting) → setting_among ss w ≡ Some s → w ≡ setting_bytes s
     spelt [] f = absurd (none_some f)
     spelt (t ∷ ss) f =
@@ -429,9 +431,14 @@ waiting_agrees has w ws s seen waiting h wt o ns next =
     elim (is_some (text_of s seen.texts)) as (λ b. is_some (text_of s seen.texts) ≡ b → AgreeFrom has (cond b None (read_texts has None (seen_option s w seen) ws)) (at h waiting false) (w ∷ ws)) [
       | true ↦ λ e. agree_next has None (at h waiting false) (at taken idle false) w ws turn goes (fails_on has ws ns idle tt taken (λ f. conflicts (is_some (text_of s seen.texts)) e (sym fault ∙ f)))
       | false ↦ λ e. agree_next has (read_texts has None (seen_option s w seen) ws) (at h waiting false) (at taken idle false) w ws turn goes
-        (next None (seen_option s w seen) idle taken (tt, (fault ∙ no_conflict (is_some (text_of s seen.texts)) e,
-        subst (Holds (seen_option s w seen)) (sym (ap (λ a. used_by_id a (w ∷ []) wt.rows) (by_id has s wt.found) ∙ ap (λ f. used (built_as (setting_name s) f) (w ∷ []) wt.rows) wt.valued))
-        (once_held seen wt.rows s w (reading_by (built_as (setting_name s) false)) wt.holds e))))
+          (next None (seen_option s w seen) idle taken (
+            tt,
+            (
+              fault ∙ no_conflict (is_some (text_of s seen.texts)) e,
+              subst (Holds (seen_option s w seen)) (sym (ap (λ a. used_by_id a (w ∷ []) wt.rows) (by_id has s wt.found) ∙ ap (λ f. used (built_as (setting_name s) f) (w ∷ []) wt.rows) wt.valued))
+                  (once_held seen wt.rows s w (reading_by (built_as (setting_name s) false)) wt.holds e),
+            ),
+          ))
     ] refl
 
 -- All words
@@ -462,6 +469,7 @@ words_agree has (w ∷ ws) ns (Some s) seen waiting h wt = by_kind (words_agree 
   where
     refused : is_option w ≡ true → AgreeFrom has None (at h waiting false) (w ∷ ws) → AgreeFrom has (read_texts has (Some s) seen (w ∷ ws)) (at h waiting false) (w ∷ ws)
     refused is a = subst (λ b. AgreeFrom has (cond b None (once_more s w seen (on has ws None))) (at h waiting false) (w ∷ ws)) (sym is) a
+
     by_kind : (has_short_word ws ≡ false → Claim has ws) → Kind has w → AgreeFrom has (read_texts has (Some s) seen (w ∷ ws)) (at h waiting false) (w ∷ ws)
     by_kind next (EndsHere e) =
         refused (ends_option w e) (agree_next has None (at h waiting false) (at h waiting true) w ws (ends_turn has waiting w h e) (ends_walk has waiting w h e) (trail_fails has ws waiting h (waits_bad has s seen waiting h wt)))

@@ -29,8 +29,8 @@ after_is (b ∷ bs) =
     elim (eqb b 61) as (λ v. cond (v || has_byte 61 bs) (Some (drop (cond (not v) (1 + position_or_len (λ x. eqb x 61) bs) 0 + 1) (b ∷ bs))) None ≡ cond v (Some bs) (after_equals bs)) [
       | true ↦ refl
       | false ↦
-        let one : 1 + position_or_len (λ x. eqb x 61) bs + 1 ≡ suc (position_or_len (λ x. eqb x 61) bs + 1) = omega arith in
-        rw one (after_is bs)
+          let one : 1 + position_or_len (λ x. eqb x 61) bs + 1 ≡ suc (position_or_len (λ x. eqb x 61) bs + 1) = omega arith in
+          rw one (after_is bs)
     ]
 
 cut_is : (r : List ℕ) → name_and_value r ≡ (before_equals r, after_equals r)

@@ -11,3 +11,4 @@ pub mod ClapLaw
 pub mod ClapValues
 pub mod ClapReading
 pub mod SameLines
+pub mod ClapAnswers

@@ -107,7 +107,7 @@ fn value_match(setting: Setting, text: &str) -> Matched
 
 /// What the text of an option in the matches says of it.
 pub fn match_of(setting: Setting, text: Option<&str>) -> Matched
-    ensures { result ≡ match_of setting (option_map (λ s. s.now) text) }
+    ensures { result ≡ match_of setting (option_map (λ s. s.now) text.entry) }
 {
     match text {
         None => Matched::Absent,

@@ -3,9 +3,9 @@ ghost use Rattle.std.specs.Prelude.{◌≡◌, map, IfOk};
 ghost use Rattle.std.specs.String.{string_bytes};
 ghost use Rattle.clap.specs.Lexer.{is_short_word};
 ghost use Rattle.clap.specs.Matches.{found_of};
-ghost use Rattle.clap.specs.Walk.{rows_of};
+ghost use Rattle.clap.specs.Walk.{first_of, rows_of};
 ghost use Rattle.sk_opts.specs.Reader.{words_of};
-ghost use Rattle.sk_opts.specs.Matching.{has_short_word, matched_settings, matched_positionals, matched_words, SameReading, IsOptions};
+ghost use Rattle.sk_opts.specs.Matching.{setting_name, match_of, has_short_word, matched_settings, matched_positionals, matched_words, SameReading, IsOptions};
 ghost use Rattle.sk_opts.specs.Steps.{GoesOnBy};
 
 use crate::matching::{Matched, command_of, match_of, setting_name};
@@ -67,6 +67,24 @@ fn with_match(
     }
 }
 
+fn matched_option(matches: &ArgMatches<'_>, setting: Setting) -> Matched
+    ensures { result ≡ match_of setting (first_of (setting_name setting) (rows_of (found_of matches.now))) }
+{
+    match_of(setting, matches.get_str(setting_name(setting)))
+}
+
+// One more option, with what the matches say of it.
+fn with_option(
+    settings: List<Given>,
+    setting: Setting,
+    matches: &ArgMatches<'_>,
+) -> Result<Option<List<Given>>, AllocError>
+    ensures { IfOk result (GoesOnBy settings setting (match_of setting (first_of (setting_name setting) (rows_of (found_of matches.now))))) }
+{
+    let matched = matched_option(matches, setting);
+    Ok(with_match(settings, setting, matched)?)
+}
+
 // What the matches give these options; none where a text is no value of its option.
 fn matched_settings(
     alloc: Global,
@@ -78,8 +96,7 @@ fn matched_settings(
     let mut settings = List::new(alloc);
     let mut rest = has;
     while let [setting, others @ ..] = rest {
-        let matched = match_of(*setting, matches.get_str(setting_name(*setting)));
-        match with_match(settings, *setting, matched)? {
+        match with_option(settings, *setting, matches)? {
             None => return Ok(None),
             Some(more) => settings = more,
         }
@@ -100,10 +117,7 @@ fn names_of(alloc: Global, words: &[&str]) -> Result<List<Name>, AllocError>
     Ok(names)
 }
 
-fn matched_positionals(
-    alloc: Global,
-    matches: &ArgMatches<'_>,
-) -> Result<List<Name>, AllocError>
+fn matched_positionals(alloc: Global, matches: &ArgMatches<'_>) -> Result<List<Name>, AllocError>
     ensures { IfOk result (λ names. names ≡ matched_positionals (rows_of (found_of matches.now))) }
 {
     match matches.get_strs("words") {
