@@ -1,7 +1,7 @@
 -- What a parse of `clap` answers, as the code that reads words meets it.
-use Rattle.std.proofs.Common.{◌≡◌, ◌⊎◌, inl, inr, Bool, true, false, List, [], ◌∷◌, Option, Some, None, map, refl, sym, ap, ◌∙◌, subst, codes}
+use Rattle.std.proofs.Common.{◌≡◌, inl, inr, true, false, List, [], Option, None, refl, sym, ap, ◌∙◌, subst, codes}
 use Rattle.std.specs.Option.{option_map, unwrap_or}
-use Rattle.clap.specs.Kinds.{Kinds, HasKind, IsAmong}
+use Rattle.clap.specs.Kinds.{HasKind, IsAmong}
 use Rattle.clap.specs.Faults.{fault_of, is_simple_and_free}
 use Rattle.clap.specs.Matches.{found_of, matched_of, raw_values}
 use Rattle.clap.specs.Simple.{HasMatchesOf, app_of, is_simple, matches_of}
@@ -18,7 +18,7 @@ use Rattle.sk_opts.specs.declared.words.Words.{Words}
 use Rattle.sk_opts.specs.Reader.{words_of}
 use Rattle.sk_opts.specs.Matching.{has_short_word, command_app, matched_positionals, matched_words, SameReading, IsOptions, NoOptions, BoundsOptions, SynthOptions}
 use Rattle.sk_opts.proofs.ClapRules.{simple_is}
-use Rattle.sk_opts.proofs.ClapReading.{short_words, faulty_words, matched_read}
+use Rattle.sk_opts.proofs.ClapReading.{faulty_words, matched_read}
 
 pub positionals_given : (f : Found) (o : Option (List Text)) → o ≡ option_map raw_values (matched_of f (codes "words")) → unwrap_or o [] ≡ matched_positionals (rows_of f)
 positionals_given f o e = ap (λ x. unwrap_or x []) (e ∙ raw_values-rows f (codes "words"))

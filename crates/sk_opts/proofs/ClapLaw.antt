@@ -1,15 +1,15 @@
 -- What `clap` finds wrong in words, and what its matches hold, is what reading the words as texts comes to.
-use Rattle.std.proofs.Common.{◌≡◌, ◌⊎◌, inl, inr, ℕ, Bool, true, false, not, ◌&&◌, ◌||◌, cond, List, [], ◌∷◌, ◌++◌, Option, Some, None, is_some, refl, sym, ap, ◌∙◌, subst, codes}
+use Rattle.std.proofs.Common.{◌≡◌, Bool, true, false, not, ◌&&◌, ◌||◌, cond, List, [], ◌∷◌, None, refl, ap, ◌∙◌, codes}
 use Rattle.std.specs.List.{list_any}
 use Rattle.clap.specs.Kinds.{Kinds, or_else}
-use Rattle.clap.specs.Walk.{Row, Rule, Text, idle, finished, has_row, nothing_held, settled, walk, with_default}
+use Rattle.clap.specs.Walk.{Row, Text, idle, finished, has_row, nothing_held, settled, walk, with_default}
 use Rattle.clap.specs.Simple.{matches_of}
 use Rattle.clap.specs.Takes.{is_given}
 use Rattle.clap.specs.Faults.{built_fault, check_fault, default_fault, defaults_fault, fault_of, level_fault, settle_fault, walk_fault}
 use Rattle.clap.specs.declared.error.kind.ErrorKind.TheVariants.{MissingRequiredArgument}
 use Rattle.clap.proofs.FaultLemmas.{leaf_fault}
 use Rattle.sk_opts.specs.declared.setting.Setting.{Setting}
-use Rattle.sk_opts.specs.Settings.{setting_bytes, is_flag}
+use Rattle.sk_opts.specs.Settings.{is_flag}
 use Rattle.sk_opts.specs.Matching.{setting_name, has_short_word, command_app, IsOptions, NoOptions, BoundsOptions, SynthOptions}
 use Rattle.sk_opts.proofs.ClapRules.{built_as, built_rules, built_shape}
 use Rattle.sk_opts.proofs.ClapRows.{Seen}

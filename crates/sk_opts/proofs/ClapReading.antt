@@ -1,12 +1,10 @@
 -- What words say by the matches of `clap` is what reading them one after the other finds.
-use Rattle.std.proofs.Common.{◌≡◌, ℕ, Bool, true, false, not, ◌&&◌, ◌||◌, cond, eqb, List, [], ◌∷◌, ◌++◌, length, Option, Some, None, is_some, refl, sym, ap, ap₂, ◌∙◌, subst, codes, append_assoc, append-nil}
+use Rattle.std.proofs.Common.{◌≡◌, ℕ, Bool, true, false, ◌&&◌, ◌||◌, cond, eqb, List, [], ◌∷◌, ◌++◌, length, Option, Some, None, is_some, refl, sym, ap, ap₂, ◌∙◌, subst, codes, append_assoc, append-nil}
 use Rattle.std.specs.Prelude.{nat_le}
-use Rattle.std.specs.List.{fold, list_all, list_any}
+use Rattle.std.specs.List.{fold, list_any}
 use Rattle.std.specs.Str.{bytes_eq}
 use Rattle.std.proofs.lemmas.Bool.{eqb-true}
-use Rattle.std.proofs.lemmas.Slice.Eq.{bytes_eq-Decides}
 use Rattle.clap.specs.Lexer.{is_short_word}
-use Rattle.clap.specs.Kinds.{Kinds}
 use Rattle.clap.specs.Walk.{Row, Text, idle, nothing_held, with_default}
 use Rattle.clap.specs.Simple.{matches_of}
 use Rattle.clap.specs.Faults.{fault_of}
@@ -20,13 +18,12 @@ use Rattle.sk_opts.specs.Settings.{setting_bytes, lowest, highest, is_flag, sett
 use Rattle.sk_opts.specs.CommandLine.{is_option}
 use Rattle.sk_opts.specs.Reader.{Piece, Ends, Names, Sets, Plain, Unknown, before_equals, after_equals, option_piece, piece_of, with_setting, with_positional, words_with, words_from, if_once, words_of}
 use Rattle.sk_opts.specs.Matching.{has_short_word, command_app, IsOptions, SameReading, words_with_settings, matched_words}
-use Rattle.sk_opts.proofs.InRange.{same_setting}
-use Rattle.sk_opts.proofs.ClapRules.{built_rules, eq_turned, names_as}
-use Rattle.sk_opts.proofs.ClapRows.{Seen, Holds, text_of, seen_option, seen_word}
+use Rattle.sk_opts.proofs.ClapRules.{built_rules, eq_turned}
+use Rattle.sk_opts.proofs.ClapRows.{Seen, text_of, seen_option, seen_word}
 use Rattle.sk_opts.proofs.ClapWords.{at}
 use Rattle.sk_opts.proofs.ClapWalk.{total, read_texts, read_piece, once_more, rows_at_end, Agree, among_named}
 use Rattle.sk_opts.proofs.ClapLaw.{fault_is, matches_are, nothing_seen, walk_agrees}
-use Rattle.sk_opts.proofs.ClapValues.{Texts, value_by, value_more, valued, AllRead, read_more, IsValued, once_if, matched_is_taken, words_read, same_values}
+use Rattle.sk_opts.proofs.ClapValues.{Texts, value_by, value_more, valued, AllRead, read_more, once_if, matched_is_taken, words_read, same_values}
 
 none_some : {X : Type 0} {x : X} → None ≡ Some x → ⊥
 none_some e = cc

@@ -1,16 +1,14 @@
 -- What the rows of `clap`'s matches hold, after each use of an argument.
-use Rattle.std.proofs.Common.{◌≡◌, ℕ, zero, suc, Bool, true, false, not, ◌&&◌, ◌||◌, cond, List, [], ◌∷◌, ◌++◌, Option, Some, None, is_some, refl, sym, ap, ◌∙◌, subst, codes, append-nil}
+use Rattle.std.proofs.Common.{◌≡◌, ℕ, Bool, true, false, ◌||◌, cond, List, [], ◌∷◌, ◌++◌, Option, Some, None, is_some, refl, sym, ap, ◌∙◌, codes}
 use Rattle.std.specs.List.{find, slice_get}
 use Rattle.std.specs.Option.{option_map, option_and_then, unwrap_or}
 use Rattle.std.specs.Str.{bytes_eq}
 use Rattle.std.proofs.lemmas.Slice.Eq.{bytes_eq-Decides}
-use Rattle.clap.specs.Walk.{Row, Rule, Text, at_row, has_row, first_of, all_of, more_values, reading_by, used, with_values}
-use Rattle.clap.specs.declared.parser.matches.ValueSource.{ValueSource}
+use Rattle.clap.specs.Walk.{Row, Text, at_row, has_row, first_of, more_values, reading_by, used}
 use Rattle.clap.specs.declared.parser.matches.ValueSource.TheVariants.{CommandLine}
 use Rattle.sk_opts.specs.declared.setting.Setting.{Setting}
-use Rattle.sk_opts.specs.Settings.{setting_bytes, is_flag}
 use Rattle.sk_opts.specs.Matching.{setting_name, matched_positionals}
-use Rattle.sk_opts.proofs.ClapRules.{built_as, built_option, built_words, no_words, words_differ, same_name}
+use Rattle.sk_opts.proofs.ClapRules.{built_words, no_words, words_differ}
 
 -- Rows by their names
 

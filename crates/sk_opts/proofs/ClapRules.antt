@@ -1,16 +1,14 @@
 -- The arguments of a command of `clap`, once it is built, and how they are found by name.
-use Rattle.std.proofs.Common.{◌≡◌, ℕ, suc, ◌+◌, Bool, true, false, not, ◌&&◌, ◌||◌, cond, eqb, List, [], ◌∷◌, ◌++◌, map, drop, Option, Some, None, is_some, refl, sym, ap, ◌∙◌, subst, codes}
-use Rattle.std.specs.List.{find}
-use Rattle.std.specs.Option.{option_map, option_map_or}
+use Rattle.std.proofs.Common.{◌≡◌, ℕ, Bool, true, false, ◌||◌, cond, List, [], ◌∷◌, Option, Some, None, refl, sym, ap, ◌∙◌, codes}
 use Rattle.std.specs.Str.{bytes_eq}
 use Rattle.std.proofs.lemmas.Slice.Eq.{bytes_eq-Decides}
-use Rattle.clap.specs.Walk.{Rule, has_long, arg_by_id, arg_by_index, arg_by_long, takes_values}
-use Rattle.clap.specs.Simple.{App, Shape, built, filled, new_rule, with_index}
+use Rattle.clap.specs.Walk.{Rule, arg_by_id, arg_by_index, arg_by_long}
+use Rattle.clap.specs.Simple.{Shape, built, filled, new_rule, with_index}
 use Rattle.clap.specs.Faults.{is_simple_and_free}
 use Rattle.sk_opts.specs.declared.setting.Setting.{Setting}
 use Rattle.sk_opts.specs.declared.setting.Setting.TheVariants.{HoleBits, InputBits, Turns, Calls, IntBits, Rounds, Conflicts, Certificate}
-use Rattle.sk_opts.specs.Settings.{setting_bytes, is_flag, of_bounds, of_synth, setting_among}
-use Rattle.sk_opts.specs.Matching.{setting_name, setting_action, option_rule, words_rule, command_app, IsOptions, NoOptions, BoundsOptions, SynthOptions}
+use Rattle.sk_opts.specs.Settings.{setting_bytes, is_flag, setting_among}
+use Rattle.sk_opts.specs.Matching.{setting_name, setting_action, words_rule, command_app, IsOptions, NoOptions, BoundsOptions, SynthOptions}
 use Rattle.sk_opts.proofs.InRange.{same_setting}
 
 -- Texts

@@ -1,16 +1,15 @@
 -- The values of options that were read as texts, and what the matches give of them.
 use Rattle.std.proofs.Common.{◌≡◌, ℕ, Bool, true, false, ◌||◌, cond, List, [], ◌∷◌, ◌++◌, Option, Some, None, is_some, refl, sym, ap, ap₂, ◌∙◌, subst, codes}
 use Rattle.std.specs.List.{fold, list_any}
-use Rattle.std.specs.Option.{option_map, option_and_then, unwrap_or}
+use Rattle.std.specs.Option.{option_and_then, unwrap_or}
 use Rattle.std.specs.Str.{bytes_eq}
 use Rattle.std.proofs.lemmas.Slice.Eq.{bytes_eq-Decides}
 use Rattle.clap.specs.Walk.{Row, Text, first_of, has_row, more_values, reading_by, with_default, with_values}
 use Rattle.clap.specs.declared.parser.matches.ValueSource.TheVariants.{DefaultValue}
 use Rattle.sk_opts.specs.declared.setting.Setting.{Setting}
 use Rattle.sk_opts.specs.declared.setting.Given.{Given}
-use Rattle.sk_opts.specs.declared.words.Words.{Words}
 use Rattle.sk_opts.specs.Settings.{setting_bytes, is_flag, setting_among, value_in, all_once, is_of, last_from, last_of}
-use Rattle.sk_opts.specs.Matching.{setting_name, flag_match, value_match, match_of, more_by, matched_settings, matched_positionals, SameWords, SameReading, words_with_settings}
+use Rattle.sk_opts.specs.Matching.{setting_name, flag_match, value_match, match_of, more_by, matched_settings, matched_positionals, SameReading, words_with_settings}
 use Rattle.sk_opts.proofs.InRange.{same_setting}
 use Rattle.sk_opts.proofs.ClapRules.{built_as, built_option, built_rules, eq_turned, no_words, names_as, names_differ, same_name}
 use Rattle.sk_opts.proofs.ClapRows.{row_at, or_row, or_none, values_of, values_or, has_is, row_more, at_none, Seen, text_of, one_text, texts_or, if_any, Holds, first_is}

@@ -1,13 +1,13 @@
 -- The walk of `clap` over words, beside a reading of the same words.
-use Rattle.std.proofs.Common.{◌≡◌, ◌⊎◌, inl, inr, ℕ, zero, suc, ◌+◌, Bool, true, false, not, ◌&&◌, ◌||◌, cond, ltb, List, [], ◌∷◌, ◌++◌, Option, Some, None, is_some, refl, sym, ap, ap₂, ◌∙◌, subst, codes, append_assoc, append-nil}
-use Rattle.std.specs.List.{fold, find}
+use Rattle.std.proofs.Common.{◌≡◌, ℕ, Bool, true, false, ◌&&◌, ◌||◌, cond, ltb, List, [], ◌∷◌, ◌++◌, Option, Some, None, is_some, refl, sym, ap, ap₂, ◌∙◌, subst, codes, append_assoc, append-nil}
+use Rattle.std.specs.List.{fold}
 use Rattle.std.specs.Option.{option_map_or}
 use Rattle.std.specs.Str.{bytes_eq}
 use Rattle.std.proofs.lemmas.Slice.Eq.{bytes_eq-Decides}
 use Rattle.clap.specs.Lexer.{is_short_word, long_of, short_of}
 use Rattle.clap.specs.Kinds.{Kinds, or_else}
-use Rattle.clap.specs.Walk.{Held, Rule, Row, Text, Waiting, idle, option, positional, Walk, Step, after_flag, after_step, arg_by_id, arg_by_index, has_row, is_pending, long_met, more_values, nothing_held, option_word, positional_held, pushed, reacted, reading_by, settled, settled_rows, short_or_plain, to_positional, used, used_by_id, walk_from, walked, with_values, without}
-use Rattle.clap.specs.Faults.{bundle_fault, long_fault, positional_fault, react_fault, settle_fault, step_fault, stray_fault, turn_fault, use_fault, walk_fault}
+use Rattle.clap.specs.Walk.{Held, Rule, Row, Text, Waiting, idle, option, positional, Walk, Step, after_flag, after_step, has_row, is_pending, long_met, more_values, option_word, positional_held, pushed, reacted, reading_by, settled, short_or_plain, to_positional, used, used_by_id, walked, with_values, without}
+use Rattle.clap.specs.Faults.{bundle_fault, long_fault, positional_fault, settle_fault, step_fault, stray_fault, turn_fault, use_fault, walk_fault}
 use Rattle.clap.specs.declared.error.kind.ErrorKind.TheVariants.{ArgumentConflict}
 use Rattle.clap.specs.declared.builder.value_parser.Reading.{Reading}
 use Rattle.clap.specs.declared.parser.matches.ValueSource.TheVariants.{CommandLine}

@@ -1,17 +1,17 @@
 -- One word, as `clap` takes it and as our reading does.
-use Rattle.std.proofs.Common.{◌≡◌, ℕ, zero, suc, ◌+◌, Bool, true, false, not, ◌&&◌, ◌||◌, cond, eqb, List, [], ◌∷◌, ◌++◌, take, drop, Option, Some, None, is_some, refl, sym, ap, ap₂, ◌∙◌, subst, codes, arith}
-use Rattle.std.specs.List.{position_or_len, prefix_len, before_first, after_first}
+use Rattle.std.proofs.Common.{◌≡◌, ℕ, suc, ◌+◌, Bool, true, false, not, ◌||◌, cond, eqb, List, [], ◌∷◌, take, drop, Option, Some, None, refl, sym, ap, ap₂, subst, codes, arith}
+use Rattle.std.specs.List.{position_or_len, before_first, after_first}
 use Rattle.std.specs.Str.{bytes_eq}
 use Rattle.std.proofs.lemmas.Bool.{eqb-true}
 use Rattle.clap.specs.Lexer.{has_byte, name_and_value, long_of, is_short_word}
 use Rattle.clap.specs.Kinds.{Kinds, or_else}
-use Rattle.clap.specs.Walk.{Held, Rule, Text, Waiting, idle, option, positional, Walk, Step, Outcome, arg_by_index, arg_by_long, after_flag, after_step, long_met, long_or_other, settled, walked, trailing, value}
-use Rattle.clap.specs.Faults.{flag_word_fault, long_fault, step_fault, turn_fault}
+use Rattle.clap.specs.Walk.{Held, Text, Waiting, idle, option, positional, Walk, Step, after_step, long_or_other, walked, trailing}
+use Rattle.clap.specs.Faults.{flag_word_fault, step_fault, turn_fault}
 use Rattle.sk_opts.specs.declared.setting.Setting.{Setting}
-use Rattle.sk_opts.specs.Settings.{setting_bytes, is_flag, setting_among}
+use Rattle.sk_opts.specs.Settings.{setting_among}
 use Rattle.sk_opts.specs.CommandLine.{is_option}
-use Rattle.sk_opts.specs.Reader.{Piece, Ends, Names, Sets, Plain, Unknown, before_equals, after_equals, option_piece, piece_of}
-use Rattle.sk_opts.proofs.ClapRules.{built_rules, built_shape, built_option, rule_if, by_index, by_long}
+use Rattle.sk_opts.specs.Reader.{Plain, before_equals, after_equals, option_piece, piece_of}
+use Rattle.sk_opts.proofs.ClapRules.{built_rules, built_shape}
 
 -- A word, cut at its first `=`
 

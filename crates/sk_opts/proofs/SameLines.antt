@@ -1,12 +1,8 @@
 -- Two readings that say the same give the same line.
-use Rattle.std.proofs.Common.{◌≡◌, Option, Some, None, is_some, unwrap_or, refl, sym, ap, ap₂, ◌∙◌}
-use Rattle.sk_base.specs.declared.bounds.Budget.{Budget}
-use Rattle.sk_opts.specs.declared.line.Set.{Set}
+use Rattle.std.proofs.Common.{◌≡◌, Option, Some, None, is_some, unwrap_or, refl, ap, ap₂}
 use Rattle.sk_opts.specs.declared.line.Line.TheVariants as line
-use Rattle.sk_opts.specs.declared.setting.Setting.{Setting}
 use Rattle.sk_opts.specs.declared.setting.Setting.TheVariants.{HoleBits, InputBits, Turns, Calls, IntBits, Rounds, Conflicts, Certificate}
 use Rattle.sk_opts.specs.declared.words.Words.{Words}
-use Rattle.sk_opts.specs.Settings.{last_of}
 use Rattle.sk_opts.specs.CommandLine.{set_of, budget_of}
 use Rattle.sk_opts.specs.Reader.{if_none, synth_line, exec_with, exec_line, check_line, self_with, self_line}
 use Rattle.sk_opts.specs.Matching.{SameWords, SameReading}
