@@ -8,3 +8,4 @@ pub mod Told
 pub mod Steps
 pub mod Laws
 pub mod Examples
+pub mod Matching

@@ -7,6 +7,7 @@ pub mod laws;
 mod limits;
 mod line;
 mod lines;
+mod matching;
 mod number;
 mod pragmas;
 mod setting;

@@ -1,9 +1,9 @@
 //! The line that words spell.
-ghost use Rattle.std.specs.Prelude.{◌≡◌, ◌∷◌, ℕ, Some, None, map, unwrap_or, IfOk, IfErr, if◌then◌else◌};
+ghost use Rattle.std.specs.Prelude.{◌≡◌, [], ◌∷◌, ℕ, Some, None, map, unwrap_or, IfOk, IfErr, if◌then◌else◌};
 ghost use Rattle.std.specs.String.{string_bytes};
-ghost use Rattle.sk_opts.specs.Settings.{is_of, last_of};
+ghost use Rattle.sk_opts.specs.Settings.{is_of, last_of, of_bounds, of_synth};
 ghost use Rattle.sk_opts.specs.CommandLine.{set_of, budget_of, IsLine};
-ghost use Rattle.sk_opts.specs.Reader.{if_none, synth_line, exec_with, exec_line, check_line, self_with, self_line, line_of};
+ghost use Rattle.sk_opts.specs.Reader.{if_none, synth_line, exec_with, exec_line, check_line, self_with, self_line, words_of, line_of};
 ghost use Rattle.sk_opts.specs.Ranges.{LineIsInRanges};
 ghost use Rattle.sk_opts.specs.Told.{IsTold};
 ghost use Rattle.sk_opts.specs.declared.line.Line.{Line};
@@ -176,6 +176,34 @@ fn self_line(words: Option<Words>) -> Option<Line>
     }
 }
 
+#[tactic(auto, using(crate::proofs::SameLines::synth_same))]
+fn synth_of(alloc: Global, words: &[String]) -> Result<Option<Line>, AllocError>
+    ensures { IfOk result (λ line. line ≡ synth_line (words_of of_synth (map string_bytes words.now))) }
+{
+    Ok(synth_line(words_of(alloc, &OF_SYNTH, words)?))
+}
+
+#[tactic(auto, using(crate::proofs::SameLines::exec_same))]
+fn exec_of(alloc: Global, words: &[String]) -> Result<Option<Line>, AllocError>
+    ensures { IfOk result (λ line. line ≡ exec_line (words_of of_bounds (map string_bytes words.now))) }
+{
+    Ok(exec_line(words_of(alloc, &OF_BOUNDS, words)?))
+}
+
+#[tactic(auto, using(crate::proofs::SameLines::check_same))]
+fn check_of(alloc: Global, words: &[String]) -> Result<Option<Line>, AllocError>
+    ensures { IfOk result (λ line. line ≡ check_line (words_of of_bounds (map string_bytes words.now))) }
+{
+    Ok(check_line(words_of(alloc, &OF_BOUNDS, words)?))
+}
+
+#[tactic(auto, using(crate::proofs::SameLines::self_same))]
+fn self_of(alloc: Global, words: &[String]) -> Result<Option<Line>, AllocError>
+    ensures { IfOk result (λ line. line ≡ self_line (words_of [] (map string_bytes words.now))) }
+{
+    Ok(self_line(words_of(alloc, &[], words)?))
+}
+
 // A line that is one word alone.
 fn alone(words: &[String], line: Line) -> Option<Line>
     ensures { result ≡ if_none (map string_bytes words.now) line }
@@ -192,13 +220,13 @@ fn line_behind(alloc: Global, command: &[u8], words: &[String]) -> Result<Option
     ensures { IfOk result (λ line. line ≡ line_of (command.now ∷ map string_bytes words.now)) }
 {
     if command == b"synth".as_slice() {
-        Ok(synth_line(words_of(alloc, &OF_SYNTH, words)?))
+        Ok(synth_of(alloc, words)?)
     } else if command == b"exec".as_slice() {
-        Ok(exec_line(words_of(alloc, &OF_BOUNDS, words)?))
+        Ok(exec_of(alloc, words)?)
     } else if command == b"check".as_slice() {
-        Ok(check_line(words_of(alloc, &OF_BOUNDS, words)?))
+        Ok(check_of(alloc, words)?)
     } else if command == b"self".as_slice() {
-        Ok(self_line(words_of(alloc, &[], words)?))
+        Ok(self_of(alloc, words)?)
     } else if command == b"--help".as_slice() {
         Ok(alone(words, Line::Help))
     } else if command == b"--version".as_slice() {

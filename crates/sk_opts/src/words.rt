@@ -1,243 +1,47 @@
-//! The words behind a command: options and positionals.
-ghost use Rattle.std.specs.Prelude.{◌≡◌, ◌≤◌, List, [], Some, None, map, length, IfOk, MatchOption};
-ghost use Rattle.std.specs.List.{list_any, prefix_len};
+//! The words behind a command, read by `clap`: options and positionals.
+ghost use Rattle.std.specs.Prelude.{◌≡◌, map, IfOk};
 ghost use Rattle.std.specs.String.{string_bytes};
-ghost use Rattle.sk_opts.specs.Settings.{setting_among, all_once, is_of};
-ghost use Rattle.sk_opts.specs.CommandLine.{is_option};
-ghost use Rattle.sk_opts.specs.Reader.{before_equals, after_equals, piece_of, option_piece, words_of, words_from, if_once};
-ghost use Rattle.sk_opts.specs.Steps.{is_unequal, as_word, whole, whole_if, more_settings, more_positionals, GoesOn, GoesOnByName, GoesOnByValue};
-ghost use Rattle.sk_opts.specs.declared.setting.Setting.{Setting};
+ghost use Rattle.clap.specs.Lexer.{is_short_word};
+ghost use Rattle.clap.specs.Matches.{found_of};
+ghost use Rattle.clap.specs.Walk.{first_of, rows_of};
+ghost use Rattle.sk_opts.specs.Reader.{words_of};
+ghost use Rattle.sk_opts.specs.Matching.{setting_name, match_of, has_short_word, matched_settings, matched_positionals, matched_words, SameReading, IsOptions};
+ghost use Rattle.sk_opts.specs.Steps.{GoesOnBy};
 
-use crate::setting::{Given, Setting, is_flag, setting_among, setting_bytes, value_in};
+use crate::matching::{Matched, command_of, match_of, setting_name};
+use crate::setting::{Given, Setting};
+use clap::ArgMatches;
+use clap::error::ErrorKind;
 use sk_base::{List, Name};
 use std::alloc::{AllocError, Global};
 
-/// The settings and the positionals of words, each in order.
+/// The settings and the positionals of words.
 #[derive(Debug, Drop)]
 pub struct Words {
     pub settings: List<Given>,
     pub positionals: List<Name>,
 }
 
-/// How the next word is read: as any word, as the value of an option, or as a positional.
-#[derive(Debug, Drop, Clone, Copy, PartialEq, Eq)]
-pub enum Mode {
-    Free,
-    Waiting(Setting),
-    Ended,
-}
-
-/// What a word is before `--`, with the value that it gives.
-#[derive(Debug, Drop, Clone, Copy, PartialEq, Eq)]
-pub enum Word {
-    Ends,
-    Names(Setting),
-    Sets(Setting, Option<u32>),
-    Plain,
-    Unknown,
-}
-
-/// What was read so far, and how the next word is read.
-#[derive(Debug, Drop)]
-pub struct Reading {
-    pub words: Words,
-    pub mode: Mode,
-}
-
-fn unequal_len(word: &[u8]) -> usize
-    ensures within { result ≤ length word.now }
-    ensures run { result ≡ prefix_len is_unequal word.now }
-{
-    word.iter().take_while(|b| **b != b'=').count()
-}
-
-fn before_equals(word: &[u8]) -> &[u8]
-    ensures { result.now ≡ before_equals word.now }
-{
-    let len = unequal_len(word);
-    &word[..len]
-}
-
-fn after_equals(word: &[u8]) -> Option<&[u8]>
-    ensures { MatchOption result (after_equals word.now ≡ None) (λ value. after_equals word.now ≡ Some value.now) }
-{
-    let mut rest = word;
-    while let [b, after @ ..] = rest {
-        if *b == b'=' {
-            return Some(after);
-        }
-        rest = after;
-    }
-    None
-}
-
-fn is_option(word: &[u8]) -> bool
-    ensures { result ≡ is_option word.now }
+// One minus sign, and another byte behind it.
+fn is_short_word(word: &[u8]) -> bool
+    ensures { result ≡ is_short_word word.now }
 {
     match word {
-        [b, _, ..] => *b == b'-',
+        [first, second, ..] => *first == b'-' && *second != b'-',
         _ => false,
     }
 }
 
-fn option_word(has: &[Setting], word: &[u8]) -> Word
-    ensures { result ≡ as_word (option_piece (setting_among has.now (before_equals word.now)) (after_equals word.now)) }
+// Whether a word `-x` stands before `--`. No option has a name of one letter.
+fn has_short_word(words: &[String]) -> bool
+    ensures { result ≡ has_short_word (map string_bytes words.now) }
 {
-    match setting_among(has, before_equals(word)) {
-        None => Word::Unknown,
-        Some(setting) => match after_equals(word) {
-            None => Word::Names(setting),
-            Some(value) => Word::Sets(setting, value_in(setting, value)),
-        },
-    }
-}
-
-fn word_of(has: &[Setting], word: &[u8]) -> Word
-    ensures { result ≡ as_word (piece_of has.now word.now) }
-{
-    if word == b"--".as_slice() {
-        Word::Ends
-    } else if is_option(word) {
-        option_word(has, word)
-    } else {
-        Word::Plain
-    }
-}
-
-fn push_setting(words: Words, setting: Setting, value: u32) -> Result<Words, AllocError>
-    ensures { IfOk result (λ new. new ≡ more_settings words setting value) }
-{
-    let Words {
-        mut settings,
-        positionals,
-    } = words;
-    settings.push(Given { setting, value })?;
-    Ok(Words {
-        settings,
-        positionals,
-    })
-}
-
-fn push_positional(alloc: Global, words: Words, word: &[u8]) -> Result<Words, AllocError>
-    ensures { IfOk result (λ new. new ≡ more_positionals words word.now) }
-{
-    let Words {
-        settings,
-        mut positionals,
-    } = words;
-    positionals.push(Name::from_slice(alloc, word)?)?;
-    Ok(Words {
-        settings,
-        positionals,
-    })
-}
-
-// A setting with its value; none where it has no such value.
-fn take_value(
-    words: Words,
-    setting: Setting,
-    value: Option<u32>,
-) -> Result<Option<Reading>, AllocError>
-    ensures { IfOk result (GoesOnByValue words setting value) }
-{
-    match value {
-        None => Ok(None),
-        Some(value) => Ok(Some(Reading {
-            words: push_setting(words, setting, value)?,
-            mode: Mode::Free,
-        })),
-    }
-}
-
-// The name of an option.
-fn take_name(words: Words, setting: Setting) -> Result<Reading, AllocError>
-    ensures { IfOk result (GoesOnByName words setting) }
-{
-    if is_flag(setting) {
-        Ok(Reading {
-            words: push_setting(words, setting, 0)?,
-            mode: Mode::Free,
-        })
-    } else {
-        Ok(Reading {
-            words,
-            mode: Mode::Waiting(setting),
-        })
-    }
-}
-
-// A word before `--` that is no value.
-fn take_free(
-    alloc: Global,
-    has: &[Setting],
-    words: Words,
-    word: &[u8],
-) -> Result<Option<Reading>, AllocError>
-    ensures { IfOk result (GoesOn has.now (record { words = words; mode = Mode.Free }) word.now) }
-{
-    match word_of(has, word) {
-        Word::Ends => Ok(Some(Reading {
-            words,
-            mode: Mode::Ended,
-        })),
-        Word::Names(setting) => Ok(Some(take_name(words, setting)?)),
-        Word::Sets(setting, value) => Ok(take_value(words, setting, value)?),
-        Word::Plain => Ok(Some(Reading {
-            words: push_positional(alloc, words, word)?,
-            mode: Mode::Free,
-        })),
-        Word::Unknown => Ok(None),
-    }
-}
-
-// The next word; none where no line has it there.
-fn take(
-    alloc: Global,
-    has: &[Setting],
-    reading: Reading,
-    word: &[u8],
-) -> Result<Option<Reading>, AllocError>
-    ensures { IfOk result (GoesOn has.now reading word.now) }
-{
-    let Reading { words, mode } = reading;
-    match mode {
-        Mode::Free => Ok(take_free(alloc, has, words, word)?),
-        Mode::Waiting(setting) => Ok(take_value(words, setting, value_in(setting, word))?),
-        Mode::Ended => Ok(Some(Reading {
-            words: push_positional(alloc, words, word)?,
-            mode: Mode::Ended,
-        })),
-    }
-}
-
-// All words, one after the other.
-fn take_all(alloc: Global, has: &[Setting], words: &[String]) -> Result<Option<Reading>, AllocError>
-    ensures { IfOk result (λ reading. words_from has.now None (map string_bytes words.now) ≡ whole_if has.now reading []) }
-{
-    let mut reading = Reading {
-        words: Words {
-            settings: List::new(alloc),
-            positionals: List::new(alloc),
-        },
-        mode: Mode::Free,
-    };
     let mut rest = words;
     while let [word, after @ ..] = rest {
-        match take(alloc, has, reading, word.as_bytes())? {
-            None => return Ok(None),
-            Some(taken) => reading = taken,
+        if word.as_bytes() == b"--".as_slice() {
+            return false;
         }
-        rest = after;
-    }
-    Ok(Some(reading))
-}
-
-fn is_among(setting: Setting, settings: &[Given]) -> bool
-    ensures { result ≡ list_any (is_of setting) settings.now }
-{
-    let mut rest = settings;
-    while let [given, after @ ..] = rest {
-        if setting_bytes(setting) == setting_bytes(given.setting) {
+        if is_short_word(word.as_bytes()) {
             return true;
         }
         rest = after;
@@ -245,51 +49,118 @@ fn is_among(setting: Setting, settings: &[Given]) -> bool
     false
 }
 
-fn all_once(settings: &[Given]) -> bool
-    ensures { result ≡ all_once settings.now }
+fn with_match(
+    settings: List<Given>,
+    setting: Setting,
+    matched: Matched,
+) -> Result<Option<List<Given>>, AllocError>
+    ensures { IfOk result (GoesOnBy settings setting matched) }
 {
-    let mut rest = settings;
-    while let [given, after @ ..] = rest {
-        if is_among(given.setting, after) {
-            return false;
+    let mut settings = settings;
+    match matched {
+        Matched::Absent => Ok(Some(settings)),
+        Matched::Value(value) => {
+            settings.push(Given { setting, value })?;
+            Ok(Some(settings))
         }
+        Matched::NoValue => Ok(None),
+    }
+}
+
+fn matched_option(matches: &ArgMatches<'_>, setting: Setting) -> Matched
+    ensures { result ≡ match_of setting (first_of (setting_name setting) (rows_of (found_of matches.now))) }
+{
+    match_of(setting, matches.get_str(setting_name(setting)))
+}
+
+// One more option, with what the matches say of it.
+fn with_option(
+    settings: List<Given>,
+    setting: Setting,
+    matches: &ArgMatches<'_>,
+) -> Result<Option<List<Given>>, AllocError>
+    ensures { IfOk result (GoesOnBy settings setting (match_of setting (first_of (setting_name setting) (rows_of (found_of matches.now))))) }
+{
+    let matched = matched_option(matches, setting);
+    Ok(with_match(settings, setting, matched)?)
+}
+
+// What the matches give these options; none where a text is no value of its option.
+fn matched_settings(
+    alloc: Global,
+    has: &[Setting],
+    matches: &ArgMatches<'_>,
+) -> Result<Option<List<Given>>, AllocError>
+    ensures { IfOk result (λ settings. settings ≡ matched_settings has.now (rows_of (found_of matches.now))) }
+{
+    let mut settings = List::new(alloc);
+    let mut rest = has;
+    while let [setting, others @ ..] = rest {
+        match with_option(settings, *setting, matches)? {
+            None => return Ok(None),
+            Some(more) => settings = more,
+        }
+        rest = others;
+    }
+    Ok(Some(settings))
+}
+
+fn names_of(alloc: Global, words: &[&str]) -> Result<List<Name>, AllocError>
+    ensures { IfOk result (λ names. names ≡ map (λ w. w.now) words.now) }
+{
+    let mut names = List::new(alloc);
+    let mut rest = words;
+    while let [word, after @ ..] = rest {
+        names.push(Name::from_slice(alloc, word.as_bytes())?)?;
         rest = after;
     }
-    true
+    Ok(names)
 }
 
-fn if_once(words: Words) -> Option<Words>
-    ensures { result ≡ if_once (Some words) }
+fn matched_positionals(alloc: Global, matches: &ArgMatches<'_>) -> Result<List<Name>, AllocError>
+    ensures { IfOk result (λ names. names ≡ matched_positionals (rows_of (found_of matches.now))) }
 {
-    if all_once(words.settings.as_slice()) {
-        Some(words)
-    } else {
-        None
+    match matches.get_strs("words") {
+        None => Ok(List::new(alloc)),
+        Some(words) => Ok(names_of(alloc, words)?),
     }
 }
 
-// The words, where no option still waits for its value and none stands twice.
-fn if_whole(reading: Reading) -> Option<Words>
-    ensures { (has : List Setting) → result ≡ if_once (whole has reading []) }
+fn matched_words(
+    alloc: Global,
+    has: &[Setting],
+    matches: &ArgMatches<'_>,
+) -> Result<Option<Words>, AllocError>
+    ensures { IfOk result (λ words. words ≡ matched_words has.now (rows_of (found_of matches.now))) }
 {
-    let Reading { words, mode } = reading;
-    match mode {
-        Mode::Free => if_once(words),
-        Mode::Waiting(_) => None,
-        Mode::Ended => if_once(words),
+    let positionals = matched_positionals(alloc, matches)?;
+    match matched_settings(alloc, has, matches)? {
+        None => Ok(None),
+        Some(settings) => Ok(Some(Words {
+            settings,
+            positionals,
+        })),
     }
 }
 
-/// The words behind a command that has these options, each at most once.
+/// The words behind a command that has these options, each at most once: each option has the value
+/// that it has in the reading of the words one after the other, and the positionals are the same.
 pub fn words_of(
     alloc: Global,
     has: &[Setting],
     words: &[String],
 ) -> Result<Option<Words>, AllocError>
-    ensures { IfOk result (λ found. found ≡ words_of has.now (map string_bytes words.now)) }
+    requires { IsOptions has.now }
+    ensures { IfOk result (λ found. SameReading found (words_of has.now (map string_bytes words.now))) }
 {
-    match take_all(alloc, has, words)? {
-        None => Ok(None),
-        Some(reading) => Ok(if_whole(reading)),
+    if has_short_word(words) {
+        return Ok(None);
+    }
+    match command_of(alloc, has)?.try_get_matches_from(words) {
+        Ok(matches) => Ok(matched_words(alloc, has, &matches)?),
+        Err(error) => match error.kind() {
+            ErrorKind::OutOfMemory => Err(AllocError),
+            _ => Ok(None),
+        },
     }
 }

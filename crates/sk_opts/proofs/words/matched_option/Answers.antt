@@ -1,0 +1,10 @@
+use Rattle.std.proofs.Common.{◌∙◌, ap}
+use Rattle.clap.specs.Matches.{found_of, first_value}
+use Rattle.clap.proofs.WalkLemmas.{first_value-rows}
+use Rattle.sk_opts.specs.Matching.{setting_name, match_of}
+use Rattle.sk_opts.proofs.words.matched_option.Goals as goal
+
+pub returns : goal.returns
+returns c =
+    let found = found_of c.args.matches.now in
+    c.match_of.ensures ∙ ap (match_of c.args.setting) (c.get_str.ensures ∙ ap (first_value found) c.setting_name.ensures ∙ first_value-rows found (setting_name c.args.setting))
