@@ -6,7 +6,7 @@ use smallvec::SmallVec;
 use std::alloc::{AllocError, Global};
 
 /// The forms of elements.
-#[derive(Clone, Copy, PartialEq, Eq, Debug)]
+#[derive(Clone, Copy)]
 pub enum Kind {
     /// Whether the scalar is not 0.
     Bit,
@@ -25,16 +25,18 @@ pub enum Kind {
 /// The slot of a reference whose scalar is 0.
 pub const OTHER: u32 = 8;
 
-/// Each form.
-pub fn kinds() -> [Kind; 6] {
-    [
-        Kind::Bit,
-        Kind::Int,
-        Kind::Reference,
-        Kind::Either,
-        Kind::Array,
-        Kind::Nested,
-    ]
+const KINDS: &[Kind] = &[
+    Kind::Bit,
+    Kind::Int,
+    Kind::Reference,
+    Kind::Either,
+    Kind::Array,
+    Kind::Nested,
+];
+
+/// Each form. Proofs see none of them.
+pub fn kinds() -> &'static [Kind] {
+    KINDS
 }
 
 fn bit(dag: &mut Dag, i: u32) -> Result<Shape, AllocError> {
@@ -109,6 +111,25 @@ pub fn element(
     }
 }
 
+/// A list of one shape.
+pub fn alone(alloc: Global, shape: Shape) -> Result<List<Shape>, AllocError> {
+    let mut made = List::new(alloc);
+    made.push(shape)?;
+    Ok(made)
+}
+
+/// A list of one shape of this form, by a scalar of the input; a reference in it is to this slot.
+pub fn one(
+    alloc: Global,
+    dag: &mut Dag,
+    kind: Kind,
+    slot: u32,
+    i: u32,
+) -> Result<List<Shape>, AllocError> {
+    let shape = element(alloc, dag, kind, slot, i)?;
+    alone(alloc, shape)
+}
+
 /// So many shapes of this form, by the scalars from `first` on; a reference is to the slot of the number of its scalar.
 pub fn elements(
     alloc: Global,
@@ -126,24 +147,23 @@ pub fn elements(
     Ok(made)
 }
 
-/// What such a shape is to be seen as: its bits as 0 or 1, its integers, and its references as their slots, or -1 where
-/// they are null.
-pub fn wanted(alloc: Global, kind: Kind, slot: u32, scalar: i64) -> Result<Vec<i64>, AllocError> {
+/// Adds what such a shape is to be seen as: its bits as 0 or 1, its integers, and its references as their slots, or -1
+/// where they are null.
+pub fn push_wanted(
+    want: &mut Vec<i64>,
+    kind: Kind,
+    slot: u32,
+    scalar: i64,
+) -> Result<(), AllocError> {
     let bit = (scalar != 0) as i64;
     let target = if scalar == 0 { -1 } else { slot as i64 };
-    let other = if scalar == 0 {
-        OTHER as i64
-    } else {
-        slot as i64
-    };
-    let mut made = Vec::new(alloc);
+    let other = if scalar == 0 { OTHER } else { slot };
     match kind {
-        Kind::Bit => made.push(bit)?,
-        Kind::Int => made.push(scalar)?,
-        Kind::Reference => made.push(target)?,
-        Kind::Either => made.push(other)?,
-        Kind::Array => made.extend_from_slice(&[bit, scalar])?,
-        Kind::Nested => made.extend_from_slice(&[target, scalar])?,
+        Kind::Bit => want.extend_from_slice(&[bit]),
+        Kind::Int => want.extend_from_slice(&[scalar]),
+        Kind::Reference => want.extend_from_slice(&[target]),
+        Kind::Either => want.extend_from_slice(&[other as i64]),
+        Kind::Array => want.extend_from_slice(&[bit, scalar]),
+        Kind::Nested => want.extend_from_slice(&[target, scalar]),
     }
-    Ok(made)
 }

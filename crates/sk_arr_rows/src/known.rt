@@ -1,54 +1,16 @@
 //! What the calls ask of their arguments, as tests that are made when the examples run.
 
 ghost use Rattle.std.specs.Prelude.{◌≡◌, IsTrue, not, map};
-ghost use Rattle.sk_base.specs.Word.{IsWord};
 ghost use Rattle.sk_dag.specs.declared.env.Env.{Env};
-ghost use Rattle.sk_dag.specs.Graph.{Graph, Grows, HasBool, HasWord};
+ghost use Rattle.sk_dag.specs.Graph.{Graph, Grows, HasBool};
 ghost use Rattle.sk_dag.specs.Eval.{bool_value};
 ghost use Rattle.sk_arr.specs.Forms.{IsBit};
 ghost use Rattle.sk_arr.specs.Shapes.{blank, Alike, AlikeTo, AllAlike, Stands, AllStand};
 ghost use Rattle.sk_arr.specs.Bits.{AreBits};
 ghost use Rattle.sk_arr_rows.specs.Known.{TargetsStand};
 
-use sk_base::wrap;
-use sk_dag::{BoolId, Dag, Node, Shape, WordId};
-
-/// Whether the number names a truth value of the graph.
-pub fn has_bool(dag: &Dag, a: BoolId) -> bool
-    ensures { IsTrue result → HasBool dag.now.nodes a }
-{
-    if a.index >= dag.len() {
-        return false;
-    }
-    match *dag.node(a.index) {
-        Node::Flag(_) | Node::HoleBit(_, _) | Node::InputBit(_) | Node::Not(_) => true,
-        Node::And(_, _) | Node::Or(_, _) | Node::Xor(_, _) | Node::BoolMux(_, _, _) => true,
-        Node::Lt(_, _) | Node::Eq(_, _) | Node::CostLe(_, _) => true,
-        _ => false,
-    }
-}
-
-/// Whether the number names a word of the graph.
-pub fn has_word(dag: &Dag, a: WordId) -> bool
-    ensures { IsTrue result → HasWord dag.now.nodes a }
-{
-    if a.index >= dag.len() {
-        return false;
-    }
-    match *dag.node(a.index) {
-        Node::Word(_) | Node::HoleWord(_) | Node::InputWord(_) | Node::Mux(_, _, _) => true,
-        Node::Add(_, _) | Node::Sub(_, _) | Node::Mul(_, _) | Node::Div(_, _) => true,
-        Node::Rem(_, _) => true,
-        _ => false,
-    }
-}
-
-/// Whether a number is a word of so many bits.
-pub fn is_word(bits: u32, number: i64) -> bool
-    ensures { IsTrue result → IsWord bits number }
-{
-    bits >= 2 && bits <= 32 && wrap(bits, number) == number
-}
+use row_tables::{has_bool, has_word};
+use sk_dag::{BoolId, Dag, Node, Shape};
 
 /// Whether the second is the negation of the first.
 #[tactic(auto, using(sk_arr::proofs::Makers::reading), unfolding(sk_dag::specs::Eval::value_of, sk_dag::specs::Eval::bool_value))]

@@ -1,15 +1,12 @@
 //! What shapes are seen as: each bit as 0 or 1, each reference as its slot, or -1 where it is null.
 
-use crate::kinds::{Kind, wanted};
-use crate::known::{has_bool, has_word};
+use row_tables::{Fault, expect, has_bool, has_word};
 use sk_base::List;
 use sk_dag::{BoolId, Dag, Env, Shape, WordId};
 use std::alloc::Global;
-use std::process::Abort;
-use std::test::Fail;
 
 /// An environment without holes.
-pub fn env_of(alloc: Global, input: &[i64]) -> Result<Env, Fail> {
+pub fn env_of(alloc: Global, input: &[i64]) -> Result<Env, Fault> {
     Ok(Env {
         choice: List::new(alloc),
         input: List::from_slice(alloc, input)?,
@@ -17,25 +14,25 @@ pub fn env_of(alloc: Global, input: &[i64]) -> Result<Env, Fail> {
 }
 
 /// A truth value of the graph.
-pub fn holds(rt: &impl Abort, dag: &Dag, env: &Env, a: BoolId) -> Result<bool, Fail> {
-    assert!(rt; has_bool(dag, a), "{a:?} is no truth value");
+pub fn holds(dag: &Dag, env: &Env, a: BoolId) -> Result<bool, Fault> {
+    expect(has_bool(dag, a))?;
     let value = dag.eval_bool(a, env)?;
     Ok(value)
 }
 
 /// A word of the graph.
-fn number(rt: &impl Abort, dag: &Dag, env: &Env, a: WordId) -> Result<i64, Fail> {
-    assert!(rt; has_word(dag, a), "{a:?} is no word");
+fn number(dag: &Dag, env: &Env, a: WordId) -> Result<i64, Fault> {
+    expect(has_word(dag, a))?;
     let value = dag.eval_word(a, env)?;
     Ok(value)
 }
 
 /// The slot of the target that holds. No other may hold.
-fn slot(rt: &impl Abort, dag: &Dag, env: &Env, targets: &[(u32, BoolId)]) -> Result<i64, Fail> {
+fn slot(dag: &Dag, env: &Env, targets: &[(u32, BoolId)]) -> Result<i64, Fault> {
     let mut found = -1;
     for (slot, guard) in targets {
-        if holds(rt, dag, env, *guard)? {
-            assert_eq!(rt; found, -1, "two targets hold");
+        if holds(dag, env, *guard)? {
+            expect(found == -1)?;
             found = *slot as i64;
         }
     }
@@ -44,61 +41,21 @@ fn slot(rt: &impl Abort, dag: &Dag, env: &Env, targets: &[(u32, BoolId)]) -> Res
 
 /// Adds what a shape is seen as.
 #[cycle(see)]
-fn see(rt: &impl Abort, dag: &Dag, env: &Env, a: &Shape, made: &mut Vec<i64>) -> Result<(), Fail> {
+fn see(dag: &Dag, env: &Env, a: &Shape, made: &mut Vec<i64>) -> Result<(), Fault> {
     match a {
-        Shape::Bit(id) => made.push(holds(rt, dag, env, *id)? as i64)?,
-        Shape::Int(id) => made.push(number(rt, dag, env, *id)?)?,
-        Shape::Reference(targets) => made.push(slot(rt, dag, env, targets.slots.as_slice())?)?,
-        Shape::Array(parts) => see_all(rt, dag, env, parts.as_slice(), made)?,
+        Shape::Bit(id) => made.push(holds(dag, env, *id)? as i64)?,
+        Shape::Int(id) => made.push(number(dag, env, *id)?)?,
+        Shape::Reference(targets) => made.push(slot(dag, env, targets.slots.as_slice())?)?,
+        Shape::Array(parts) => see_all(dag, env, parts.as_slice(), made)?,
     }
     Ok(())
 }
 
+/// Adds what shapes are seen as.
 #[cycle(see)]
-fn see_all(
-    rt: &impl Abort,
-    dag: &Dag,
-    env: &Env,
-    list: &[Shape],
-    made: &mut Vec<i64>,
-) -> Result<(), Fail> {
+pub fn see_all(dag: &Dag, env: &Env, list: &[Shape], made: &mut Vec<i64>) -> Result<(), Fault> {
     for a in list {
-        see(rt, dag, env, a, made)?;
+        see(dag, env, a, made)?;
     }
-    Ok(())
-}
-
-/// What shapes are seen as.
-pub fn seen(
-    rt: &impl Abort,
-    alloc: Global,
-    dag: &Dag,
-    env: &Env,
-    list: &[Shape],
-) -> Result<Vec<i64>, Fail> {
-    let mut made = Vec::new(alloc);
-    see_all(rt, dag, env, list, &mut made)?;
-    Ok(made)
-}
-
-/// The shape is seen as one of this form by this slot and this scalar.
-pub fn expect(
-    rt: &impl Abort,
-    alloc: Global,
-    dag: &Dag,
-    env: &Env,
-    a: &Shape,
-    kind: Kind,
-    slot: u32,
-    scalar: i64,
-) -> Result<(), Fail> {
-    let mut got = Vec::new(alloc);
-    see(rt, dag, env, a, &mut got)?;
-    let want = wanted(alloc, kind, slot, scalar)?;
-    assert_eq!(rt;
-        got.as_slice(),
-        want.as_slice(),
-        "{kind:?} of {slot} and {scalar}"
-    );
     Ok(())
 }

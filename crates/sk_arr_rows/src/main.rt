@@ -1,0 +1,33 @@
+//! Tries the operations on values over nodes on tables of rows, and tells each row that is not as it is to be. Of each table
+//! it writes how many rows it has. Its status is not 0 where a row is wrong.
+#![tactic(auto)]
+
+mod calls;
+mod kinds;
+mod known;
+mod rows;
+mod sights;
+mod tables;
+mod wants;
+
+use row_tables::Report;
+use std::alloc::{AllocError, Global};
+use std::io::Write;
+use std::process::ExitCode;
+
+fn all_tables(alloc: Global) -> Result<Report, AllocError> {
+    let mut report = Report::new(alloc);
+    tables::tell(alloc, &mut report)?;
+    Ok(report)
+}
+
+fn main(rt: HostRuntime) -> ExitCode {
+    let Ok(report) = all_tables(rt.alloc()) else {
+        return ExitCode::FAILURE;
+    };
+    let written = rt.stdout().write_all(report.lines());
+    if written.is_err() || report.is_wrong() {
+        return ExitCode::FAILURE;
+    }
+    ExitCode::SUCCESS
+}
