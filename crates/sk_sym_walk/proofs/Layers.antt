@@ -158,7 +158,7 @@ same_otherwise a span o y z is = subst (λ o. SamePart (then_parts (eval_part a 
 -- ---- statements
 
 module _ (a : Activation) (s : PStmt) where
-  abbrev stmt_step : Env → S.PForm-F (Part (Span → Comp Flow)) (Part (Comp Flow)) → Part (Span → Comp Flow)
+  abbrev pub stmt_step : Env → S.PForm-F (Part (Span → Comp Flow)) (Part (Comp Flow)) → Part (Span → Comp Flow)
   stmt_step env = open_form (prog_of a) a.bounds (values_at a env) (calls_at a env)
 
   abbrev run_with : Part (Span → Comp Flow) → Part (Comp Flow)
@@ -239,19 +239,19 @@ pub map_push : {A B : Type 0} (f : A → B) (xs : List A) (x : A) → map f (xs 
 map_push f [] x = refl
 map_push f (y ∷ ys) x = ap (λ l. f y ∷ l) (map_push f ys x)
 
-nothing_more : (t : Step Flow) → and_then t (unless_returned (pure Onward)) ≡ t
+pub nothing_more : (t : Step Flow) → and_then t (unless_returned (pure Onward)) ≡ t
 nothing_more (Goes Onward s) = refl
 nothing_more (Goes (Returns v) s) = refl
 nothing_more (Fails span) = refl
 nothing_more (Skips span) = refl
 
-two_after : (t : Step Flow) (m n : Comp Flow) → and_then (and_then t (unless_returned m)) (unless_returned n) ≡ and_then t (unless_returned (m >>= unless_returned n))
+pub two_after : (t : Step Flow) (m n : Comp Flow) → and_then (and_then t (unless_returned m)) (unless_returned n) ≡ and_then t (unless_returned (m >>= unless_returned n))
 two_after (Goes Onward s) m n = refl
 two_after (Goes (Returns v) s) m n = refl
 two_after (Fails span) m n = refl
 two_after (Skips span) m n = refl
 
-one_more : (ms : List (Comp Flow)) (m : Comp Flow) (s : State) → one_by_one (ms ++ m ∷ []) s ≡ and_then (one_by_one ms s) (unless_returned m)
+pub one_more : (ms : List (Comp Flow)) (m : Comp Flow) (s : State) → one_by_one (ms ++ m ∷ []) s ≡ and_then (one_by_one ms s) (unless_returned m)
 one_more [] m s = nothing_more (m s)
 one_more (n ∷ ms) m s = (λ i. and_then (n s) (unless_returned (λ t. one_more ms m t i))) ∙ sym (two_after (n s) (one_by_one ms) m)
 

@@ -4,3 +4,6 @@ pub mod Places
 pub mod Layers
 pub mod Lists
 pub mod Called
+pub mod Turns
+pub mod Copies
+pub mod Orders

@@ -1,3 +1,6 @@
 pub mod Walk
 pub mod Parts
 pub mod Calls
+pub mod Turns
+pub mod Copies
+pub mod Orders

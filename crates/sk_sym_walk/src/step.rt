@@ -1,20 +1,26 @@
 //! Steps of the walk that run no part.
 
-ghost use Rattle.std.specs.Prelude.{◌≡◌, ◌+◌, IfOk, OnOk, IsTrue, false, option_map};
+ghost use Rattle.std.specs.Prelude.{◌≡◌, ◌+◌, ◌-◌, ◌<◌, ℕ, List, nat_lt, IfOk, OnOk, IsTrue, false, option_map};
 ghost use Rattle.sk_dag.specs.declared.env.Env.{Env};
 ghost use Rattle.sk_dag.specs.Graph.{Graph, Grows, HasBool};
-ghost use Rattle.sk_dag.specs.Eval.{bool_value};
+ghost use Rattle.sk_dag.specs.Eval.{bool_value, Keeps};
 ghost use Rattle.sk_arr.specs.Shapes.{Stands};
-ghost use Rattle.sk_sym_sites.specs.Counts.{any_count, stmt_count};
+ghost use Rattle.sk_sym_sites.specs.Counts.{any_count, expr_count, stmt_count};
 ghost use Rattle.sk_sym_state.specs.Stands.{StateStands};
 ghost use Rattle.sk_sym_state.specs.Branching.{SideStands};
 ghost use Rattle.sk_sym_walk.specs.Parts.{AreJoinedWith};
+ghost use Rattle.sk_model.specs.Sites.{is_hole as has_site};
+ghost use Rattle.sk_model.specs.Fill.{Fits};
+ghost use Rattle.sk_model.specs.Parts.{value};
+ghost use Rattle.sk_sym_state.specs.Meaning.{IsLater, choice_at};
+ghost use Rattle.sk_sym_walk.specs.Orders.{IsNodeOf};
 
-use sk_base::Boxed;
+use sk_base::{Boxed, List};
 use sk_dag::{BoolId, Dag, Shape};
-use sk_folded::known_bool;
-use sk_prog::PStmt;
-use sk_sym_sites::pass_stmt;
+use sk_folded::{known_bool, site_above};
+use sk_model::Site;
+use sk_prog::{PEForm, PExpr, PStmt};
+use sk_sym_sites::{pass_expr, pass_stmt};
 use sk_sym_state::{Setting, Side, SymState, join_shapes};
 use std::alloc::AllocError;
 
@@ -59,4 +65,94 @@ pub(crate) fn pass_other(at: &mut usize, other: &Option<Boxed<PStmt>>) -> Result
         Some(s) => pass_stmt(at, s.get()),
         None => Ok(()),
     }
+}
+
+/// Passes the sites of a condition and of the statement behind it.
+pub(crate) fn pass_loop(at: &mut usize, cond: &PExpr, body: &PStmt) -> Result<(), AllocError>
+    ensures { OnOk result (at.new ≡ at.old + (expr_count cond.now + stmt_count body.now)) }
+{
+    pass_expr(at, cond)?;
+    pass_stmt(at, body)?;
+    Ok(())
+}
+
+/// Passes one site.
+pub(crate) fn pass_site(at: &mut usize) -> Result<(), AllocError>
+    ensures { OnOk result (at.new ≡ at.old + 1) }
+{
+    match at.checked_add(1) {
+        None => Err(AllocError),
+        Some(next) => {
+            *at = next;
+            Ok(())
+        }
+    }
+}
+
+/// How many values a site may have. One that is not there counts as want of memory.
+fn size_of(sites: &[Site], site: usize) -> Result<u64, AllocError>
+    ensures { IfOk result (λ size. (values : List ℕ) → Fits sites.now values → value values site < size) }
+{
+    if site >= sites.len() {
+        return Err(AllocError);
+    }
+    Ok(sites[site].size)
+}
+
+/// Whether the value of a site is above `k`.
+pub(crate) fn exceeds(
+    setting: &Setting<'_>,
+    dag: &mut Dag,
+    site: usize,
+    k: u64,
+) -> Result<BoolId, AllocError>
+    ensures keeps { Keeps dag.old dag.new }
+    ensures there { IfOk result (λ r. HasBool dag.new.nodes r) }
+    ensures value { IfOk result (λ r. (g : Graph) (e : Env) → IsLater setting.now dag.new g e →
+        bool_value g e r ≡ nat_lt k (value (choice_at setting.now e).values site)) }
+{
+    let size = size_of(setting.expanded.sites.as_slice(), site)?;
+    let r = site_above(dag, site, size, k, setting.choice)?;
+    Ok(r)
+}
+
+/// Whether the count of a repeat is a hole.
+pub(crate) fn is_hole(count: &PExpr) -> bool
+    ensures { result ≡ has_site count.now.form }
+{
+    match &count.form {
+        PEForm::Hole(_) => true,
+        _ => false,
+    }
+}
+
+/// Passes the sites that give the order of so many statements.
+pub(crate) fn pass_digits(at: &mut usize, count: usize) -> Result<(), AllocError>
+    ensures { OnOk result (at.new ≡ at.old + (count - 1)) }
+{
+    match at.checked_add(count.saturating_sub(1)) {
+        None => Err(AllocError),
+        Some(next) => {
+            *at = next;
+            Ok(())
+        }
+    }
+}
+
+/// The node that says whether a turn is that of a statement. One that is not there counts as want of memory.
+pub(crate) fn turn_node(
+    columns: &[List<BoolId>],
+    k: usize,
+    turn: usize,
+) -> Result<BoolId, AllocError>
+    ensures { IfOk result (λ r. IsNodeOf columns.now k turn r) }
+{
+    if k >= columns.len() {
+        return Err(AllocError);
+    }
+    let column = columns[k].as_slice();
+    if turn >= column.len() {
+        return Err(AllocError);
+    }
+    Ok(column[turn])
 }

@@ -1,7 +1,9 @@
-use Rattle.std.proofs.Common.{◌+◌, ◌*◌, take}
+use Rattle.std.proofs.Common.{◌≡◌, ◌+◌, ◌*◌, ◌≤◌, take, length}
 use Rattle.sk_sym_state.specs.Meaning.{Executes}
 use Rattle.sk_sym_walk.specs.Walk.{exec_all_at, all_part, IsBehind}
 use Rattle.sk_sym_walk.specs.Parts.{list_part, AreEvaluated}
+use Rattle.sk_sym_walk.specs.Copies.{copies_at}
+use Rattle.sk_sym_walk.specs.Orders.{turns_at, turn_at}
 use Rattle.sk_sym_walk.proofs.activation.Activation.+run.Given as goal
 
 abbrev pub decreases-exec : goal.decreases-exec
@@ -24,6 +26,42 @@ decreases-ways l = 8 * l.room + 3
 
 abbrev pub decreases-branches : goal.decreases-branches
 decreases-branches l = 8 * l.room + 4
+
+abbrev pub decreases-turn : goal.decreases-turn
+decreases-turn l = 8 * l.room
+
+abbrev pub decreases-may_turn : goal.decreases-may_turn
+decreases-may_turn l = 8 * l.room + 1
+
+abbrev pub decreases-decided : goal.decreases-decided
+decreases-decided l = 8 * l.room + 2
+
+abbrev pub decreases-turns : goal.decreases-turns
+decreases-turns l = 8 * l.room + 3
+
+abbrev pub decreases-copy : goal.decreases-copy
+decreases-copy l = 8 * l.room + 4
+
+abbrev pub decreases-some_copies : goal.decreases-some_copies
+decreases-some_copies l = 8 * l.room + 5
+
+abbrev pub decreases-copies : goal.decreases-copies
+decreases-copies l = 8 * l.room + 6
+
+abbrev pub decreases-repeat : goal.decreases-repeat
+decreases-repeat l = 8 * l.room + 7
+
+abbrev pub decreases-one_turn : goal.decreases-one_turn
+decreases-one_turn l = 8 * l.room + 4
+
+abbrev pub decreases-all_turns : goal.decreases-all_turns
+decreases-all_turns l = 8 * l.room + 5
+
+abbrev pub decreases-ordered : goal.decreases-ordered
+decreases-ordered l = 8 * l.room + 6
+
+abbrev pub decreases-reorder : goal.decreases-reorder
+decreases-reorder l = 8 * l.room + 7
 
 -- the statements so far are done
 abbrev pub invariant-exec_all-loop-stmt : goal.invariant-exec_all-loop-stmt
@@ -86,3 +124,26 @@ decreases-call_with l = 8 * l.room + 2
 
 abbrev pub decreases-call : goal.decreases-call
 decreases-call l = 8 * l.room + 3
+
+-- the copies so far are done
+abbrev pub invariant-some_copies-loop-stmt : goal.invariant-some_copies-loop-stmt
+invariant-some_copies-loop-stmt l = record {
+  executes : Executes l.self.setting l.fn.dag l.dag l.fn.state l.state (copies_at l.self l.site l.fn.at (take l.stmt-index l.copies));
+  place : IsBehind (all_part l.self (take l.stmt-index l.copies)) l.fn.at l.at;
+  count : l.k ≡ l.stmt-index;
+}
+
+-- the turns so far are done
+abbrev pub invariant-all_turns-loop-n : goal.invariant-all_turns-loop-n
+invariant-all_turns-loop-n l = record {
+  executes : Executes l.self.setting l.fn.dag l.dag l.fn.state l.state (turns_at l.self l.first l.n l.stmts l.start);
+  within : l.n ≤ length l.stmts;
+}
+
+-- of the statements so far the one is done whose turn it is
+abbrev pub invariant-one_turn-loop-stmt : goal.invariant-one_turn-loop-stmt
+invariant-one_turn-loop-stmt l = record {
+  executes : Executes l.self.setting l.fn.dag l.dag l.fn.state l.state (turn_at l.self l.first (length l.stmts) l.n (take l.stmt-index l.stmts) l.fn.at);
+  place : IsBehind (all_part l.self (take l.stmt-index l.stmts)) l.fn.at l.at;
+  count : l.k ≡ l.stmt-index;
+}
