@@ -7,3 +7,4 @@ pub mod Called
 pub mod Turns
 pub mod Copies
 pub mod Orders
+pub mod Targets

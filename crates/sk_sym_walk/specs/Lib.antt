@@ -4,3 +4,4 @@ pub mod Calls
 pub mod Turns
 pub mod Copies
 pub mod Orders
+pub mod Targets

@@ -15,6 +15,7 @@ ghost use Rattle.sk_sym_walk.specs.Calls.{callee, value_called, call_part, IsIns
 ghost use Rattle.sk_sym_walk.specs.Turns.{turns_part, turn_part, decided_part};
 ghost use Rattle.sk_sym_walk.specs.Copies.{some_part, copies_part, copy_part, repeat_part};
 ghost use Rattle.sk_sym_walk.specs.Orders.{ordered_part, reorder_part, one_turn_part, AreOrders};
+ghost use Rattle.sk_sym_walk.specs.Targets.{target_part, field_target, index_target, assign_part, fields_part, new_part, IsLocated, AreSetTo};
 
 use crate::calling::{
     absent, count_of, function_of, pays_nothing, plain_params, value_of, with_function,
@@ -27,13 +28,14 @@ use sk_base::{Bounds, Boxed, List, Span};
 use sk_dag::{BoolId, Dag, Shape};
 use sk_folded::{and, known_bool, not, or};
 use sk_paid::orders;
-use sk_prog::{BinOp, Fun, FunId, PEForm, PExpr, PForm, PStmt, Ty};
+use sk_prog::{BinOp, Fun, FunId, PEForm, PExpr, PField, PForm, PStmt, StructId, Ty};
 use sk_sym_forms::{
     Act, Double, Single, apply, apply_two, declare_zero, fail_here, give_nothing, perform,
 };
 use sk_sym_frames::{enter, leave};
 use sk_sym_sites::{pass_expr, pass_stmt, pass_stmts, start_of};
 use sk_sym_state::{Ended, Setting, SymState};
+use sk_sym_stores::{Init, Location, assign, make};
 use std::alloc::AllocError;
 
 /// A call that is active. Nothing of it changes while it is.
@@ -115,6 +117,9 @@ impl Activation<'_> {
             PEForm::Call { f, args } => {
                 self.call(room, dag, state, at, span, e.ty, *f, args.as_slice())
             }
+            PEForm::New { s, fields } => {
+                self.new_record(room, dag, state, at, span, *s, fields.as_slice())
+            }
             PEForm::Binary { op, left, right } => {
                 self.binary(room, dag, state, at, span, *op, left.get(), right.get())
             }
@@ -128,7 +133,7 @@ impl Activation<'_> {
                 then.get(),
                 other.get(),
             ),
-            _ => Err(AllocError),
+            PEForm::Pattern(_) => Err(AllocError),
         }
     }
 
@@ -596,6 +601,149 @@ impl Activation<'_> {
         Ok(ended)
     }
 
+    /// What an expression names as the target of an assignment. Other forms count as want of memory.
+    #[cycle(run)]
+    #[inline(never)]
+    fn target(
+        &self,
+        room: u32,
+        dag: &mut Dag,
+        state: &mut SymState,
+        at: &mut usize,
+        span: Span,
+        e: &PExpr,
+    ) -> Result<Location, AllocError>
+        requires stands { StateStands dag.old self.now.setting.expanded.now.prog state.old }
+        ensures located { IfOk result (λ l. IsLocated self.now dag.old dag.new state.old state.new at.old at.new (target_part self.now span e.now) l) }
+    {
+        if room == 0 {
+            return Err(AllocError);
+        }
+        let room = room - 1;
+        match &e.form {
+            PEForm::Var { slot, name: _ } => Ok(Location::variable(self.setting.alloc, *slot)),
+            PEForm::Member { base, s, field } => {
+                self.field_target(room, dag, state, at, span, base.get(), *s, *field)
+            }
+            PEForm::Index { base, index } => {
+                self.index_target(room, dag, state, at, span, base.get(), index.get())
+            }
+            _ => Err(AllocError),
+        }
+    }
+
+    /// A field of the record that a reference is at, as a target.
+    #[cycle(run)]
+    #[inline(never)]
+    fn field_target(
+        &self,
+        room: u32,
+        dag: &mut Dag,
+        state: &mut SymState,
+        at: &mut usize,
+        span: Span,
+        base: &PExpr,
+        s: StructId,
+        field: u32,
+    ) -> Result<Location, AllocError>
+        requires stands { StateStands dag.old self.now.setting.expanded.now.prog state.old }
+        ensures located { IfOk result (λ l. IsLocated self.now dag.old dag.new state.old state.new at.old at.new (field_target self.now span base.now field) l) }
+    {
+        let reference = self.eval(room, dag, state, at, span, base)?;
+        Ok(Location::field(self.setting.alloc, reference, s, field))
+    }
+
+    /// An element of what an expression names, as a target.
+    #[cycle(run)]
+    #[inline(never)]
+    fn index_target(
+        &self,
+        room: u32,
+        dag: &mut Dag,
+        state: &mut SymState,
+        at: &mut usize,
+        span: Span,
+        base: &PExpr,
+        index: &PExpr,
+    ) -> Result<Location, AllocError>
+        requires stands { StateStands dag.old self.now.setting.expanded.now.prog state.old }
+        ensures located { IfOk result (λ l. IsLocated self.now dag.old dag.new state.old state.new at.old at.new (index_target self.now span base.now index.now) l) }
+    {
+        let mut location = self.target(room, dag, state, at, span, base)?;
+        let i = self.eval(room, dag, state, at, span, index)?;
+        location.push_index(&i)?;
+        Ok(location)
+    }
+
+    /// An assignment.
+    #[cycle(run)]
+    #[inline(never)]
+    fn assign(
+        &self,
+        room: u32,
+        dag: &mut Dag,
+        state: &mut SymState,
+        at: &mut usize,
+        span: Span,
+        target: &PExpr,
+        value: &PExpr,
+    ) -> Result<(), AllocError>
+        requires stands { StateStands dag.old self.now.setting.expanded.now.prog state.old }
+        ensures executed { OnOk result (IsExecuted self.now dag.old dag.new state.old state.new at.old at.new (assign_part self.now span target.now value.now)) }
+    {
+        let location = self.target(room, dag, state, at, span, target)?;
+        let v = self.eval(room, dag, state, at, span, value)?;
+        assign(&self.setting, dag, state, span, &location, &v)?;
+        Ok(())
+    }
+
+    /// The fields that a new record is given.
+    #[cycle(run)]
+    #[inline(never)]
+    fn fields(
+        &self,
+        room: u32,
+        dag: &mut Dag,
+        state: &mut SymState,
+        at: &mut usize,
+        span: Span,
+        given: &[PField],
+    ) -> Result<List<Init>, AllocError>
+        requires stands { StateStands dag.old self.now.setting.expanded.now.prog state.old }
+        ensures set { IfOk result (λ made. AreSetTo self.now dag.old dag.new state.old state.new at.old at.new (fields_part self.now span given.now) made) }
+    {
+        let mut made = List::new(self.setting.alloc);
+        for x in given {
+            let value = self.eval(room, dag, state, at, span, &x.value)?;
+            made.push(Init {
+                field: x.field,
+                value,
+            })?;
+        }
+        Ok(made)
+    }
+
+    /// A new record.
+    #[cycle(run)]
+    #[inline(never)]
+    fn new_record(
+        &self,
+        room: u32,
+        dag: &mut Dag,
+        state: &mut SymState,
+        at: &mut usize,
+        span: Span,
+        s: StructId,
+        given: &[PField],
+    ) -> Result<Shape, AllocError>
+        requires stands { StateStands dag.old self.now.setting.expanded.now.prog state.old }
+        ensures evaluated { IfOk result (λ r. IsEvaluated self.now dag.old dag.new state.old state.new at.old at.new (new_part self.now span s given.now) r) }
+    {
+        let inits = self.fields(room, dag, state, at, span, given)?;
+        let r = make(&self.setting, dag, state, span, s, inits.as_slice())?;
+        Ok(r)
+    }
+
     /// Runs statements one after another, until one returns. The first of their sites has the place `at`, which moves behind
     /// the last. `room` is how many levels of statements and expressions may nest, past which the answer is want of memory.
     ///
@@ -661,6 +809,9 @@ impl Activation<'_> {
                 Some(e) => self.act(room, dag, state, at, span, Act::Declare(*slot), e),
                 None => declare_zero(&self.setting, dag, state, span, *slot, *ty),
             },
+            PForm::Assign { target, value } => {
+                self.assign(room, dag, state, at, span, target, value)
+            }
             PForm::If { cond, then, other } => {
                 self.branches(room, dag, state, at, span, cond, then.get(), other)
             }
@@ -675,7 +826,6 @@ impl Activation<'_> {
                 self.copies(room, dag, state, at, span, copies.as_slice())
             }
             PForm::Reorder(stmts) => self.reorder(room, dag, state, at, span, stmts.as_slice()),
-            _ => Err(AllocError),
         }
     }
 

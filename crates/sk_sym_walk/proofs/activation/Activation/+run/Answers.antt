@@ -33,6 +33,12 @@ use Rattle.sk_sym_walk.specs.Orders.{number_at, turn_at, AreOrders}
 use Rattle.sk_sym_walk.proofs.Turns.{same_while, loop_behind, turns_executed, turn_fails, turn_executed, decided_on, decided_off, decided_both}
 use Rattle.sk_sym_walk.proofs.Copies.{same_minrepeat, same_repeat, copies_none, copies_more, copies_executed, some_copies, all_copies, copy_executed}
 use Rattle.sk_sym_walk.proofs.Orders.{same_reorder, turn_more, turns_more, turns_whole, reorder_executed, all_behind, orders_keep, is_turn, turn_taken}
+use Rattle.sk_model.specs.Heap.{allocate}
+use Rattle.sk_sym_steps.specs.Steps.{EvaluatesOn}
+use Rattle.sk_sym_stores.specs.Records.{InitsStand, InitsAre}
+use Rattle.sk_sym_stores.proofs.Locating.{LocationStands-keeps}
+use Rattle.sk_sym_walk.specs.Targets.{fields_part, AreSetTo}
+use Rattle.sk_sym_walk.proofs.Targets.{located_as, same_variable_target, same_field_target, same_index_target, same_new, same_assign, variable_located, field_located, index_located, assign_executed, fields_none, fields_more, new_evaluated}
 use Rattle.sk_sym_walk.proofs.activation.Activation.+run.Goals as goal
 
 -- ---- forms
@@ -822,3 +828,91 @@ one_turn-returns t c =
 
 pub turns-eval-requires : goal.turns-eval-requires
 turns-eval-requires t c = (omega arith, c.requires.stands)
+
+-- ---- targets, assignments and new records
+
+pub target-field_target-requires : goal.target-field_target-requires
+target-field_target-requires t c = (omega arith, c.requires.stands)
+
+pub target-index_target-requires : goal.target-index_target-requires
+target-index_target-requires t c = (omega arith, c.requires.stands)
+
+pub target-returns-in-Var : goal.target-returns-in-Var
+target-returns-in-Var t c = record { located = located_as (same_variable_target c.args.self.now c.args.span c.args.e.now c.in-Var.slot c.in-Var.name c.in-Var.is) (variable_located c.requires.stands c.variable.ensures) }
+
+pub target-returns-in-Member : goal.target-returns-in-Member
+target-returns-in-Member t c =
+    let is = rw (← c.get.ensures) at c.in-Member.is in
+    record { located = ok_more c.field_target.result (λ l. located_as (same_field_target c.args.self.now c.args.span c.args.e.now c.get.result.now c.in-Member.s c.in-Member.field is)) c.field_target.ensures.located }
+
+pub target-returns-in-Index : goal.target-returns-in-Index
+target-returns-in-Index t c =
+    let is = rw (← c.get-in-Index.ensures, ← c.get-in-Index-2.ensures) at c.in-Index.is in
+    record { located = ok_more c.index_target.result (λ l. located_as (same_index_target c.args.self.now c.args.span c.args.e.now c.get-in-Index.result.now c.get-in-Index-2.result.now is)) c.index_target.ensures.located }
+
+pub field_target-eval-requires : goal.field_target-eval-requires
+field_target-eval-requires t c = (omega arith, c.requires.stands)
+
+pub field_target-returns : goal.field_target-returns
+field_target-returns t c = record { located = field_located c.args.span c.args.base.now c.in_ok-reference.ensures.evaluated c.field.ensures }
+
+pub index_target-target-requires : goal.index_target-target-requires
+index_target-target-requires t c = (omega arith, c.requires.stands)
+
+pub index_target-eval-requires : goal.index_target-eval-requires
+index_target-eval-requires t c = (omega arith, c.in_ok-location.ensures.located.locates.does.moves.stands)
+
+pub index_target-returns : goal.index_target-returns
+index_target-returns t c = record { located = index_located c.args.span c.args.base.now c.args.index.now c.in_ok-location.ensures.located c.in_ok-i.ensures.evaluated c.in_ok-push_index.ensures }
+
+pub assign-target-requires : goal.assign-target-requires
+assign-target-requires t c = (omega arith, c.requires.stands)
+
+pub assign-eval-requires : goal.assign-eval-requires
+assign-eval-requires t c = (omega arith, c.in_ok-location.ensures.located.locates.does.moves.stands)
+
+pub assign-assign-requires-clause-location : goal.assign-assign-requires-clause-location
+assign-assign-requires-clause-location t c = LocationStands-keeps c.in_ok-v.ensures.evaluated.evaluates.does.moves.keeps c.in_ok-location.ensures.located.locates.there
+
+pub assign-returns : goal.assign-returns
+assign-returns t c = record { executed = assign_executed c.args.span c.args.target.now c.args.value.now c.in_ok-location.ensures.located c.in_ok-v.ensures.evaluated c.in_ok-assign.ensures.executes }
+
+pub exec-assign-requires : goal.exec-assign-requires
+exec-assign-requires t c = (omega arith, c.requires.stands)
+
+pub exec-returns-in-Assign : goal.exec-returns-in-Assign
+exec-returns-in-Assign t c = record { executed = on_ok c.assign.result (executed_as (same_assign c.args.self.now c.args.stmt.now c.in-Assign.target c.in-Assign.value c.in-Assign.is)) c.assign.ensures.executed }
+
+pub fields-eval-requires : goal.fields-eval-requires
+fields-eval-requires t c = (omega arith, c.loop-x.invariant.evaluate.does.moves.stands)
+
+pub fields-loop-x-init : goal.fields-loop-x-init
+fields-loop-x-init t c = rw c.new-made.ensures (fields_none c.args.span c.requires.stands)
+
+pub fields-loop-x-preserved : goal.fields-loop-x-preserved
+fields-loop-x-preserved t c = rw c.in_ok-push.ensures.ok (fields_more c.args.self.now c.args.span c.args.given.now c.loop-x.x-index c.x-item.result c.loop-x-test.true c.x-item.is c.loop-x.invariant c.in_ok-value.ensures.evaluated)
+
+pub fields-returns : goal.fields-returns
+fields-returns t c =
+    let whole = take_all c.loop-x.x-index c.args.given.now (omega arith) in
+    record { set = subst (λ xs. AreSetTo c.args.self.now c.args.dag.now c.loop-x.dag c.args.state.now c.loop-x.state c.args.at.now c.loop-x.at (fields_part c.args.self.now c.args.span xs) c.loop-x.made) whole c.loop-x.invariant }
+
+pub new_record-fields-requires : goal.new_record-fields-requires
+new_record-fields-requires t c = (omega arith, c.requires.stands)
+
+pub new_record-make-requires-clause-inits : goal.new_record-make-requires-clause-inits
+new_record-make-requires-clause-inits t c = subst (InitsStand c.fields.new.dag) (sym c.as_slice.ensures) c.in_ok-inits.ensures.set.evaluate.there
+
+pub new_record-returns : goal.new_record-returns
+new_record-returns t c = record {
+  evaluated = new_evaluated c.args.span c.args.s c.args.given.now c.in_ok-inits.ensures.set
+      (subst (λ l. EvaluatesOn c.args.self.now.setting c.fields.new.dag c.make.new.dag c.fields.new.state c.make.new.state (λ g e. InitsAre g e c.fields.new.state.heap l) c.in_ok-r.r (λ e. allocate c.args.self.now.setting.expanded.now.prog c.args.s)) c.as_slice.ensures c.in_ok-r.ensures.evaluates);
+}
+
+pub eval-new_record-requires : goal.eval-new_record-requires
+eval-new_record-requires t c = (omega arith, c.requires.stands)
+
+pub eval-returns-in-New : goal.eval-returns-in-New
+eval-returns-in-New t c =
+    let is = rw (← c.as_slice-in-New.ensures) at c.in-New.is in
+    record { evaluated = ok_more c.new_record.result (λ r. evaluated_as (same_new c.args.self.now c.args.span c.args.e.now c.in-New.s c.as_slice-in-New.result.now is)) c.new_record.ensures.evaluated }

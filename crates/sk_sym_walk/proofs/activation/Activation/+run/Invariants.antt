@@ -4,6 +4,7 @@ use Rattle.sk_sym_walk.specs.Walk.{exec_all_at, all_part, IsBehind}
 use Rattle.sk_sym_walk.specs.Parts.{list_part, AreEvaluated}
 use Rattle.sk_sym_walk.specs.Copies.{copies_at}
 use Rattle.sk_sym_walk.specs.Orders.{turns_at, turn_at}
+use Rattle.sk_sym_walk.specs.Targets.{fields_part, AreSetTo}
 use Rattle.sk_sym_walk.proofs.activation.Activation.+run.Given as goal
 
 abbrev pub decreases-exec : goal.decreases-exec
@@ -147,3 +148,25 @@ invariant-one_turn-loop-stmt l = record {
   place : IsBehind (all_part l.self (take l.stmt-index l.stmts)) l.fn.at l.at;
   count : l.k ≡ l.stmt-index;
 }
+
+abbrev pub decreases-target : goal.decreases-target
+decreases-target l = 8 * l.room
+
+abbrev pub decreases-field_target : goal.decreases-field_target
+decreases-field_target l = 8 * l.room + 1
+
+abbrev pub decreases-index_target : goal.decreases-index_target
+decreases-index_target l = 8 * l.room + 1
+
+abbrev pub decreases-assign : goal.decreases-assign
+decreases-assign l = 8 * l.room + 1
+
+abbrev pub decreases-fields : goal.decreases-fields
+decreases-fields l = 8 * l.room + 1
+
+abbrev pub decreases-new_record : goal.decreases-new_record
+decreases-new_record l = 8 * l.room + 2
+
+-- the fields so far are set
+abbrev pub invariant-fields-loop-x : goal.invariant-fields-loop-x
+invariant-fields-loop-x l = AreSetTo l.self l.fn.dag l.dag l.fn.state l.state l.fn.at l.at (fields_part l.self l.span (take l.x-index l.given)) l.made
