@@ -1,28 +1,44 @@
+//! Clauses and logs that are read back.
+
+use row_tables::{Fault, Report, expect};
 use sk_clause::{ClauseList, Clauses, Lit};
-use std::test::Fail;
+use std::alloc::{AllocError, Global};
 
 const A: Lit = Lit { var: 0, neg: false };
 
 const NOT_B: Lit = Lit { var: 1, neg: true };
 
-#[test]
-fn clauses_are_read_back(rt: HostRuntime) -> Result<(), Fail> {
-    let mut clauses = Clauses::new(rt.alloc());
-    assert_eq!(rt; clauses.fresh()?, 0);
-    assert_eq!(rt; clauses.fresh()?, 1);
+fn put_two(clauses: &mut Clauses) -> Result<(), Fault> {
+    expect(clauses.fresh()? == 0)?;
+    expect(clauses.fresh()? == 1)?;
+    expect(clauses.vars() == 2)?;
     clauses.push(&[])?;
     clauses.push(&[A, NOT_B])?;
-    assert_eq!(rt; (clauses.vars(), clauses.len()), (2, 2));
-    assert_eq!(rt; clauses.get(0).len(), 0);
-    assert_eq!(rt; clauses.get(1), [A, NOT_B].as_slice());
     Ok(())
 }
 
-#[test]
-fn logs_are_read_back(rt: HostRuntime) -> Result<(), Fail> {
-    let mut log = ClauseList::new(rt.alloc());
+fn read_two(clauses: &Clauses) -> Result<(), Fault> {
+    expect(clauses.vars() == 2 && clauses.len() == 2)?;
+    expect(clauses.get(0).len() == 0)?;
+    expect(clauses.get(1) == [A, NOT_B].as_slice())
+}
+
+fn clauses_are_read_back(alloc: Global) -> Result<(), Fault> {
+    let mut clauses = Clauses::new(alloc);
+    put_two(&mut clauses)?;
+    read_two(&clauses)
+}
+
+fn logs_are_read_back(alloc: Global) -> Result<(), Fault> {
+    let mut log = ClauseList::new(alloc);
     log.push(&[NOT_B, A, A])?;
-    assert_eq!(rt; log.len(), 1);
-    assert_eq!(rt; log.get(0), [NOT_B, A, A].as_slice());
-    Ok(())
+    expect(log.len() == 1)?;
+    expect(log.get(0) == [NOT_B, A, A].as_slice())
+}
+
+/// Tells of the table of clauses that are read back.
+pub fn tell(alloc: Global, report: &mut Report) -> Result<(), AllocError> {
+    report.row(clauses_are_read_back(alloc))?;
+    report.row(logs_are_read_back(alloc))?;
+    report.end("clauses read back")
 }

@@ -3,92 +3,20 @@
 ghost use Rattle.std.specs.Prelude.{◌≡◌, ◌≤◌, ℕ, [], ◌∷◌, IsTrue, IfOk, List};
 ghost use Rattle.sk_dag.specs.declared.node.BoolId.{BoolId as BoolIdOf};
 ghost use Rattle.sk_cnf.specs.Standing.{Stands};
-ghost use Rattle.sk_base.specs.Word.{IsWord};
-ghost use Rattle.sk_dag.specs.Graph.{HasBool, HasWord, HasCost, MayFollow};
+ghost use Rattle.sk_dag.specs.Graph.{MayFollow};
 
-use sk_base::{List, wrap};
+use crate::forced::{make_true, propagate};
+use row_tables::{Fault, Report, expect, has_bool, has_cost, has_word, is_word};
+use sk_base::List;
 use sk_clause::Lit;
 use sk_cnf::{Encoded, Growing, Leaf, are_distinct, encode};
 use sk_dag::{BoolId, CostId, Dag, Node, WordId};
 use std::alloc::{AllocError, Global};
-use std::process::Abort;
-use std::test::Fail;
-
-// What is known of a variable.
-#[derive(Clone, Copy, PartialEq, Eq, Debug, Drop)]
-enum Known {
-    Nothing,
-    False,
-    True,
-}
-
-fn value_of(values: &[Known], lit: Lit) -> Known {
-    match (values.get(lit.var), lit.neg) {
-        (Some(Known::True), false) => Known::True,
-        (Some(Known::True), true) => Known::False,
-        (Some(Known::False), false) => Known::False,
-        (Some(Known::False), true) => Known::True,
-        _ => Known::Nothing,
-    }
-}
-
-fn make_true(values: &mut [Known], lit: Lit) {
-    if lit.var < values.len() {
-        values[lit.var] = if lit.neg { Known::False } else { Known::True };
-    }
-}
-
-// What a clause says: it is true, or all its literals are false, or one literal alone can make it true.
-#[derive(Clone, Copy, Debug, Drop)]
-enum Says {
-    Nothing,
-    Never,
-    Only(Lit),
-}
-
-fn reads(values: &[Known], clause: &[Lit]) -> Says {
-    let mut left = Says::Never;
-    for lit in clause {
-        match value_of(values, *lit) {
-            Known::True => return Says::Nothing,
-            Known::False => {}
-            Known::Nothing => match left {
-                Says::Never => left = Says::Only(*lit),
-                _ => return Says::Nothing,
-            },
-        }
-    }
-    left
-}
-
-// Draws each conclusion that some clause forces, and says whether the clauses are met, if no variable is left open.
-fn propagate(formula: &Encoded, values: &mut [Known]) -> Option<bool> {
-    for _ in 0..formula.clauses.len() {
-        let mut changed = false;
-        for i in 0..formula.clauses.len() {
-            match reads(values, formula.clauses.get(i)) {
-                Says::Nothing => {}
-                Says::Never => return Some(false),
-                Says::Only(lit) => {
-                    make_true(values, lit);
-                    changed = true;
-                }
-            }
-        }
-        if !changed {
-            break;
-        }
-    }
-    if values.iter().any(|value| *value == Known::Nothing) {
-        return None;
-    }
-    Some(true)
-}
 
 // Whether bits for the names extend to values that meet the clauses. `None` where propagation alone does not tell; else
 // the extension is the only one.
 fn extends(alloc: Global, formula: &Encoded, bits: u64) -> Result<Option<bool>, AllocError> {
-    let mut values = vec![in alloc; Known::Nothing; formula.clauses.vars()]?;
+    let mut values = vec![in alloc; None; formula.clauses.vars()]?;
     for i in 0..formula.names.len() {
         let name = formula.names.as_slice()[i];
         make_true(
@@ -99,56 +27,10 @@ fn extends(alloc: Global, formula: &Encoded, bits: u64) -> Result<Option<bool>, 
             },
         );
     }
-    Ok(propagate(formula, &mut values))
+    Ok(propagate(&formula.clauses, &mut values))
 }
 
 // ---- graphs
-
-fn has_bool(dag: &Dag, a: BoolId) -> bool
-    ensures { IsTrue result → HasBool dag.now.nodes a }
-{
-    if a.index >= dag.len() {
-        return false;
-    }
-    match *dag.node(a.index) {
-        Node::Flag(_) | Node::HoleBit(_, _) | Node::InputBit(_) | Node::Not(_) => true,
-        Node::And(_, _) | Node::Or(_, _) | Node::Xor(_, _) | Node::BoolMux(_, _, _) => true,
-        Node::Lt(_, _) | Node::Eq(_, _) | Node::CostLe(_, _) => true,
-        _ => false,
-    }
-}
-
-fn has_word(dag: &Dag, a: WordId) -> bool
-    ensures { IsTrue result → HasWord dag.now.nodes a }
-{
-    if a.index >= dag.len() {
-        return false;
-    }
-    match *dag.node(a.index) {
-        Node::Word(_) | Node::HoleWord(_) | Node::InputWord(_) | Node::Mux(_, _, _) => true,
-        Node::Add(_, _) | Node::Sub(_, _) | Node::Mul(_, _) | Node::Div(_, _) => true,
-        Node::Rem(_, _) => true,
-        _ => false,
-    }
-}
-
-fn has_cost(dag: &Dag, a: CostId) -> bool
-    ensures { IsTrue result → HasCost dag.now.nodes a }
-{
-    if a.index >= dag.len() {
-        return false;
-    }
-    match *dag.node(a.index) {
-        Node::CostZero | Node::CostAdd(_, _, _) => true,
-        _ => false,
-    }
-}
-
-fn is_word(bits: u32, number: i64) -> bool
-    ensures { IsTrue result → IsWord bits number }
-{
-    bits >= 2 && bits <= 32 && wrap(bits, number) == number
-}
 
 // Whether the nodes that a node names are there, with their sorts.
 fn fits(dag: &Dag, node: Node) -> bool
@@ -171,17 +53,18 @@ fn fits(dag: &Dag, node: Node) -> bool
     }
 }
 
-fn put(rt: &impl Abort, dag: &mut Dag, node: Node) -> Result<usize, AllocError> {
-    assert!(rt; fits(dag, node), "{node:?} does not fit");
-    dag.intern(node)
+fn put(dag: &mut Dag, node: Node) -> Result<usize, Fault> {
+    expect(fits(dag, node))?;
+    let index = dag.intern(node)?;
+    Ok(index)
 }
 
 // The graph of these nodes.
-fn graph_of(rt: &impl Abort, alloc: Global, bits: u32, nodes: &[Node]) -> Result<Dag, AllocError> {
-    assert!(rt; bits >= 2 && bits <= 32, "no width of a graph");
+fn graph_of(alloc: Global, bits: u32, nodes: &[Node]) -> Result<Dag, Fault> {
+    expect(bits >= 2 && bits <= 32)?;
     let mut dag = Dag::new(alloc, bits);
     for node in nodes {
-        put(rt, &mut dag, *node)?;
+        put(&mut dag, *node)?;
     }
     Ok(dag)
 }
@@ -222,7 +105,7 @@ const FIRST: [Node; 7] = [
     Node::CostZero,
 ];
 
-#[derive(Clone, Copy, PartialEq, Eq, Debug, Drop)]
+#[derive(Clone, Copy)]
 enum Kind {
     Flag,
     Word,
@@ -332,32 +215,28 @@ fn three_words(alloc: Global, bits: u32) -> Result<List<Leaf>, AllocError> {
 }
 
 // The formula that says that the last node of a graph is true.
-fn formula_of(
-    rt: &impl Abort,
-    alloc: Global,
-    dag: &Dag,
-    leaves: &[Leaf],
-) -> Result<Encoded, AllocError> {
+fn formula_of(alloc: Global, dag: &Dag, leaves: &[Leaf]) -> Result<Encoded, Fault> {
     let root = BoolId {
         index: dag.len().saturating_sub(1),
     };
-    assert!(rt; has_bool(dag, root), "the last node is no truth value");
+    expect(has_bool(dag, root))?;
     let distinct = are_distinct(alloc, leaves)?;
-    assert!(rt; distinct, "a leaf stands twice");
-    encode(alloc, dag, root, leaves)
+    expect(distinct)?;
+    let formula = encode(alloc, dag, root, leaves)?;
+    Ok(formula)
 }
 
-// The graph of a node and a root that stands on it.
-fn kind_graph(
-    rt: &impl Abort,
+// The graph of these nodes, and behind them a node and a root that stands on it.
+fn graph_with(
     alloc: Global,
     bits: u32,
+    first: &[Node],
     node: Node,
     root: Node,
-) -> Result<Dag, AllocError> {
-    let mut dag = graph_of(rt, alloc, bits, &FIRST)?;
-    put(rt, &mut dag, node)?;
-    put(rt, &mut dag, root)?;
+) -> Result<Dag, Fault> {
+    let mut dag = graph_of(alloc, bits, first)?;
+    put(&mut dag, node)?;
+    put(&mut dag, root)?;
     Ok(dag)
 }
 
@@ -384,37 +263,63 @@ fn first_wrong(
     Ok(None)
 }
 
-#[test]
-fn each_kind_of_node_in_each_environment(rt: HostRuntime) -> Result<(), Fail> {
-    let alloc = rt.alloc();
-    for bits in 2..4u32 {
-        let leaves = three_words(alloc, bits)?;
-        for (kind, node, root) in kinds() {
-            let dag = kind_graph(&rt, alloc, bits, *node, *root)?;
-            let formula = formula_of(&rt, alloc, &dag, leaves.as_slice())?;
-            let wrong = first_wrong(alloc, &formula, *kind, bits)?;
-            assert_eq!(rt; wrong, None, "{kind:?} of {bits} bits");
-        }
-    }
-    Ok(())
+fn says_as_wanted(
+    alloc: Global,
+    dag: &Dag,
+    leaves: &[Leaf],
+    kind: Kind,
+    bits: u32,
+) -> Result<(), Fault>
+    requires { bits ≤ 3 }
+{
+    let formula = formula_of(alloc, dag, leaves)?;
+    let wrong = first_wrong(alloc, &formula, kind, bits)?;
+    expect(wrong.is_none())
 }
 
+// Each kind of node in each environment of words of so many bits.
+fn is_encoded(
+    alloc: Global,
+    bits: u32,
+    leaves: &[Leaf],
+    row: (Kind, Node, Node),
+) -> Result<(), Fault>
+    requires { bits ≤ 3 }
+{
+    let (kind, node, root) = row;
+    let dag = graph_with(alloc, bits, &FIRST, node, root)?;
+    says_as_wanted(alloc, &dag, leaves, kind, bits)
+}
+
+fn tell_kinds(alloc: Global, report: &mut Report) -> Result<(), AllocError> {
+    for bits in 2..4u32 {
+        let leaves = three_words(alloc, bits)?;
+        for row in kinds() {
+            report.row(is_encoded(alloc, bits, leaves.as_slice(), *row))?;
+        }
+    }
+    report.end("kinds of nodes")
+}
+
+const TWO_AND_TWO: [Leaf; 4] = [
+    Leaf::Input { scalar: 0, k: 0 },
+    Leaf::Input { scalar: 0, k: 1 },
+    Leaf::Hole { site: 0, k: 0 },
+    Leaf::Hole { site: 0, k: 1 },
+];
+
 // Two bits of the input and two of a hole: there is a hole that an input of 1 is below, and none where both are 2.
-#[test]
-fn an_input_below_a_hole(rt: HostRuntime) -> Result<(), Fail> {
-    let alloc = rt.alloc();
+fn an_input_below_a_hole(alloc: Global) -> Result<(), Fault> {
     let nodes = [Node::InputWord(0), Node::HoleWord(0), Node::Lt(X, Y)];
-    let dag = graph_of(&rt, alloc, 8, &nodes)?;
-    let leaves = [
-        Leaf::Input { scalar: 0, k: 0 },
-        Leaf::Input { scalar: 0, k: 1 },
-        Leaf::Hole { site: 0, k: 0 },
-        Leaf::Hole { site: 0, k: 1 },
-    ];
-    let formula = formula_of(&rt, alloc, &dag, &leaves)?;
-    assert_eq!(rt; extends(alloc, &formula, 1 + 4 * 2)?, Some(true));
-    assert_eq!(rt; extends(alloc, &formula, 2 + 4 * 2)?, Some(false));
-    Ok(())
+    let dag = graph_of(alloc, 8, &nodes)?;
+    is_below_a_hole(alloc, &dag)
+}
+
+fn is_below_a_hole(alloc: Global, dag: &Dag) -> Result<(), Fault> {
+    let formula = formula_of(alloc, dag, &TWO_AND_TWO)?;
+    let below = extends(alloc, &formula, 1 + 4 * 2)?;
+    let not_below = extends(alloc, &formula, 2 + 4 * 2)?;
+    expect(below == Some(true) && not_below == Some(false))
 }
 
 // ---- sizes
@@ -465,19 +370,32 @@ fn ten_leaves(alloc: Global) -> Result<List<Leaf>, AllocError> {
     Ok(leaves)
 }
 
-#[test]
-fn sizes_of_formulas(rt: HostRuntime) -> Result<(), Fail> {
-    let alloc = rt.alloc();
+// The formula that says that the last node of a graph is true has so many variables and clauses.
+fn expect_size(
+    alloc: Global,
+    dag: &Dag,
+    leaves: &[Leaf],
+    vars: usize,
+    clauses: usize,
+) -> Result<(), Fault> {
+    let formula = formula_of(alloc, dag, leaves)?;
+    expect(formula.clauses.vars() == vars && formula.clauses.len() == clauses)
+}
+
+fn is_size(alloc: Global, leaves: &[Leaf], row: (Node, Node, usize, usize)) -> Result<(), Fault> {
+    let (node, root, vars, clauses) = row;
+    let dag = graph_with(alloc, 16, &MEASURED, node, root)?;
+    expect_size(alloc, &dag, leaves, vars, clauses)
+}
+
+fn tell_sizes(alloc: Global, report: &mut Report) -> Result<(), AllocError> {
     let leaves = ten_leaves(alloc)?;
-    for (node, root, vars, clauses) in sizes() {
-        let mut dag = graph_of(&rt, alloc, 16, &MEASURED)?;
-        put(&rt, &mut dag, *node)?;
-        put(&rt, &mut dag, *root)?;
-        let formula = formula_of(&rt, alloc, &dag, leaves.as_slice())?;
-        assert_eq!(rt; formula.clauses.vars(), *vars, "variables of {node:?}");
-        assert_eq!(rt; formula.clauses.len(), *clauses, "clauses of {node:?}");
+    for row in sizes() {
+        report.row(is_size(alloc, leaves.as_slice(), *row))?;
     }
-    Ok(())
+    report.row(size_of_additions(alloc))?;
+    report.row(size_of_quotient_and_remainder(alloc, leaves.as_slice()))?;
+    report.end("sizes of formulas")
 }
 
 // Three words of which 5 bits have leaves, bit 0 of a hole, three additions to a cost of 0, and whether that is at most 9.
@@ -496,26 +414,25 @@ const CHARGED: [Node; 9] = [
 // Counted by hand. There are 16 leaves. Each addition keeps 5 bits where the bit is true: 5 variables and 15 clauses. The
 // first adds nothing to 0. The second has a half adder and four full ones, 14 and 55, and the third the same and a half
 // adder for the sixth bit: 16 and 62. The comparison has a gate for each of five bits: 5 and 15. One clause asks for it.
-#[test]
-fn size_of_three_additions_to_a_cost(rt: HostRuntime) -> Result<(), Fail> {
-    let alloc = rt.alloc();
+fn size_of_additions(alloc: Global) -> Result<(), Fault> {
+    let leaves = sixteen_leaves(alloc)?;
+    let dag = graph_of(alloc, 16, &CHARGED)?;
+    expect_size(alloc, &dag, leaves.as_slice(), 66, 178)
+}
+
+// A leaf for each of five bits of three scalars, and one for a bit of the hole.
+fn sixteen_leaves(alloc: Global) -> Result<List<Leaf>, AllocError> {
     let mut leaves = ten_leaves(alloc)?;
     for k in 0..5u32 {
         leaves.push(Leaf::Input { scalar: 2, k })?;
     }
     leaves.push(Leaf::Hole { site: 0, k: 0 })?;
-    let dag = graph_of(&rt, alloc, 16, &CHARGED)?;
-    let formula = formula_of(&rt, alloc, &dag, leaves.as_slice())?;
-    assert_eq!(rt; formula.clauses.vars(), 66);
-    assert_eq!(rt; formula.clauses.len(), 178);
-    Ok(())
+    Ok(leaves)
 }
 
 // The division is made once: 73 variables and 269 clauses. Each of the five bits is compared, which costs 1 and 4, and four
 // gates join what is apart, for 1 and 3 each.
-#[test]
-fn a_quotient_and_a_remainder_share_their_division(rt: HostRuntime) -> Result<(), Fail> {
-    let alloc = rt.alloc();
+fn size_of_quotient_and_remainder(alloc: Global, leaves: &[Leaf]) -> Result<(), Fault> {
     let nodes = [
         Node::InputWord(0),
         Node::InputWord(1),
@@ -523,52 +440,37 @@ fn a_quotient_and_a_remainder_share_their_division(rt: HostRuntime) -> Result<()
         Node::Rem(X, Y),
         Node::Eq(Z, WordId { index: 3 }),
     ];
-    let dag = graph_of(&rt, alloc, 16, &nodes)?;
-    let leaves = ten_leaves(alloc)?;
-    let formula = formula_of(&rt, alloc, &dag, leaves.as_slice())?;
-    assert_eq!(rt; formula.clauses.vars(), 10 + 73 + 5 + 4);
-    assert_eq!(rt; formula.clauses.len(), 269 + 20 + 12 + 1);
-    Ok(())
+    let dag = graph_of(alloc, 16, &nodes)?;
+    expect_size(alloc, &dag, leaves, 10 + 73 + 5 + 4, 269 + 20 + 12 + 1)
 }
 
 // ---- formulas that grow
 
 // A formula over names for the leaves, which says nothing yet.
-fn started(rt: &impl Abort, alloc: Global, leaves: &[Leaf]) -> Result<Growing, AllocError>
+fn started(alloc: Global, leaves: &[Leaf]) -> Result<Growing, Fault>
     ensures { IfOk result (λ r. (w : ℕ) → Stands r (record { bits = w; nodes = [] }) []) }
 {
     let distinct = are_distinct(alloc, leaves)?;
-    assert!(rt; distinct, "a leaf stands twice");
+    expect(distinct)?;
     let growing = Growing::new(alloc, leaves)?;
     Ok(growing)
 }
 
 // The formula of a first root.
-fn of_root(
-    rt: &impl Abort,
-    alloc: Global,
-    leaves: &[Leaf],
-    dag: &Dag,
-    root: BoolId,
-) -> Result<Growing, AllocError>
+fn of_root(alloc: Global, leaves: &[Leaf], dag: &Dag, root: BoolId) -> Result<Growing, Fault>
     ensures { IfOk result (λ r. Stands r dag.now (root ∷ [])) }
 {
-    assert!(rt; has_bool(dag, root), "the root is no truth value");
-    let mut growing = started(rt, alloc, leaves)?;
+    expect(has_bool(dag, root))?;
+    let mut growing = started(alloc, leaves)?;
     growing.require(dag, root)?;
     Ok(growing)
 }
 
 // The formula with a further root.
-fn with_root(
-    rt: &impl Abort,
-    growing: &mut Growing,
-    dag: &Dag,
-    root: BoolId,
-) -> Result<(), AllocError>
+fn with_root(growing: &mut Growing, dag: &Dag, root: BoolId) -> Result<(), Fault>
     requires { (roots : List BoolIdOf) × Stands growing.old dag.now roots }
 {
-    assert!(rt; has_bool(dag, root), "the root is no truth value");
+    expect(has_bool(dag, root))?;
     growing.require(dag, root)?;
     Ok(())
 }
@@ -587,9 +489,7 @@ fn says_so(alloc: Global, formula: &Encoded, also: bool) -> Result<bool, AllocEr
     Ok(true)
 }
 
-#[test]
-fn roots_one_after_another(rt: HostRuntime) -> Result<(), Fail> {
-    let alloc = rt.alloc();
+fn roots_one_after_another(alloc: Global) -> Result<(), Fault> {
     let nodes = [
         Node::InputWord(0),
         Node::HoleWord(0),
@@ -598,16 +498,22 @@ fn roots_one_after_another(rt: HostRuntime) -> Result<(), Fail> {
         Node::Eq(Y, WordId { index: 3 }),
         Node::Not(BoolId { index: 4 }),
     ];
-    let dag = graph_of(&rt, alloc, 8, &nodes)?;
-    let leaves = [
-        Leaf::Input { scalar: 0, k: 0 },
-        Leaf::Input { scalar: 0, k: 1 },
-        Leaf::Hole { site: 0, k: 0 },
-        Leaf::Hole { site: 0, k: 1 },
-    ];
-    let mut growing = of_root(&rt, alloc, &leaves, &dag, BoolId { index: 2 })?;
-    assert!(rt; says_so(alloc, growing.encoded(), false)?, "the first root");
-    with_root(&rt, &mut growing, &dag, BoolId { index: 5 })?;
-    assert!(rt; says_so(alloc, growing.encoded(), true)?, "both roots");
-    Ok(())
+    let dag = graph_of(alloc, 8, &nodes)?;
+    says_one_after_another(alloc, &dag)
+}
+
+fn says_one_after_another(alloc: Global, dag: &Dag) -> Result<(), Fault> {
+    let mut growing = of_root(alloc, &TWO_AND_TWO, dag, BoolId { index: 2 })?;
+    expect(says_so(alloc, growing.encoded(), false)?)?;
+    with_root(&mut growing, dag, BoolId { index: 5 })?;
+    expect(says_so(alloc, growing.encoded(), true)?)
+}
+
+/// Tells of the tables of encodings.
+pub fn tell(alloc: Global, report: &mut Report) -> Result<(), AllocError> {
+    tell_kinds(alloc, report)?;
+    tell_sizes(alloc, report)?;
+    report.row(an_input_below_a_hole(alloc))?;
+    report.row(roots_one_after_another(alloc))?;
+    report.end("formulas that are met")
 }

@@ -1,32 +1,10 @@
 ghost use Rattle.std.specs.Prelude.{◌≡◌, IfOk};
 
-use sk_clause::{ClauseList, Clauses, Lit, Log};
+use crate::numbers::{SQUARE, list_of};
+use row_tables::{Fault, Report, expect};
+use sk_clause::{Clauses, Lit, Log};
 use sk_rup::{each_follows, refutes};
 use std::alloc::{AllocError, Global};
-use std::test::Fail;
-
-// The literal that a number of the DIMACS format writes.
-fn lit(n: i32) -> Lit {
-    Lit {
-        var: (n.unsigned_abs() as usize).wrapping_sub(1),
-        neg: n < 0,
-    }
-}
-
-// The clauses that numbers of the DIMACS format write, each ended by 0.
-fn list_of(alloc: Global, numbers: &[i32]) -> Result<ClauseList, AllocError> {
-    let mut list = ClauseList::new(alloc);
-    let mut clause: Vec<Lit> = Vec::new(alloc);
-    for n in numbers {
-        if *n == 0 {
-            list.push(&clause)?;
-            clause.clear();
-        } else {
-            clause.push(lit(*n))?;
-        }
-    }
-    Ok(list)
-}
 
 // Adds a clause, without its literals of variables that are not there.
 fn put(alloc: Global, clauses: &mut Clauses, clause: &[Lit]) -> Result<(), AllocError> {
@@ -40,10 +18,7 @@ fn put(alloc: Global, clauses: &mut Clauses, clause: &[Lit]) -> Result<(), Alloc
 }
 
 fn clauses_of(alloc: Global, vars: usize, numbers: &[i32]) -> Result<Clauses, AllocError> {
-    let mut clauses = Clauses::new(alloc);
-    for _ in 0..vars {
-        let _ = clauses.fresh()?;
-    }
+    let mut clauses = Clauses::with_vars(alloc, vars);
     let list = list_of(alloc, numbers)?;
     for i in 0..list.len() {
         put(alloc, &mut clauses, list.get(i))?;
@@ -60,47 +35,43 @@ fn judged(alloc: Global, numbers: &[i32], log: &[i32]) -> Result<(bool, bool), A
     Ok((each, refuted))
 }
 
-const SQUARE: [i32; 12] = [1, 2, 0, 1, -2, 0, -1, 2, 0, -1, -2, 0];
+/// The clauses, a log, and whether each of its clauses follows, and whether it refutes.
+type Judged = (&'static [i32], &'static [i32], bool, bool);
 
-#[test]
-fn logs_are_judged(rt: HostRuntime) -> Result<(), Fail> {
-    let a = rt.alloc();
-    assert_eq!(rt; judged(a, &SQUARE, &[1, 0, 0])?, (true, true));
-    assert_eq!(rt;
-        judged(a, &SQUARE, &[0])?,
-        (false, false),
-        "does not follow yet"
-    );
-    assert_eq!(rt;
-        judged(a, &SQUARE, &[1, 0])?,
-        (true, false),
-        "last clause not empty"
-    );
-    assert_eq!(rt; judged(a, &SQUARE, &[])?, (true, false), "empty log");
-    assert_eq!(rt;
-        judged(a, &SQUARE, &[0, 1, 0, 0])?,
-        (false, false),
-        "only a later clause justifies"
-    );
-    assert_eq!(rt;
-        judged(a, &SQUARE, &[1, 0, 0, 2, 0])?,
-        (true, false),
-        "goes on past the empty clause"
-    );
-    assert_eq!(rt;
-        judged(a, &[1, 2, 0], &[1, 0, 0])?,
-        (false, false),
-        "does not follow"
-    );
-    assert_eq!(rt;
-        judged(a, &[], &[3, -3, 0])?,
-        (true, false),
-        "a literal and its negation"
-    );
-    assert_eq!(rt;
-        judged(a, &[1, 1, 0, -1, -1, 0], &[9, 0, 0])?,
-        (true, true),
-        "a variable of the log alone"
-    );
-    Ok(())
+const JUDGED: &[Judged] = &[
+    (SQUARE, &[1, 0, 0], true, true),
+    // Does not follow yet.
+    (SQUARE, &[0], false, false),
+    // The last clause is not empty.
+    (SQUARE, &[1, 0], true, false),
+    // The empty log.
+    (SQUARE, &[], true, false),
+    // Only a later clause justifies.
+    (SQUARE, &[0, 1, 0, 0], false, false),
+    // Goes on past the empty clause.
+    (SQUARE, &[1, 0, 0, 2, 0], true, false),
+    // Does not follow.
+    (&[1, 2, 0], &[1, 0, 0], false, false),
+    // A literal and its negation.
+    (&[], &[3, -3, 0], true, false),
+    // A variable of the log alone.
+    (&[1, 1, 0, -1, -1, 0], &[9, 0, 0], true, true),
+];
+
+// The table. Proofs see no row of it.
+fn rows() -> &'static [Judged] {
+    JUDGED
+}
+
+fn is_judged(alloc: Global, row: &Judged) -> Result<(), Fault> {
+    let (each, refuted) = judged(alloc, row.0, row.1)?;
+    expect(each == row.2 && refuted == row.3)
+}
+
+/// Tells of the table of logs.
+pub fn tell(alloc: Global, report: &mut Report) -> Result<(), AllocError> {
+    for row in rows() {
+        report.row(is_judged(alloc, row))?;
+    }
+    report.end("logs judged")
 }

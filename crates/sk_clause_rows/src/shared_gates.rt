@@ -1,15 +1,14 @@
 //! Gates that are met again.
 
-ghost use Rattle.std.specs.Prelude.{IsTrue, ◌≤◌};
+ghost use Rattle.std.specs.Prelude.{IsTrue, ◌≤◌, OnOk};
 ghost use Rattle.sk_gates.specs.Bits.{reach};
 
+use row_tables::{Fault, Report, expect};
 use sk_clause::{Clauses, Lit};
 use sk_gates::{Bit, SharedGates};
-use std::alloc::AllocError;
-use std::process::Abort;
-use std::test::Fail;
+use std::alloc::{AllocError, Global};
 
-#[derive(Clone, Copy, Debug)]
+#[derive(Clone, Copy)]
 enum Call {
     And(Bit, Bit),
     Or(Bit, Bit),
@@ -17,116 +16,160 @@ enum Call {
     Mux(Bit, Bit, Bit),
 }
 
-fn yes(var: usize) -> Bit {
-    Bit::Literal(Lit { var, neg: false })
-}
-
-fn no(var: usize) -> Bit {
-    Bit::Literal(Lit { var, neg: true })
-}
-
-fn is_over(gates: &SharedGates, bit: Bit) -> bool
-    ensures { IsTrue result → reach bit ≤ gates.now.vars }
+// Whether a bit is a constant, or of one of so many variables.
+fn is_over(vars: usize, bit: Bit) -> bool
+    ensures { IsTrue result → reach bit ≤ vars }
 {
     match bit {
         Bit::Constant(_) => true,
-        Bit::Literal(lit) => lit.var < gates.clauses().vars(),
+        Bit::Literal(lit) => lit.var < vars,
     }
 }
 
-fn need(rt: &impl Abort, gates: &SharedGates, bit: Bit)
-    ensures { reach bit ≤ gates.now.vars }
+fn need(gates: &SharedGates, bit: Bit) -> Result<(), Fault>
+    ensures { OnOk result (reach bit ≤ gates.now.vars) }
 {
-    assert!(rt; is_over(gates, bit), "no variable of {bit:?}");
+    expect(is_over(gates.clauses().vars(), bit))
 }
 
-fn answer(rt: &impl Abort, gates: &mut SharedGates, call: Call) -> Result<Bit, AllocError> {
+fn answer(gates: &mut SharedGates, call: Call) -> Result<Bit, Fault> {
     let (c, a, b) = match call {
         Call::And(a, b) | Call::Or(a, b) | Call::Xor(a, b) => (a, a, b),
         Call::Mux(c, a, b) => (c, a, b),
     };
-    need(rt, gates, a);
-    need(rt, gates, b);
-    need(rt, gates, c);
-    match call {
-        Call::And(_, _) => gates.and(a, b),
-        Call::Or(_, _) => gates.or(a, b),
-        Call::Xor(_, _) => gates.xor(a, b),
-        Call::Mux(_, _, _) => gates.mux(c, a, b),
-    }
+    need(gates, a)?;
+    need(gates, b)?;
+    need(gates, c)?;
+    let made = match call {
+        Call::And(_, _) => gates.and(a, b)?,
+        Call::Or(_, _) => gates.or(a, b)?,
+        Call::Xor(_, _) => gates.xor(a, b)?,
+        Call::Mux(_, _, _) => gates.mux(c, a, b)?,
+    };
+    Ok(made)
 }
+
+// The variables of the calls, and then those of their gates, in their order.
+const X: Bit = Bit::Literal(Lit { var: 0, neg: false });
+
+const Y: Bit = Bit::Literal(Lit { var: 1, neg: false });
+
+const Z: Bit = Bit::Literal(Lit { var: 2, neg: false });
+
+const BOTH: Bit = Bit::Literal(Lit { var: 3, neg: false });
+
+const NEITHER: Bit = Bit::Literal(Lit { var: 4, neg: false });
+
+const ONE: Bit = Bit::Literal(Lit { var: 5, neg: false });
+
+const CHOSEN: Bit = Bit::Literal(Lit { var: 6, neg: false });
+
+const LAST: Bit = Bit::Literal(Lit { var: 7, neg: false });
+
+const NOT_X: Bit = Bit::Literal(Lit { var: 0, neg: true });
+
+const NOT_Y: Bit = Bit::Literal(Lit { var: 1, neg: true });
+
+const NOT_Z: Bit = Bit::Literal(Lit { var: 2, neg: true });
+
+const NOT_BOTH: Bit = Bit::Literal(Lit { var: 3, neg: true });
+
+const NOT_NEITHER: Bit = Bit::Literal(Lit { var: 4, neg: true });
+
+const NOT_ONE: Bit = Bit::Literal(Lit { var: 5, neg: true });
 
 // Calls one after another over the variables 0 to 2, each with the number of variables after it and its answer. A gate
 // has the next variable for its own; what stands for it later is that variable or its negation.
-fn calls() -> [(Call, usize, Bit); 16] {
-    let x = yes(0);
-    let y = yes(1);
-    let z = yes(2);
-    [
-        (Call::And(x, y), 4, yes(3)),
-        (Call::And(y, x), 4, yes(3)),
-        (Call::And(no(0), no(1)), 5, yes(4)),
-        (Call::Or(x, y), 5, no(4)),
-        (Call::Or(no(1), no(0)), 5, no(3)),
-        (Call::Xor(x, y), 6, yes(5)),
-        (Call::Xor(no(0), y), 6, no(5)),
-        (Call::Xor(no(1), no(0)), 6, yes(5)),
-        (Call::Mux(z, x, y), 7, yes(6)),
-        (Call::Mux(no(2), y, x), 7, yes(6)),
-        (Call::Mux(x, y, no(1)), 7, no(5)),
-        (Call::Mux(x, Bit::Constant(true), y), 7, no(4)),
-        (Call::Mux(x, y, x), 7, yes(3)),
-        (Call::And(x, Bit::Constant(true)), 7, x),
-        (Call::Xor(x, no(0)), 7, Bit::Constant(true)),
-        (Call::And(yes(5), z), 8, yes(7)),
-    ]
+const CALLS: &[(Call, usize, Bit)] = &[
+    (Call::And(X, Y), 4, BOTH),
+    (Call::And(Y, X), 4, BOTH),
+    (Call::And(NOT_X, NOT_Y), 5, NEITHER),
+    (Call::Or(X, Y), 5, NOT_NEITHER),
+    (Call::Or(NOT_Y, NOT_X), 5, NOT_BOTH),
+    (Call::Xor(X, Y), 6, ONE),
+    (Call::Xor(NOT_X, Y), 6, NOT_ONE),
+    (Call::Xor(NOT_Y, NOT_X), 6, ONE),
+    (Call::Mux(Z, X, Y), 7, CHOSEN),
+    (Call::Mux(NOT_Z, Y, X), 7, CHOSEN),
+    (Call::Mux(X, Y, NOT_Y), 7, NOT_ONE),
+    (Call::Mux(X, Bit::Constant(true), Y), 7, NOT_NEITHER),
+    (Call::Mux(X, Y, X), 7, BOTH),
+    (Call::And(X, Bit::Constant(true)), 7, X),
+    (Call::Xor(X, NOT_X), 7, Bit::Constant(true)),
+    (Call::And(ONE, Z), 8, LAST),
+];
+
+// The table. Proofs see no row of it.
+fn calls() -> &'static [(Call, usize, Bit)] {
+    CALLS
 }
 
-#[test]
-fn a_gate_is_made_once(rt: HostRuntime) -> Result<(), Fail> {
-    let mut gates = SharedGates::new(rt.alloc(), Clauses::new(rt.alloc()));
-    for _ in 0..3 {
-        gates.fresh()?;
-    }
-    for (call, vars, wanted) in calls() {
-        let bit = answer(&rt, &mut gates, call)?;
-        assert_eq!(rt; bit, wanted, "of {call:?}");
-        assert_eq!(rt; gates.clauses().vars(), vars, "after {call:?}");
-    }
-    gates.push(&[])?;
-    let (clauses, made) = gates.into_parts();
-    assert_eq!(rt; clauses.len(), 3 + 3 + 4 + 4 + 3 + 1);
-    let mut again = SharedGates::from_parts(clauses, made);
-    for (call, _, wanted) in calls() {
-        assert_eq!(rt; answer(&rt, &mut again, call)?, wanted, "of {call:?} again");
-    }
-    assert_eq!(rt; again.clauses().vars(), 8);
+/// Makes three variables.
+fn make_three(gates: &mut SharedGates) -> Result<(), AllocError> {
+    gates.fresh()?;
+    gates.fresh()?;
+    gates.fresh()?;
     Ok(())
 }
 
+/// A call has this answer, and so many variables after it.
+fn expect_call(gates: &mut SharedGates, call: Call, vars: usize, wanted: Bit) -> Result<(), Fault> {
+    let bit = answer(gates, call)?;
+    expect(bit == wanted)?;
+    expect(gates.clauses().vars() == vars)
+}
+
+fn try_calls(gates: &mut SharedGates, report: &mut Report) -> Result<(), AllocError> {
+    make_three(gates)?;
+    for (call, vars, wanted) in calls() {
+        report.row(expect_call(gates, *call, *vars, *wanted))?;
+    }
+    gates.push(&[])
+}
+
+fn try_again(gates: &mut SharedGates, report: &mut Report) -> Result<(), AllocError> {
+    for (call, _, wanted) in calls() {
+        report.row(expect_call(gates, *call, 8, *wanted))?;
+    }
+    report.end("gates that are met again")
+}
+
+/// Each call, and then each again, over what is kept of the gates.
+fn tell_calls(alloc: Global, report: &mut Report) -> Result<(), AllocError> {
+    let mut gates = SharedGates::new(alloc, Clauses::new(alloc));
+    try_calls(&mut gates, report)?;
+    let (clauses, made) = gates.into_parts();
+    report.row(expect(clauses.len() == 3 + 3 + 4 + 4 + 3 + 1))?;
+    let mut again = SharedGates::from_parts(clauses, made);
+    try_again(&mut again, report)
+}
+
 // The sum of the variables 0 to 2.
-fn sum(rt: &impl Abort, gates: &mut SharedGates) -> Result<(Bit, Bit), AllocError> {
-    let x = yes(0);
-    let y = yes(1);
-    let z = yes(2);
-    need(rt, gates, x);
-    need(rt, gates, y);
-    need(rt, gates, z);
-    let made = gates.full_adder(x, y, z)?;
+fn sum(gates: &mut SharedGates) -> Result<(Bit, Bit), Fault> {
+    need(gates, X)?;
+    need(gates, Y)?;
+    need(gates, Z)?;
+    let made = gates.full_adder(X, Y, Z)?;
     Ok(made)
 }
 
 // Two sums of the same digits cost what one does: two gates of four clauses for the sum, and one for the carry.
-#[test]
-fn a_full_adder_is_made_once(rt: HostRuntime) -> Result<(), Fail> {
-    let mut gates = SharedGates::new(rt.alloc(), Clauses::new(rt.alloc()));
-    for _ in 0..3 {
-        gates.fresh()?;
-    }
-    let first = sum(&rt, &mut gates)?;
-    let second = sum(&rt, &mut gates)?;
-    assert_eq!(rt; first, second);
-    assert_eq!(rt; gates.clauses().vars(), 6);
-    assert_eq!(rt; gates.clauses().len(), 12);
-    Ok(())
+fn adds_twice(gates: &mut SharedGates) -> Result<(), Fault> {
+    make_three(gates)?;
+    let first = sum(gates)?;
+    let second = sum(gates)?;
+    expect(first == second)?;
+    expect(gates.clauses().vars() == 6 && gates.clauses().len() == 12)
+}
+
+fn a_full_adder_is_made_once(alloc: Global) -> Result<(), Fault> {
+    let mut gates = SharedGates::new(alloc, Clauses::new(alloc));
+    adds_twice(&mut gates)
+}
+
+/// Tells of the tables of gates that are met again.
+pub fn tell(alloc: Global, report: &mut Report) -> Result<(), AllocError> {
+    tell_calls(alloc, report)?;
+    report.row(a_full_adder_is_made_once(alloc))?;
+    report.end("full adders that are met again")
 }

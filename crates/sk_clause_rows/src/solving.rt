@@ -1,32 +1,10 @@
 ghost use Rattle.std.specs.Prelude.{◌≡◌, ◌≤◌, OnOk};
 
+use crate::numbers::{SQUARE, list_of};
+use row_tables::{Fault, Report, expect};
 use sk_clause::{ClauseList, Lit};
 use sk_sat::{Answer, Solver};
 use std::alloc::{AllocError, Global};
-use std::test::Fail;
-
-// The literal that a number of the DIMACS format writes.
-fn lit(n: i32) -> Lit {
-    Lit {
-        var: (n.unsigned_abs() as usize).wrapping_sub(1),
-        neg: n < 0,
-    }
-}
-
-// The clauses that numbers of the DIMACS format write, each ended by 0.
-fn list_of(alloc: Global, numbers: &[i32]) -> Result<ClauseList, AllocError> {
-    let mut list = ClauseList::new(alloc);
-    let mut clause: Vec<Lit> = Vec::new(alloc);
-    for n in numbers {
-        if *n == 0 {
-            list.push(&clause)?;
-            clause.clear();
-        } else {
-            clause.push(lit(*n))?;
-        }
-    }
-    Ok(list)
-}
 
 // Adds a clause, without its literals of variables that are not there.
 fn put(alloc: Global, solver: &mut Solver, vars: usize, clause: &[Lit]) -> Result<(), AllocError>
@@ -73,16 +51,18 @@ fn are_met(values: &[bool], list: &ClauseList) -> bool {
 }
 
 /// What an answer is, and how many values or clauses it shows.
-#[derive(Debug, Drop, Clone, Copy, PartialEq, Eq)]
+#[derive(Clone, Copy, PartialEq)]
 enum Told {
     Sat(usize),
     Unsat(usize),
+    /// `Unsat`, with any log.
+    Refuted,
     Spent(usize),
     /// Values that do not meet the clauses.
     Wrong,
 }
 
-fn tell(list: &ClauseList, answer: &Answer) -> Told {
+fn tell_answer(list: &ClauseList, answer: &Answer) -> Told {
     match answer {
         Answer::Sat(values) => {
             if are_met(values.as_slice(), list) {
@@ -101,75 +81,99 @@ fn solved(alloc: Global, vars: usize, numbers: &[i32], budget: u64) -> Result<To
     let list = list_of(alloc, numbers)?;
     let mut solver = solver_of(alloc, vars, &list)?;
     let answer = solver.solve(budget)?;
-    Ok(tell(&list, &answer))
+    Ok(tell_answer(&list, &answer))
 }
-
-// Whether the clauses are met, by the solver without a budget.
-fn is_sat(alloc: Global, vars: usize, numbers: &[i32]) -> Result<Option<bool>, AllocError> {
-    match solved(alloc, vars, numbers, 0)? {
-        Told::Sat(n) => Ok(if n == vars { Some(true) } else { None }),
-        Told::Unsat(_) => Ok(Some(false)),
-        _ => Ok(None),
-    }
-}
-
-const SQUARE: [i32; 12] = [1, 2, 0, 1, -2, 0, -1, 2, 0, -1, -2, 0];
 
 // Three pigeons in two holes: pigeon p in hole h is variable 2p + h - 2.
-const PIGEONS: [i32; 27] = [
+const PIGEONS: &[i32] = &[
     1, 2, 0, 3, 4, 0, 5, 6, 0, -1, -3, 0, -1, -5, 0, -3, -5, 0, -2, -4, 0, -2, -6, 0, -4, -6, 0,
 ];
 
 // Two pigeons in two holes.
-const ROOM: [i32; 12] = [1, 2, 0, 3, 4, 0, -1, -3, 0, -2, -4, 0];
+const ROOM: &[i32] = &[1, 2, 0, 3, 4, 0, -1, -3, 0, -2, -4, 0];
 
 // The sums of 1 and 2, of 2 and 3, and of 1 and 3, modulo 2, are all 1.
-const ODD_RING: [i32; 18] = [1, 2, 0, -1, -2, 0, 2, 3, 0, -2, -3, 0, 1, 3, 0, -1, -3, 0];
+const ODD_RING: &[i32] = &[1, 2, 0, -1, -2, 0, 2, 3, 0, -2, -3, 0, 1, 3, 0, -1, -3, 0];
 
 // The same, but for the last sum, which is 0.
-const EVEN_RING: [i32; 18] = [1, 2, 0, -1, -2, 0, 2, 3, 0, -2, -3, 0, 1, -3, 0, -1, 3, 0];
+const EVEN_RING: &[i32] = &[1, 2, 0, -1, -2, 0, 2, 3, 0, -2, -3, 0, 1, -3, 0, -1, 3, 0];
 
-#[test]
-fn answers_without_budget(rt: HostRuntime) -> Result<(), Fail> {
-    let a = rt.alloc();
-    assert_eq!(rt; is_sat(a, 2, &SQUARE)?, Some(false));
-    assert_eq!(rt;
-        is_sat(a, 2, &[1, 1, 0, 2, -2, 0])?,
-        Some(true),
-        "doubled literals"
-    );
-    assert_eq!(rt; is_sat(a, 6, &PIGEONS)?, Some(false));
-    assert_eq!(rt; is_sat(a, 4, &ROOM)?, Some(true));
-    assert_eq!(rt; is_sat(a, 3, &ODD_RING)?, Some(false));
-    assert_eq!(rt; is_sat(a, 3, &EVEN_RING)?, Some(true));
-    assert_eq!(rt; is_sat(a, 1, &[0])?, Some(false), "the empty clause");
-    assert_eq!(rt; is_sat(a, 0, &[])?, Some(true), "nothing");
-    Ok(())
+/// How many variables there are, the clauses, a budget, where 0 is none, and what is told.
+type Solved = (usize, &'static [i32], u64, Told);
+
+/// `Told::Refuted` stands for a log of any length.
+const SOLVED: &[Solved] = &[
+    (2, SQUARE, 0, Told::Refuted),
+    // Doubled literals.
+    (2, &[1, 1, 0, 2, -2, 0], 0, Told::Sat(2)),
+    (6, PIGEONS, 0, Told::Refuted),
+    (4, ROOM, 0, Told::Sat(4)),
+    (3, ODD_RING, 0, Told::Refuted),
+    (3, EVEN_RING, 0, Told::Sat(3)),
+    // The empty clause.
+    (1, &[0], 0, Told::Refuted),
+    // Nothing.
+    (0, &[], 0, Told::Sat(0)),
+    (2, SQUARE, 1, Told::Spent(1)),
+    (1, &[1, 0, -1, 0], 1, Told::Unsat(1)),
+    (2, &[], 1, Told::Sat(2)),
+];
+
+// The table. Proofs see no row of it.
+fn rows() -> &'static [Solved] {
+    SOLVED
 }
 
-#[test]
-fn answers_with_budget(rt: HostRuntime) -> Result<(), Fail> {
-    let a = rt.alloc();
-    assert_eq!(rt; solved(a, 2, &SQUARE, 1)?, Told::Spent(1));
-    assert_eq!(rt; solved(a, 1, &[1, 0, -1, 0], 1)?, Told::Unsat(1));
-    assert_eq!(rt; solved(a, 2, &[], 1)?, Told::Sat(2));
-    Ok(())
+/// Whether what was told is what is wanted.
+fn is_as_wanted(told: Told, wanted: Told) -> bool {
+    match (told, wanted) {
+        (Told::Unsat(_), Told::Refuted) => true,
+        _ => told == wanted,
+    }
 }
 
-#[test]
-fn what_was_learnt_stays(rt: HostRuntime) -> Result<(), Fail> {
-    let list = list_of(rt.alloc(), &SQUARE)?;
-    let mut solver = solver_of(rt.alloc(), 2, &list)?;
-    let first = solver.solve(1)?;
-    assert_eq!(rt; tell(&list, &first), Told::Spent(1));
-    assert_eq!(rt; solver.learnt_len(), 1);
-    assert_eq!(rt;
-        solver.learnt(0).len(),
-        1,
-        "one literal, which the square forces"
-    );
-    let second = solver.solve(10)?;
-    assert_eq!(rt; tell(&list, &second), Told::Unsat(2));
-    assert_eq!(rt; solver.learnt_len(), 1, "the empty clause is not counted");
-    Ok(())
+fn is_solved(alloc: Global, row: &Solved) -> Result<(), Fault> {
+    let told = solved(alloc, row.0, row.1, row.2)?;
+    expect(is_as_wanted(told, row.3))
+}
+
+// A call tells this.
+fn expect_told(
+    solver: &mut Solver,
+    list: &ClauseList,
+    budget: u64,
+    wanted: Told,
+) -> Result<(), Fault> {
+    let answer = solver.solve(budget)?;
+    expect(tell_answer(list, &answer) == wanted)
+}
+
+// One literal was learnt.
+fn expect_one_literal(solver: &Solver) -> Result<(), Fault> {
+    expect(solver.learnt_len() == 1)?;
+    expect(solver.learnt(0).len() == 1)
+}
+
+// The first call learns one literal, which the square forces; the empty clause is not counted.
+fn learns(solver: &mut Solver, list: &ClauseList) -> Result<(), Fault> {
+    expect_told(solver, list, 1, Told::Spent(1))?;
+    expect_one_literal(solver)?;
+    expect_told(solver, list, 10, Told::Unsat(2))?;
+    expect(solver.learnt_len() == 1)
+}
+
+fn what_was_learnt_stays(alloc: Global) -> Result<(), Fault> {
+    let list = list_of(alloc, SQUARE)?;
+    let mut solver = solver_of(alloc, 2, &list)?;
+    learns(&mut solver, &list)
+}
+
+/// Tells of the tables of the solver.
+pub fn tell(alloc: Global, report: &mut Report) -> Result<(), AllocError> {
+    for row in rows() {
+        report.row(is_solved(alloc, row))?;
+    }
+    report.end("clauses solved")?;
+    report.row(what_was_learnt_stays(alloc))?;
+    report.end("what was learnt")
 }

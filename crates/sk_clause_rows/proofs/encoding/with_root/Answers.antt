@@ -2,5 +2,5 @@ use Rattle.sk_dag.proofs.EvalLemmas.{Grows-refl}
 use Rattle.sk_clause_rows.proofs.encoding.with_root.Goals as goal
 
 pub require-requires-clause-begun : goal.require-requires-clause-begun
-require-requires-clause-begun g c =
-    (c.args.dag.now, _, c.requires.1, Grows-refl c.args.dag.now)
+require-requires-clause-begun g =
+    (g.args.dag.now, _, g.requires.1, Grows-refl g.args.dag.now)
