@@ -47,7 +47,7 @@ fn run_in_memory(
     let mut sink = MemSink::new(alloc, sink.fails, sink.step);
     let ending = run(alloc, words, &mut source, &mut sink);
     let output = Vec::from_slice(alloc, sink.bytes())?;
-    ended(alloc, &ending, output)
+    told(alloc, &ending, output)
 }
 
 // The streams are a reader and a writer, behind the adapters of standard input and output.
@@ -61,11 +61,11 @@ fn run_adapted(
     let mut source = StdSource::new(Halting::reader(text, source));
     let mut writer = Halting::writer(alloc, sink);
     let ending = run(alloc, words, &mut source, &mut StdSink::new(&mut writer));
-    ended(alloc, &ending, writer.into_bytes())
+    told(alloc, &ending, writer.into_bytes())
 }
 
 // What there is to tell of an ending.
-fn ended(alloc: Global, ending: &Ending, output: Vec<u8>) -> Result<Ended, AllocError> {
+fn told(alloc: Global, ending: &Ending, output: Vec<u8>) -> Result<Ended, AllocError> {
     let message = message(alloc, ending)?;
     let head = head_of(alloc, status(ending), message.as_bytes())?;
     Ok(Ended { head, output })
