@@ -199,18 +199,29 @@ fn want(kind: Kind, count: i64, x: i64, y: i64, z: i64) -> bool {
     }
 }
 
-// A leaf for each bit of the two scalars, and of the hole.
-fn three_words(alloc: Global, bits: u32) -> Result<List<Leaf>, AllocError> {
-    let mut leaves = List::new(alloc);
+// Adds a leaf for each of so many bits of a scalar of the input.
+fn push_scalar(leaves: &mut List<Leaf>, scalar: u32, bits: u32) -> Result<(), AllocError> {
     for k in 0..bits {
-        leaves.push(Leaf::Input { scalar: 0, k })?;
+        leaves.push(Leaf::Input { scalar, k })?;
     }
-    for k in 0..bits {
-        leaves.push(Leaf::Input { scalar: 1, k })?;
-    }
+    Ok(())
+}
+
+// Adds a leaf for each of so many bits of the hole.
+fn push_hole(leaves: &mut List<Leaf>, bits: u32) -> Result<(), AllocError> {
     for k in 0..bits {
         leaves.push(Leaf::Hole { site: 0, k })?;
     }
+    Ok(())
+}
+
+// A leaf for each of so many bits of the scalars below one, and of so many bits of the hole.
+fn leaves_of(alloc: Global, scalars: u32, bits: u32, hole: u32) -> Result<List<Leaf>, AllocError> {
+    let mut leaves = List::new(alloc);
+    for scalar in 0..scalars {
+        push_scalar(&mut leaves, scalar, bits)?;
+    }
+    push_hole(&mut leaves, hole)?;
     Ok(leaves)
 }
 
@@ -293,7 +304,7 @@ fn is_encoded(
 
 fn tell_kinds(alloc: Global, report: &mut Report) -> Result<(), AllocError> {
     for bits in 2..4u32 {
-        let leaves = three_words(alloc, bits)?;
+        let leaves = leaves_of(alloc, 2, bits, bits)?;
         for row in kinds() {
             report.row(is_encoded(alloc, bits, leaves.as_slice(), *row))?;
         }
@@ -301,12 +312,17 @@ fn tell_kinds(alloc: Global, report: &mut Report) -> Result<(), AllocError> {
     report.end("kinds of nodes")
 }
 
-const TWO_AND_TWO: [Leaf; 4] = [
+const TWO_AND_TWO: &[Leaf] = &[
     Leaf::Input { scalar: 0, k: 0 },
     Leaf::Input { scalar: 0, k: 1 },
     Leaf::Hole { site: 0, k: 0 },
     Leaf::Hole { site: 0, k: 1 },
 ];
+
+// Two bits of the input and two of the hole. Proofs see none of them.
+fn two_and_two() -> &'static [Leaf] {
+    TWO_AND_TWO
+}
 
 // Two bits of the input and two of a hole: there is a hole that an input of 1 is below, and none where both are 2.
 fn an_input_below_a_hole(alloc: Global) -> Result<(), Fault> {
@@ -316,7 +332,7 @@ fn an_input_below_a_hole(alloc: Global) -> Result<(), Fault> {
 }
 
 fn is_below_a_hole(alloc: Global, dag: &Dag) -> Result<(), Fault> {
-    let formula = formula_of(alloc, dag, &TWO_AND_TWO)?;
+    let formula = formula_of(alloc, dag, two_and_two())?;
     let below = extends(alloc, &formula, 1 + 4 * 2)?;
     let not_below = extends(alloc, &formula, 2 + 4 * 2)?;
     expect(below == Some(true) && not_below == Some(false))
@@ -358,18 +374,6 @@ fn sizes() -> &'static [(Node, Node, usize, usize)] {
     SIZES
 }
 
-// A leaf for each of five bits of the two scalars.
-fn ten_leaves(alloc: Global) -> Result<List<Leaf>, AllocError> {
-    let mut leaves = List::new(alloc);
-    for k in 0..5u32 {
-        leaves.push(Leaf::Input { scalar: 0, k })?;
-    }
-    for k in 0..5u32 {
-        leaves.push(Leaf::Input { scalar: 1, k })?;
-    }
-    Ok(leaves)
-}
-
 // The formula that says that the last node of a graph is true has so many variables and clauses.
 fn expect_size(
     alloc: Global,
@@ -389,7 +393,7 @@ fn is_size(alloc: Global, leaves: &[Leaf], row: (Node, Node, usize, usize)) -> R
 }
 
 fn tell_sizes(alloc: Global, report: &mut Report) -> Result<(), AllocError> {
-    let leaves = ten_leaves(alloc)?;
+    let leaves = leaves_of(alloc, 2, 5, 0)?;
     for row in sizes() {
         report.row(is_size(alloc, leaves.as_slice(), *row))?;
     }
@@ -415,19 +419,9 @@ const CHARGED: [Node; 9] = [
 // first adds nothing to 0. The second has a half adder and four full ones, 14 and 55, and the third the same and a half
 // adder for the sixth bit: 16 and 62. The comparison has a gate for each of five bits: 5 and 15. One clause asks for it.
 fn size_of_additions(alloc: Global) -> Result<(), Fault> {
-    let leaves = sixteen_leaves(alloc)?;
+    let leaves = leaves_of(alloc, 3, 5, 1)?;
     let dag = graph_of(alloc, 16, &CHARGED)?;
     expect_size(alloc, &dag, leaves.as_slice(), 66, 178)
-}
-
-// A leaf for each of five bits of three scalars, and one for a bit of the hole.
-fn sixteen_leaves(alloc: Global) -> Result<List<Leaf>, AllocError> {
-    let mut leaves = ten_leaves(alloc)?;
-    for k in 0..5u32 {
-        leaves.push(Leaf::Input { scalar: 2, k })?;
-    }
-    leaves.push(Leaf::Hole { site: 0, k: 0 })?;
-    Ok(leaves)
 }
 
 // The division is made once: 73 variables and 269 clauses. Each of the five bits is compared, which costs 1 and 4, and four
@@ -503,7 +497,7 @@ fn roots_one_after_another(alloc: Global) -> Result<(), Fault> {
 }
 
 fn says_one_after_another(alloc: Global, dag: &Dag) -> Result<(), Fault> {
-    let mut growing = of_root(alloc, &TWO_AND_TWO, dag, BoolId { index: 2 })?;
+    let mut growing = of_root(alloc, two_and_two(), dag, BoolId { index: 2 })?;
     expect(says_so(alloc, growing.encoded(), false)?)?;
     with_root(&mut growing, dag, BoolId { index: 5 })?;
     expect(says_so(alloc, growing.encoded(), true)?)
