@@ -94,3 +94,5 @@ constants_more {a} {b} values i v made longer r l at is k are one =
     }))
 
 pub ruleset arrays = (constant_array, constants_none, Keeps-refl, take_all)
+
+pub ruleset staying = (Keeps-refl)

@@ -44,7 +44,7 @@ fn constant_int(dag: &mut Dag, number: i64) -> Result<Shape, AllocError>
     Ok(Shape::Int(id))
 }
 
-fn constant_null(alloc: Global) -> Shape
+pub(crate) fn constant_null(alloc: Global) -> Shape
     ensures { (d : Graph) → IsConstant d value.Null result }
 {
     Shape::Reference(Targets {
