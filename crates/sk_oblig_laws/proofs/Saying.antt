@@ -13,7 +13,6 @@ use Rattle.sk_gates.specs.Words.{digit, number}
 use Rattle.sk_cnf.specs.declared.leaf.Leaf.{Leaf}
 use Rattle.sk_cnf.specs.declared.leaf.Leaf.TheVariants.{Hole, Input}
 use Rattle.sk_cnf.specs.Leaves.{same_leaf, leaf_bit, bit_or_false, number_of, hole_number, input_number, Says}
-use Rattle.sk_cnf.proofs.NumberLaws.{number_more, number_none}
 use Rattle.sk_query.specs.Numbers.{numbers_said, leaves_from}
 use Rattle.sk_query.proofs.Steps.{number_next}
 
@@ -35,6 +34,14 @@ unfolding number_of
 all_false zero = refl
 all_false (suc n) = let ih = all_false n in omega (arith, ih)
 
+number_none : (f : ℕ → Bool) → number_of 0 f ≡ 0
+unfolding number_of
+number_none f = refl
+
+number_more : (n : ℕ) (f : ℕ → Bool) → number_of (suc n) f ≡ number_of n f + 2 ^ n * digit (f n)
+unfolding number_of
+number_more n f = refl
+
 nothing_said : number [] ≡ 0
 unfolding number
 nothing_said = refl
@@ -43,7 +50,7 @@ of_list : (n : ℕ) (bits : List Bool) → number_of n (λ k. get_or bits k fals
 of_list zero bits = number_none (λ k. get_or bits k false) ∙ sym nothing_said
 of_list (suc n) bits =
     let e : suc n ≡ n + 1 = omega arith in
-    ap (λ m. number_of m (λ k. get_or bits k false)) e ∙ number_more n (λ k. get_or bits k false)
+    number_more n (λ k. get_or bits k false)
     ∙ ap (λ m. m + 2 ^ n * digit (get_or bits n false)) (of_list n bits)
     ∙ by (cases_order n (length bits))
     ∙ ap (λ m. number (take m bits)) (sym e)
