@@ -187,7 +187,7 @@ args_more {a} {b} {made} {longer} {r} {first} {at} ps i p l here keeps are reads
     let more : take (i + 1) ps ≡ take i ps ++ p ∷ [] = take_more ps i p l ∙ ap (λ x. take i ps ++ x ∷ []) (sym here) in
     subst (λ (qs : List ParamDef). AreArguments b qs first longer) (sym more)
     (more_read (λ inbits. params_widths inbits (take i ps)) (λ inbits. ty_widths inbits p.ty) (λ inbits. params_widths inbits (take i ps ++ p ∷ [])) (args_said (take i ps)) (args_said (take i ps ++ p ∷ [])) (value_said p.ty) (count_of (take i ps))
-      keeps are reads is place (λ inbits. widths_count inbits (take i ps)) (λ inbits. widths_push inbits (take i ps) p) (args_push (take i ps) p))
+    keeps are reads is place (λ inbits. widths_count inbits (take i ps)) (λ inbits. widths_push inbits (take i ps) p) (args_push (take i ps) p))
 
 pub count_more : (ps : List ParamDef) (i : ℕ) (p : ParamDef) (first at next : ℕ) → i < length ps → p ≡ get_or ps i p → at ≡ first + count_of (take i ps) → next ≡ at + numbers_of p.ty → next ≡ first + count_of (take (i + 1) ps)
 count_more ps i p first at next l here before is =
