@@ -1,0 +1,8 @@
+//! Whether an input of an obligation speaks against a choice, as a node of a graph.
+#![tactic(auto)]
+
+mod agree;
+mod checking;
+mod ending;
+
+pub use checking::check;
