@@ -8,3 +8,4 @@ pub mod Turns
 pub mod Copies
 pub mod Orders
 pub mod Targets
+pub mod Patterns

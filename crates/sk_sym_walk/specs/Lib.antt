@@ -5,3 +5,4 @@ pub mod Turns
 pub mod Copies
 pub mod Orders
 pub mod Targets
+pub mod Patterns

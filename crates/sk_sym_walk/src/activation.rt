@@ -15,12 +15,14 @@ ghost use Rattle.sk_sym_walk.specs.Calls.{callee, value_called, call_part, IsIns
 ghost use Rattle.sk_sym_walk.specs.Turns.{turns_part, turn_part, decided_part};
 ghost use Rattle.sk_sym_walk.specs.Copies.{some_part, copies_part, copy_part, repeat_part};
 ghost use Rattle.sk_sym_walk.specs.Orders.{ordered_part, reorder_part, one_turn_part, AreOrders};
+ghost use Rattle.sk_sym_walk.specs.Patterns.{strings_part, string_part, pattern_part};
 ghost use Rattle.sk_sym_walk.specs.Targets.{target_part, field_target, index_target, assign_part, fields_part, new_part, IsLocated, AreSetTo};
 
 use crate::calling::{
     absent, count_of, function_of, pays_nothing, plain_params, value_of, with_function,
 };
 use crate::leaf::{hole, leaf};
+use crate::pattern::{first_expr, is_at_most, number_behind};
 use crate::step::{
     exceeds, is_hole, is_over, joined, pass_digits, pass_loop, pass_other, pass_site, turn_node,
 };
@@ -33,7 +35,7 @@ use sk_sym_forms::{
     Act, Double, Single, apply, apply_two, declare_zero, fail_here, give_nothing, perform,
 };
 use sk_sym_frames::{enter, leave};
-use sk_sym_sites::{pass_expr, pass_stmt, pass_stmts, start_of};
+use sk_sym_sites::{pass_expr, pass_exprs, pass_stmt, pass_stmts, start_of};
 use sk_sym_state::{Ended, Setting, SymState};
 use sk_sym_stores::{Init, Location, assign, make};
 use std::alloc::AllocError;
@@ -133,7 +135,9 @@ impl Activation<'_> {
                 then.get(),
                 other.get(),
             ),
-            PEForm::Pattern(_) => Err(AllocError),
+            PEForm::Pattern(strings) => {
+                self.pattern(room, dag, state, at, span, strings.as_slice())
+            }
         }
     }
 
@@ -599,6 +603,130 @@ impl Activation<'_> {
         inner.exec_all(room, dag, state, &mut at, inner.setting.fun.body.as_slice())?;
         let ended = leave(&self.setting, dag, state, inner.setting.fun, caller)?;
         Ok(ended)
+    }
+
+    /// The value of a pattern: that of the string whose number is the value of its site.
+    #[cycle(run)]
+    #[inline(never)]
+    fn pattern(
+        &self,
+        room: u32,
+        dag: &mut Dag,
+        state: &mut SymState,
+        at: &mut usize,
+        span: Span,
+        list: &[PExpr],
+    ) -> Result<Shape, AllocError>
+        requires stands { StateStands dag.old self.now.setting.expanded.now.prog state.old }
+        ensures evaluated { IfOk result (λ r. IsEvaluated self.now dag.old dag.new state.old state.new at.old at.new (pattern_part self.now span list.now) r) }
+    {
+        let site = *at;
+        pass_site(at)?;
+        let r = self.strings(room, dag, state, at, span, site, 0, list)?;
+        Ok(r)
+    }
+
+    /// The value of one of some strings, whose first has number `k`, by the value of a site. One past the last string, which
+    /// no site has, counts as want of memory.
+    #[cycle(run)]
+    #[inline(never)]
+    fn strings(
+        &self,
+        room: u32,
+        dag: &mut Dag,
+        state: &mut SymState,
+        at: &mut usize,
+        span: Span,
+        site: usize,
+        k: u64,
+        list: &[PExpr],
+    ) -> Result<Shape, AllocError>
+        requires stands { StateStands dag.old self.now.setting.expanded.now.prog state.old }
+        ensures evaluated { IfOk result (λ r. IsEvaluated self.now dag.old dag.new state.old state.new at.old at.new (strings_part self.now span site k list.now) r) }
+    {
+        if room == 0 {
+            return Err(AllocError);
+        }
+        let Some(found) = first_expr(list) else {
+            return Err(AllocError);
+        };
+        let next = number_behind(k)?;
+        let here = is_at_most(&self.setting, dag, site, k)?;
+        let r = self.string(
+            room - 1,
+            dag,
+            state,
+            at,
+            span,
+            site,
+            next,
+            here,
+            found.first,
+            found.more,
+        )?;
+        Ok(r)
+    }
+
+    /// The value of a string where a bit holds, and else of one of those behind it, whose first has number `next`.
+    #[cycle(run)]
+    #[inline(never)]
+    fn string(
+        &self,
+        room: u32,
+        dag: &mut Dag,
+        state: &mut SymState,
+        at: &mut usize,
+        span: Span,
+        site: usize,
+        next: u64,
+        here: BoolId,
+        first: &PExpr,
+        more: &[PExpr],
+    ) -> Result<Shape, AllocError>
+        requires stands { StateStands dag.old self.now.setting.expanded.now.prog state.old }
+        requires here { HasBool dag.old.nodes here }
+        ensures evaluated { IfOk result (λ r. IsEvaluatedOn self.now dag.old dag.new state.old state.new at.old at.new (IsBit here) (string_part self.now span site next first.now more.now) r) }
+    {
+        match known_bool(dag, here) {
+            Some(true) => {
+                let r = self.eval(room, dag, state, at, span, first)?;
+                pass_exprs(at, more)?;
+                Ok(r)
+            }
+            Some(false) => {
+                pass_expr(at, first)?;
+                self.strings(room, dag, state, at, span, site, next, more)
+            }
+            None => self.both_strings(room, dag, state, at, span, site, next, here, first, more),
+        }
+    }
+
+    /// The values of a string and of those behind it, of which one is taken by a bit.
+    #[cycle(run)]
+    #[inline(never)]
+    fn both_strings(
+        &self,
+        room: u32,
+        dag: &mut Dag,
+        state: &mut SymState,
+        at: &mut usize,
+        span: Span,
+        site: usize,
+        next: u64,
+        here: BoolId,
+        first: &PExpr,
+        more: &[PExpr],
+    ) -> Result<Shape, AllocError>
+        requires stands { StateStands dag.old self.now.setting.expanded.now.prog state.old }
+        requires here { HasBool dag.old.nodes here }
+        ensures evaluated { IfOk result (λ r. IsEvaluatedOn self.now dag.old dag.new state.old state.new at.old at.new (IsBit here) (string_part self.now span site next first.now more.now) r) }
+    {
+        let waits = state.fork(&self.setting, dag, here)?;
+        let x = self.eval(room, dag, state, at, span, first)?;
+        let gone = state.turn(waits);
+        let y = self.strings(room, dag, state, at, span, site, next, more)?;
+        let r = joined(&self.setting, dag, state, here, gone, &x, &y)?;
+        Ok(r)
     }
 
     /// What an expression names as the target of an assignment. Other forms count as want of memory.

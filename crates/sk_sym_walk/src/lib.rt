@@ -4,6 +4,7 @@
 mod activation;
 mod calling;
 mod leaf;
+mod pattern;
 mod step;
 
 pub use activation::Activation;

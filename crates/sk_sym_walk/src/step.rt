@@ -90,7 +90,7 @@ pub(crate) fn pass_site(at: &mut usize) -> Result<(), AllocError>
 }
 
 /// How many values a site may have. One that is not there counts as want of memory.
-fn size_of(sites: &[Site], site: usize) -> Result<u64, AllocError>
+pub(crate) fn size_of(sites: &[Site], site: usize) -> Result<u64, AllocError>
     ensures { IfOk result (λ size. (values : List ℕ) → Fits sites.now values → value values site < size) }
 {
     if site >= sites.len() {

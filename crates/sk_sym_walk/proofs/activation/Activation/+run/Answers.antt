@@ -39,6 +39,8 @@ use Rattle.sk_sym_stores.specs.Records.{InitsStand, InitsAre}
 use Rattle.sk_sym_stores.proofs.Locating.{LocationStands-keeps}
 use Rattle.sk_sym_walk.specs.Targets.{fields_part, AreSetTo}
 use Rattle.sk_sym_walk.proofs.Targets.{located_as, same_variable_target, same_field_target, same_index_target, same_new, same_assign, variable_located, field_located, index_located, assign_executed, fields_none, fields_more, new_evaluated}
+use Rattle.sk_sym_walk.specs.Patterns.{strings_part}
+use Rattle.sk_sym_walk.proofs.Patterns.{same_pattern, pattern_evaluated, strings_evaluated, strings_behind}
 use Rattle.sk_sym_walk.proofs.activation.Activation.+run.Goals as goal
 
 -- ---- forms
@@ -916,3 +918,78 @@ pub eval-returns-in-New : goal.eval-returns-in-New
 eval-returns-in-New t c =
     let is = rw (← c.as_slice-in-New.ensures) at c.in-New.is in
     record { evaluated = ok_more c.new_record.result (λ r. evaluated_as (same_new c.args.self.now c.args.span c.args.e.now c.in-New.s c.as_slice-in-New.result.now is)) c.new_record.ensures.evaluated }
+
+-- ---- patterns
+
+pub eval-pattern-requires : goal.eval-pattern-requires
+eval-pattern-requires t c = (omega arith, c.requires.stands)
+
+pub eval-returns-in-Pattern : goal.eval-returns-in-Pattern
+eval-returns-in-Pattern t c =
+    let is = rw (← c.as_slice-in-Pattern.ensures) at c.in-Pattern.is in
+    record { evaluated = ok_more c.pattern.result (λ r. evaluated_as (same_pattern c.args.self.now c.args.span c.args.e.now c.as_slice-in-Pattern.result.now is)) c.pattern.ensures.evaluated }
+
+pub pattern-strings-requires : goal.pattern-strings-requires
+pattern-strings-requires t c = (omega arith, c.requires.stands)
+
+pub pattern-returns : goal.pattern-returns
+pattern-returns t c = record { evaluated = pattern_evaluated c.args.span c.args.list.now c.in_ok-pass_site.ensures c.in_ok-r.ensures.evaluated }
+
+pub strings-string-requires : goal.strings-string-requires
+strings-string-requires t c = (omega arith, (StateStands-keeps c.in_ok-here.ensures.keeps c.requires.stands, c.in_ok-here.ensures.there))
+
+pub strings-returns : goal.strings-returns
+strings-returns t c = record { evaluated = strings_evaluated c.in_ok-here.here c.args.span c.args.site c.args.k c.in_ok-next.next c.in-Some.ensures c.in_ok-next.ensures c.requires.stands c.in_ok-here.ensures.keeps c.in_ok-here.ensures.value c.in_ok-r.ensures.evaluated }
+
+pub string-eval-requires : goal.string-eval-requires
+string-eval-requires t c = (omega arith, c.requires.stands)
+
+pub string-strings-requires : goal.string-strings-requires
+string-strings-requires t c = (omega arith, c.requires.stands)
+
+pub string-both_strings-requires : goal.string-both_strings-requires
+string-both_strings-requires t c = (omega arith, (c.requires.stands, c.requires.here))
+
+pub string-returns-in_ok-pass_exprs-in-Some-true : goal.string-returns-in_ok-pass_exprs-in-Some-true
+string-returns-in_ok-pass_exprs-in-Some-true t c =
+    let h = c.in_ok-r-in-Some-true.ensures.evaluated in
+    record { evaluated = first_evaluated c.args.span c.args.here (eval_part c.args.self.now c.args.span c.args.first.now) (strings_part c.args.self.now c.args.span c.args.site c.args.next c.args.more.now) (λ g more e. c.in-Some-true.ensures g (h.evaluates.does.moves.keeps.later g more) e ∙ c.in-Some-true.field-0-test) h (strings_behind _ c.args.self.now c.args.span c.args.site c.args.next c.args.more.now c.in_ok-pass_exprs-in-Some-true.ensures) }
+
+pub string-returns-in_ok-pass_expr-in-Some-false : goal.string-returns-in_ok-pass_expr-in-Some-false
+string-returns-in_ok-pass_expr-in-Some-false t c =
+    let p = c.in_ok-pass_expr-in-Some-false.ensures in
+    record { evaluated = ok_more c.strings.result (λ r h. second_evaluated c.args.span c.args.here (eval_part c.args.self.now c.args.span c.args.first.now) (strings_part c.args.self.now c.args.span c.args.site c.args.next c.args.more.now) (λ g more e. c.in-Some-false.ensures g (h.evaluates.does.moves.keeps.later g more) e ∙ c.in-Some-false.field-0-test) (expr_behind _ c.args.self.now c.args.span c.args.first.now p) h) c.strings.ensures.evaluated }
+
+pub both_strings-eval-requires : goal.both_strings-eval-requires
+both_strings-eval-requires t c = (omega arith, c.in_ok-waits.ensures.forked.stands)
+
+pub both_strings-strings-requires : goal.both_strings-strings-requires
+both_strings-strings-requires t c =
+    let a = c.in_ok-x.ensures.evaluated.evaluates.does.moves in
+    (omega arith, turned_stands c.turn-gone.ensures (SideStands-keeps a.keeps c.in_ok-waits.ensures.forked.waits) a.stands)
+
+pub both_strings-joined-requires-clause-stands : goal.both_strings-joined-requires-clause-stands
+both_strings-joined-requires-clause-stands t c = c.in_ok-y.ensures.evaluated.evaluates.does.moves.stands
+
+pub both_strings-joined-requires-clause-cond : goal.both_strings-joined-requires-clause-cond
+both_strings-joined-requires-clause-cond t c =
+    let f = c.in_ok-waits.ensures.forked in
+    let a = c.in_ok-x.ensures.evaluated.evaluates.does.moves in
+    let b = c.in_ok-y.ensures.evaluated.evaluates.does.moves in
+    (Keeps-trans f.keeps (Keeps-trans a.keeps b.keeps)).sorts _ BoolSort c.requires.here
+
+pub both_strings-joined-requires-clause-gone : goal.both_strings-joined-requires-clause-gone
+both_strings-joined-requires-clause-gone t c =
+    let f = c.in_ok-waits.ensures.forked in
+    let a = c.in_ok-x.ensures.evaluated.evaluates.does.moves in
+    let b = c.in_ok-y.ensures.evaluated.evaluates.does.moves in
+    SideStands-keeps b.keeps (gone_stands c.turn-gone.ensures (SideStands-keeps a.keeps f.waits) a.stands)
+
+pub both_strings-joined-requires-clause-a : goal.both_strings-joined-requires-clause-a
+both_strings-joined-requires-clause-a t c = Stands-keeps c.in_ok-y.ensures.evaluated.evaluates.does.moves.keeps c.in_ok-x.ensures.evaluated.evaluates.there
+
+pub both_strings-joined-requires-clause-b : goal.both_strings-joined-requires-clause-b
+both_strings-joined-requires-clause-b t c = c.in_ok-y.ensures.evaluated.evaluates.there
+
+pub both_strings-returns : goal.both_strings-returns
+both_strings-returns t c = record { evaluated = both_evaluated c.args.span c.in_ok-waits.ensures.forked c.in_ok-x.ensures.evaluated c.turn-gone.ensures c.in_ok-y.ensures.evaluated c.in_ok-r.ensures.joined }

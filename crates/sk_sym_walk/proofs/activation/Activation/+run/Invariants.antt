@@ -170,3 +170,15 @@ decreases-new_record l = 8 * l.room + 2
 -- the fields so far are set
 abbrev pub invariant-fields-loop-x : goal.invariant-fields-loop-x
 invariant-fields-loop-x l = AreSetTo l.self l.fn.dag l.dag l.fn.state l.state l.fn.at l.at (fields_part l.self l.span (take l.x-index l.given)) l.made
+
+abbrev pub decreases-strings : goal.decreases-strings
+decreases-strings l = 8 * l.room
+
+abbrev pub decreases-both_strings : goal.decreases-both_strings
+decreases-both_strings l = 8 * l.room + 1
+
+abbrev pub decreases-string : goal.decreases-string
+decreases-string l = 8 * l.room + 2
+
+abbrev pub decreases-pattern : goal.decreases-pattern
+decreases-pattern l = 8 * l.room + 1
