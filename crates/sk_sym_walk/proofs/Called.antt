@@ -1,9 +1,7 @@
 -- What a call does that is made inside another one.
-use Rattle.std.proofs.Common.{◌≡◌, ◌<◌, ℕ, zero, suc, ◌+◌, ◌-◌, List, [], ◌∷◌, ◌++◌, map, Bool, true, false, true≢false, Option, Some, None, sub-one, refl, sym, ap, subst, ◌∙◌, arith}
-use Rattle.std.specs.Prelude.{All, ◌==◌, ◌&&◌, nat_lt, count_by, if◌then◌else◌, slice_get}
-use Rattle.std.specs.Option.{option_copied}
+use Rattle.std.proofs.Common.{◌≡◌, ◌<◌, ℕ, zero, suc, ◌-◌, List, [], ◌∷◌, ◌++◌, map, Bool, true, false, true≢false, Option, Some, None, sub-one, refl, sym, ap, subst, ◌∙◌, arith}
+use Rattle.std.specs.Prelude.{⊤, ◌==◌, ◌&&◌, nat_lt, count_by, if◌then◌else◌, slice_get}
 use Rattle.std.proofs.lemmas.Bool.{lt-ltb}
-use Rattle.std.proofs.lemmas.List.Elements.{All-head, All-tail}
 use Rattle.sk_base.specs.declared.span.Span.{Span}
 use Rattle.sk_base.specs.declared.bounds.Bounds.{Bounds}
 use Rattle.sk_dag.specs.declared.env.Env.{Env}
@@ -15,7 +13,6 @@ use Rattle.sk_heap.specs.declared.slot.Slot.{Slot}
 use Rattle.sk_prog.specs.declared.ids.FunId.{FunId}
 use Rattle.sk_prog.specs.declared.ty.Ty.{Ty}
 use Rattle.sk_prog.specs.declared.value.Value.{Value}
-use Rattle.sk_prog.specs.declared.value.Value.TheVariants as value
 use Rattle.sk_prog.specs.declared.expr.PExpr.{PExpr}
 use Rattle.sk_prog.specs.declared.stmt.PStmt.{PStmt}
 use Rattle.sk_prog.specs.declared.prog.Fun.{Fun}
@@ -23,17 +20,19 @@ use Rattle.sk_prog.specs.declared.prog.Prog.{Prog}
 use Rattle.sk_prog.specs.declared.prog.ParamDef.{ParamDef}
 use Rattle.sk_model.specs.declared.expanded.Choice.{Choice}
 use Rattle.sk_model.specs.declared.expanded.Expanded.{Expanded}
-use Rattle.sk_model.specs.Parts.{Part, counts, in_turn}
-use Rattle.sk_model.specs.Step.{State, Step, Goes, Fails, Skips, Comp, and_then, ◌>>=◌, pure, fail}
-use Rattle.sk_model.specs.Eval.{Called, Does as Meaning, in_order, params_of, ref_args, copy_back, call_value, result_value}
+use Rattle.sk_model.specs.Parts.{in_turn}
+use Rattle.sk_model.specs.Step.{State, Step, Goes, Fails, Skips, Comp, and_then, pure, fail}
+use Rattle.sk_model.specs.Eval.{Called, params_of, result_value}
 use Rattle.sk_model.specs.Exec.{Flow, Onward, Returns, one_by_one, exec_stmt}
-use Rattle.sk_model.specs.Fill.{InRange, minimize_of, before_body}
+use Rattle.sk_model.specs.Fill.{InRange, minimize_of}
 use Rattle.sk_model.specs.Stands.{standing, all_paid}
 use Rattle.sk_model.specs.Heap.{blank}
 use Rattle.sk_model.specs.Run.{Bodies, result_of, refs_from, first_slots, in_frame, body_of, calls}
 use Rattle.sk_model.specs.Open.{open_stmt, open_bodies, sites_before}
 use Rattle.sk_folded.specs.Chosen.{chosen_values}
 use Rattle.sk_seen.specs.Values.{place_of, holds_in}
+use Rattle.sk_seen.specs.Heaps.{HeapGrows}
+use Rattle.sk_sym_state.proofs.Worth.{IsWorth-grown}
 use Rattle.sk_literals.specs.Given.{IsGiven}
 use Rattle.sk_sym_sites.specs.Places.{BeginsAt}
 use Rattle.sk_sym_state.specs.declared.setting.Setting.{Setting}
@@ -41,21 +40,19 @@ use Rattle.sk_sym_state.specs.declared.state.Ended.{Ended}
 use Rattle.sk_sym_state.specs.declared.state.SymState.{SymState}
 use Rattle.sk_sym_state.specs.Seen.{IsWorth, AreWorth}
 use Rattle.sk_sym_state.specs.Stands.{StateStands}
-use Rattle.sk_sym_state.specs.Shows.{Shows, Sees, SeesFlow, ResultIs, EndedIs}
-use Rattle.sk_sym_state.specs.Meaning.{IsLater, choice_at, Does, DoesOn, Executes}
-use Rattle.sk_sym_state.proofs.Carrying.{Moves-trans, later_keeps}
-use Rattle.sk_sym_state.proofs.Ends.{moves_none, does_same}
+use Rattle.sk_sym_state.specs.Shows.{Sees, ResultIs, EndedIs}
+use Rattle.sk_sym_state.specs.Meaning.{IsLater, choice_at, DoesOn, Executes}
+use Rattle.sk_sym_state.proofs.Carrying.{Moves-trans, later_keeps, failed_over, skipped_over}
+use Rattle.sk_sym_state.proofs.Ends.{moves_none}
 use Rattle.sk_sym_state.proofs.Following.{does_on}
 use Rattle.sk_sym_frames.specs.declared.frame.Caller.{Caller}
 use Rattle.sk_sym_frames.specs.Frames.{IsEntered, IsLeft}
 use Rattle.sk_sym_frames.proofs.Frames.{call_does}
 use Rattle.sk_sym_steps.specs.Steps.{EvaluatesOn}
-use Rattle.sk_sym_leaves.specs.Lists.{EvaluateAll}
 use Rattle.sk_sym_walk.specs.declared.activation.Activation.{Activation}
-use Rattle.sk_sym_walk.specs.Walk.{prog_of, calls_at, expr_part, exec_all_at, IsBehind}
+use Rattle.sk_sym_walk.specs.Walk.{prog_of, calls_at, exec_all_at}
 use Rattle.sk_sym_walk.specs.Parts.{list_part, IsEvaluated, AreEvaluated}
-use Rattle.sk_sym_walk.specs.Calls.{callee, value_called, call_part, NoRefs, PaysNothing, HasResult, IsInside, IsCallOf, IsCalled, IsResultShape}
-use Rattle.sk_sym_walk.proofs.Sequences.{does_kept}
+use Rattle.sk_sym_walk.specs.Calls.{callee, value_called, call_part, ends, copied_at, AreCopiedBack, PaysNothing, HasResult, IsInside, IsCallOf, IsCalled, IsResultShape}
 
 -- ---- a call inside another one
 
@@ -174,29 +171,57 @@ result_blank {d} t given r is nought = record {
     by g e heap None more has = record { value = nought.value g more e (place_of (holds_in g e heap)); live = nought.live g e (holds_in g e heap) }
     by g e heap (Some v) more has = absurd has
 
-pub call_evaluates : {a b : Activation} {d0 d1 d2 : Graph} {s0 s1 : SymState} {i f : ℕ} {args : List Shape} {ended : Ended} {r : Shape} (span : Span) (fun : Fun) → IsCalled a b i d0 d1 s0 s1 args ended → Keeps d1 d2 → IsResultShape d2 b.setting.fun.now.result ended.result r → callee a f ≡ Some fun → IsCallOf a f fun b → PaysNothing fun → BeginsAt (prog_of a) f i
-    → EvaluatesOn a.setting d0 d2 s0 s1 (λ g e vs. AreWorth g e s0.heap args vs) r (value_called a span f)
-call_evaluates {a} {b} {d2 = d2} {s1 = s1} {i = i} {f = f} {ended = ended} {r = r} span fun called keeps result some is pays begins = record {
+result_grown : (g : Graph) (e : Env) {x y : List Slot} → HeapGrows x y → (r : Option Shape) (v : Option Value) → ResultIs g e x r v → ResultIs g e y r v
+result_grown g e grown r None h = tt
+result_grown g e grown None (Some v) h = absurd h
+result_grown g e grown (Some r) (Some v) h = IsWorth-grown grown h
+
+-- the final values have gone back, and there is the result
+pub ended_evaluates : {a : Activation} {d0 d1 d2 : Graph} {s0 s1 : SymState} {ended : Ended} {r : Shape} (span : Span) (t : Option Ty) (ps : List ParamDef) (xs : List PExpr) (i : ℕ) → AreCopiedBack a d0 d1 s0 s1 ended.refs (copied_at a span ps xs i) → Keeps d1 d2 → IsResultShape d2 t ended.result r → EvaluatesOn a.setting d0 d2 s0 s1 (λ g e (c : Called). EndedIs g e s0.heap (Some ended) c.result c.refs × HasResult t c.result) r (ends a span ps xs i)
+ended_evaluates {a} {d2 = d2} {s0 = s0} {s1 = s1} {ended = ended} {r = r} span t ps xs i copied keeps result = record {
   does = record {
-    moves = Moves-trans called.does.moves (moves_none keeps called.does.moves.stands);
-    runs = λ g e vs at l w shows.
-        subst (λ (t : Step Called). Sees g e s1 (IsWorth g e s1.heap r) (and_then t (λ (c : Called). pure (result_value c.result)))) (sym (call_allowed a f e b fun i span vs at some is pays begins))
-        (by g e l (in_frame b.setting.fun.now vs (exec_all_at b i b.setting.fun.now.body e) at) (called.does.runs g e vs at (later_keeps keeps l) w shows));
+    moves = Moves-trans copied.does.moves (moves_none keeps copied.does.moves.stands);
+    runs = λ g e c at l is shows. by g e l c is.0.0 is.1 (copied_at a span ps xs i e c.refs at) (copied.does.runs g e c.refs at (later_keeps keeps l) is.0.1 shows);
   };
   there = result.stands;
 }
   where
-    by : (g : Graph) (e : Env) → IsLater a.setting d2 g e → (t : Step Called) → Sees g e s1 (λ (c : Called). EndedIs g e s1.heap (Some ended) c.result c.refs × HasResult b.setting.fun.now.result c.result) t → Sees g e s1 (IsWorth g e s1.heap r) (and_then t (λ (c : Called). pure (result_value c.result)))
-    by g e l (Goes c at) h = record { shows = h.shows; is = result.worth g e s1.heap c.result l.grows h.is.0.0 h.is.1 }
-    by g e l (Fails span) h = h
-    by g e l (Skips span) h = h
+    by : (g : Graph) (e : Env) → IsLater a.setting d2 g e → (c : Called) → ResultIs g e s0.heap ended.result c.result → HasResult t c.result → (u : Step (Unit {0})) → Sees g e s1 (λ (n : Unit {0}). ⊤) u → Sees g e s1 (IsWorth g e s1.heap r) (and_then u (λ n. pure (result_value c.result)))
+    by g e l c is has (Goes n at) h = record { shows = h.shows; is = result.worth g e s1.heap c.result l.grows (result_grown g e copied.does.moves.grown ended.result c.result is) has }
+    by g e l c is has (Fails span) h = h
+    by g e l c is has (Skips span) h = h
+
+found : (few : Bool) (o : Option Fun) (fun : Fun) → (if few then o else None) ≡ Some fun → o ≡ Some fun
+found true o fun is = is
+found false o fun is = cc
+
+pub call_evaluates : {a b : Activation} {d0 d1 d2 : Graph} {s0 s1 s2 : SymState} {i f : ℕ} {args : List Shape} {ended : Ended} {r : Shape} (span : Span) (fun : Fun) (xs : List PExpr) (j : ℕ) → IsCalled a b i d0 d1 s0 s1 args ended → EvaluatesOn a.setting d1 d2 s1 s2 (λ g e (c : Called). EndedIs g e s1.heap (Some ended) c.result c.refs × HasResult b.setting.fun.now.result c.result) r (ends a span b.setting.fun.now.params xs j) → callee a f ≡ Some fun → IsCallOf a f fun b → PaysNothing fun → BeginsAt (prog_of a) f i
+    → EvaluatesOn a.setting d0 d2 s0 s2 (λ g e vs. AreWorth g e s0.heap args vs) r (value_called a span f xs j)
+call_evaluates {a} {b} {d2 = d2} {s1 = s1} {s2 = s2} {i = i} {f = f} {ended = ended} {r = r} span fun xs j called end some is pays begins = record {
+  does = record {
+    moves = Moves-trans called.does.moves end.does.moves;
+    runs = λ g e vs at l w shows.
+        subst (λ (ps : List ParamDef). Sees g e s2 (IsWorth g e s2.heap r) (and_then (calls_at a e span f vs at) (ends a span ps xs j e))) (sym params)
+        (subst (λ (t : Step Called). Sees g e s2 (IsWorth g e s2.heap r) (and_then t (ends a span b.setting.fun.now.params xs j e))) (sym (call_allowed a f e b fun i span vs at some is pays begins))
+        (by g e l (in_frame b.setting.fun.now vs (exec_all_at b i b.setting.fun.now.body e) at) (called.does.runs g e vs at (later_keeps end.does.moves.keeps l) w shows)));
+  };
+  there = end.there;
+}
+  where
+    params : params_of (slice_get (prog_of a).funs f) ≡ b.setting.fun.now.params
+    params = ap params_of (found (nat_lt 0 a.left && nat_lt (count_by (λ g. g == f) a.active.now) a.bounds.inline_amnt) (slice_get (prog_of a).funs f) fun some) ∙ ap (λ (u : Fun). u.params) (sym is.of)
+
+    by : (g : Graph) (e : Env) → IsLater a.setting d2 g e → (t : Step Called) → Sees g e s1 (λ (c : Called). EndedIs g e s1.heap (Some ended) c.result c.refs × HasResult b.setting.fun.now.result c.result) t → Sees g e s2 (IsWorth g e s2.heap r) (and_then t (ends a span b.setting.fun.now.params xs j e))
+    by g e l (Goes c at) h = end.does.runs g e c at l h.is h.shows
+    by g e l (Fails span) h = let k = end.does.moves.stays g e l h.path in failed_over k.rest k.path h
+    by g e l (Skips span) h = let k = end.does.moves.stays g e l h.path in skipped_over k.rest k.path h
 
 -- a call that may not be made
-pub refused_evaluates : {d0 d1 d2 : Graph} {s0 s1 : SymState} {args : List Shape} {r : Shape} (a : Activation) (f : ℕ) (span : Span) → Executes a.setting d0 d1 s0 s1 (λ e. fail span) → Keeps d1 d2 → Stands d2 r → callee a f ≡ None → EvaluatesOn a.setting d0 d2 s0 s1 (λ g e vs. AreWorth g e s0.heap args vs) r (value_called a span f)
-refused_evaluates {s1 = s1} {r = r} a f span h keeps stands none = record {
+pub refused_evaluates : {d0 d1 d2 : Graph} {s0 s1 : SymState} {args : List Shape} {r : Shape} (a : Activation) (f : ℕ) (span : Span) (xs : List PExpr) (j : ℕ) → Executes a.setting d0 d1 s0 s1 (λ e. fail span) → Keeps d1 d2 → Stands d2 r → callee a f ≡ None → EvaluatesOn a.setting d0 d2 s0 s1 (λ g e vs. AreWorth g e s0.heap args vs) r (value_called a span f xs j)
+refused_evaluates {s1 = s1} {r = r} a f span xs j h keeps stands none = record {
   does = record {
     moves = Moves-trans h.moves (moves_none keeps h.moves.stands);
-    runs = λ g e vs at l w shows. subst (λ (t : Step Called). Sees g e s1 (IsWorth g e s1.heap r) (and_then t (λ (c : Called). pure (result_value c.result)))) (sym (call_refused a f e span vs at none)) (h.runs g e at (later_keeps keeps l) shows);
+    runs = λ g e vs at l w shows. subst (λ (t : Step Called). Sees g e s1 (IsWorth g e s1.heap r) (and_then t (ends a span (params_of (slice_get (prog_of a).funs f)) xs j e))) (sym (call_refused a f e span vs at none)) (h.runs g e at (later_keeps keeps l) shows);
   };
   there = stands;
 }
@@ -210,28 +235,8 @@ over_evaluates h over keeps stands = record {
 
 -- ---- a whole call
 
-none_by_ref : (ps : List ParamDef) (args : List Meaning) → All (λ (p : ParamDef). p.by_ref ≡ false) ps → ref_args ps args ≡ []
-none_by_ref [] args h = refl
-none_by_ref (p ∷ ps) [] h = refl
-none_by_ref (p ∷ ps) (x ∷ args) h = ap (λ b. if b then x ∷ ref_args ps args else ref_args ps args) (All-head (λ (p : ParamDef). p.by_ref ≡ false) p ps h) ∙ none_by_ref ps args (All-tail (λ (p : ParamDef). p.by_ref ≡ false) p ps h)
-
-pub call_evaluated : {a : Activation} {d0 d1 d2 : Graph} {s0 s1 s2 : SymState} {i j : ℕ} {made : List Shape} {r : Shape} (span : Span) (f : FunId) (xs : List PExpr) → NoRefs (params_of (slice_get (prog_of a).funs f.index)) → AreEvaluated a d0 d1 s0 s1 i j (list_part a span xs) made → EvaluatesOn a.setting d1 d2 s1 s2 (λ g e vs. AreWorth g e s1.heap made vs) r (value_called a span f.index) → IsEvaluated a d0 d2 s0 s2 i j (call_part a span f xs) r
-call_evaluated {a} {i = i} span f xs plain all next = record {
-  evaluates = record { does = does_same same (does_on all.evaluate.does next.does); there = next.there };
+pub call_evaluated : {a : Activation} {d0 d1 d2 : Graph} {s0 s1 s2 : SymState} {i j : ℕ} {made : List Shape} {r : Shape} (span : Span) (f : FunId) (xs : List PExpr) → AreEvaluated a d0 d1 s0 s1 i j (list_part a span xs) made → EvaluatesOn a.setting d1 d2 s1 s2 (λ g e vs. AreWorth g e s1.heap made vs) r (value_called a span f.index xs i) → IsEvaluated a d0 d2 s0 s2 i j (call_part a span f xs) r
+call_evaluated {a} {i = i} span f xs all next = record {
+  evaluates = record { does = does_on all.evaluate.does next.does; there = next.there };
   place = record { place = all.place.place };
 }
-  where
-    ending : (args : List Meaning) (t : Step Called) → ref_args (params_of (slice_get (prog_of a).funs f.index)) args ≡ [] → and_then t (λ called. copy_back span (ref_args (params_of (slice_get (prog_of a).funs f.index)) args) called.refs >>= (λ u. pure (result_value called.result))) ≡ and_then t (λ (called : Called). pure (result_value called.result))
-    ending args (Goes called s) none = ap (λ rest. and_then (copy_back span rest called.refs s) (λ u. pure (result_value called.result))) none
-    ending args (Fails span) none = refl
-    ending args (Skips span) none = refl
-
-    each : (e : Env) (args : List Meaning) (t : Step (List Value)) → ref_args (params_of (slice_get (prog_of a).funs f.index)) args ≡ [] → and_then t (λ vs. calls_at a e span f.index vs >>= (λ called. copy_back span (ref_args (params_of (slice_get (prog_of a).funs f.index)) args) called.refs >>= (λ u. pure (result_value called.result)))) ≡ and_then t (value_called a span f.index e)
-    each e args (Goes vs s) none = ending args (calls_at a e span f.index vs s) none
-    each e args (Fails span) none = refl
-    each e args (Skips span) none = refl
-
-    same : (e : Env) (s : State) → (call_part a span f xs e).at i s ≡ and_then ((list_part a span xs e).at i s) (value_called a span f.index e)
-    same e s =
-        let args = in_turn (map (λ x. expr_part a x e) xs) i in
-        each e args (in_order span args s) (none_by_ref (params_of (slice_get (prog_of a).funs f.index)) args plain.each)

@@ -1,5 +1,5 @@
 -- The copies of a statement, of which a site says how many are done.
-use Rattle.std.proofs.Common.{◌≡◌, ℕ, zero, suc, ◌+◌, List, [], ◌∷◌, ◌++◌, map, take, length, get_or, Bool, true, false, Option, None, refl, sym, ap, subst, ◌∙◌, ◌<◌, ◌≤◌, arith, inl, inr}
+use Rattle.std.proofs.Common.{◌≡◌, ℕ, zero, suc, ◌+◌, List, [], ◌∷◌, ◌++◌, map, take, length, get_or, Bool, true, false, None, refl, sym, ap, subst, ◌∙◌, ◌<◌, arith, inl, inr}
 use Rattle.std.specs.Prelude.{nat_lt, if◌then◌else◌}
 use Rattle.std.proofs.lemmas.Bool.{lt-ltb, le-ltb}
 use Rattle.std.proofs.lemmas.Bool.Decides.{leb_tells}
@@ -15,10 +15,9 @@ use Rattle.sk_prog.specs.declared.stmt.PStmt.{PStmt}
 use Rattle.sk_prog.specs.declared.stmt.PForm.TheVariants as form
 use Rattle.sk_prog.specs.declared.stmt.PForm.TheOpen as S
 use Rattle.sk_prog.specs.declared.stmt.PForm.TheViews as W
-use Rattle.sk_model.specs.Parts.{Part, counts, in_turn, value as value_of}
+use Rattle.sk_model.specs.Parts.{Part, in_turn, value as value_of}
 use Rattle.sk_model.specs.Sites.{is_hole}
-use Rattle.sk_model.specs.Step.{State, Step, Comp, and_then, pure}
-use Rattle.sk_model.specs.Eval.{choose}
+use Rattle.sk_model.specs.Step.{State, Comp, and_then, pure}
 use Rattle.sk_model.specs.Exec.{Flow, Onward, unless_returned, one_by_one}
 use Rattle.sk_model.specs.Open.{copies_part as copies_open, block_part}
 use Rattle.sk_model.proofs.Layers.{stmt_layer}
@@ -26,16 +25,15 @@ use Rattle.sk_sym_state.specs.declared.state.SymState.{SymState}
 use Rattle.sk_sym_state.specs.Shows.{SeesFlow}
 use Rattle.sk_sym_state.specs.Stands.{StateStands}
 use Rattle.sk_sym_state.specs.Branching.{IsBit}
-use Rattle.sk_sym_state.specs.Meaning.{IsLater, Executes, choice_at}
+use Rattle.sk_sym_state.specs.Meaning.{IsLater, choice_at}
 use Rattle.sk_sym_state.proofs.Carrying.{Moves-trans, later_keeps}
 use Rattle.sk_sym_state.proofs.Ends.{moves_none, executes_same}
-use Rattle.sk_sym_state.proofs.Following.{executes_then}
 use Rattle.sk_sym_walk.specs.declared.activation.Activation.{Activation}
-use Rattle.sk_sym_walk.specs.Walk.{values_at, stmt_part, all_part, IsBehind}
-use Rattle.sk_sym_walk.specs.Parts.{siteless, either_part, IsExecuted, IsExecutedOn, other_part, ways_part}
+use Rattle.sk_sym_walk.specs.Walk.{values_at, stmt_part, all_part}
+use Rattle.sk_sym_walk.specs.Parts.{IsExecuted, IsExecutedOn, ways_part}
 use Rattle.sk_sym_walk.specs.Copies.{copies_at, some_part, copies_part, copy_part, repeat_part}
-use Rattle.sk_sym_walk.proofs.Sequences.{SamePart, same_part, executes_nothing}
-use Rattle.sk_sym_walk.proofs.Layers.{stmt_step, all_count, turn_push, map_push, nothing_more, two_after}
+use Rattle.sk_sym_walk.proofs.Sequences.{SamePart, same_part}
+use Rattle.sk_sym_walk.proofs.Layers.{stmt_step, turn_push, map_push, nothing_more, two_after}
 
 pub same_minrepeat : (a : Activation) (s : PStmt) (ss : List PStmt) → s.form ≡ form.MinRepeat ss → SamePart (copies_part a ss) (stmt_part a s)
 same_minrepeat a s ss is = same_part (λ env. ap (λ f. stmt_part a (record { span = s.span; form = f }) env) is ∙ stmt_layer (Part (Span → Comp Flow)) (Part (Comp Flow)) (stmt_step a s env) (λ t. record { count = t.form.count; at = λ i. t.form.at i t.span }) (S.MinRepeat ss) (form.MinRepeat ss) (W.rolls-MinRepeat ss) s.span)

@@ -1,5 +1,5 @@
 -- One layer of what the parts of a program do.
-use Rattle.std.proofs.Common.{◌≡◌, ◌≢◌, ℕ, ◌+◌, List, [], ◌∷◌, ◌++◌, map, take, length, get_or, Option, Some, None, true, false, refl, sym, ap, subst, ◌∙◌, ◌<◌, arith, append_assoc}
+use Rattle.std.proofs.Common.{◌≡◌, ◌≢◌, ℕ, ◌+◌, List, [], ◌∷◌, ◌++◌, map, take, length, get_or, Option, Some, None, true, false, refl, sym, ap, subst, ◌∙◌, ◌<◌, arith}
 use Rattle.std.specs.Prelude.{slice_get}
 use Rattle.std.proofs.lemmas.List.{take_more}
 use Rattle.sk_base.specs.declared.span.Span.{Span}
@@ -35,9 +35,8 @@ use Rattle.sk_sym_walk.specs.declared.activation.Activation.{Activation}
 use Rattle.sk_sym_forms.specs.declared.act.Act.TheVariants as act
 use Rattle.sk_sym_forms.specs.declared.double.Double.TheVariants as double
 use Rattle.sk_sym_forms.specs.declared.single.Single.TheVariants as single
-use Rattle.sk_sym_forms.specs.Forms.{act_does}
 use Rattle.sk_sym_walk.specs.Walk.{prog_of, values_at, calls_at, expr_part, stmt_part, all_part, eval_part, exec_all_at}
-use Rattle.sk_sym_walk.specs.Parts.{siteless, then_part, then_parts, either_part, given, hole_part, single_part, double_part, binary_part, braces_part, cond_part, act_part, other_part, branch_part}
+use Rattle.sk_sym_walk.specs.Parts.{siteless, then_parts, either_part, given, hole_part, single_part, double_part, binary_part, braces_part, cond_part, act_part, branch_part}
 use Rattle.sk_sym_walk.specs.Calls.{call_part}
 use Rattle.sk_sym_walk.proofs.Sequences.{SamePart, same_part}
 

@@ -9,3 +9,4 @@ pub mod Copies
 pub mod Orders
 pub mod Targets
 pub mod Patterns
+pub mod Copying

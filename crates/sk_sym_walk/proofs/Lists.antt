@@ -1,5 +1,5 @@
 -- Expressions from left to right.
-use Rattle.std.proofs.Common.{◌≡◌, ℕ, ◌+◌, List, [], ◌∷◌, ◌++◌, map, take, length, get_or, Option, refl, sym, ap, subst, ◌∙◌, ◌<◌, arith}
+use Rattle.std.proofs.Common.{◌≡◌, ℕ, ◌+◌, List, [], ◌∷◌, ◌++◌, map, take, length, get_or, Option, refl, sym, ap, ◌∙◌, ◌<◌, arith}
 use Rattle.std.proofs.lemmas.List.{take_more}
 use Rattle.sk_base.specs.declared.span.Span.{Span}
 use Rattle.sk_dag.specs.declared.env.Env.{Env}
@@ -10,20 +10,18 @@ use Rattle.sk_prog.specs.declared.ty.Ty.{Ty}
 use Rattle.sk_prog.specs.declared.value.Value.{Value}
 use Rattle.sk_prog.specs.declared.value.Value.TheVariants as value
 use Rattle.sk_prog.specs.declared.expr.PExpr.{PExpr}
-use Rattle.sk_model.specs.Parts.{Part, counts, in_turn}
-use Rattle.sk_model.specs.Step.{State, Step, Goes, Fails, Skips, Comp, and_then, ◌>>=◌, pure}
-use Rattle.sk_model.specs.Eval.{Does, in_order, padded_at}
+use Rattle.sk_model.specs.Parts.{counts, in_turn}
+use Rattle.sk_model.specs.Step.{State, Step, Goes, Fails, Skips, and_then, ◌>>=◌, pure}
+use Rattle.sk_model.specs.Eval.{in_order, padded_at}
 use Rattle.sk_sym_state.specs.declared.state.SymState.{SymState}
 use Rattle.sk_sym_state.specs.Stands.{StateStands}
 use Rattle.sk_sym_state.specs.Seen.{IsWorth}
-use Rattle.sk_sym_state.specs.Meaning.{Does as Doing, Evaluates}
 use Rattle.sk_sym_state.proofs.Following.{does_on}
 use Rattle.sk_sym_state.proofs.Ends.{does_same}
 use Rattle.sk_sym_steps.specs.Steps.{EvaluatesOn}
-use Rattle.sk_sym_leaves.specs.Lists.{EvaluateAll}
 use Rattle.sk_sym_leaves.proofs.Lists.{none_evaluate, more_evaluate, array_evaluates, in_order_push}
 use Rattle.sk_sym_walk.specs.declared.activation.Activation.{Activation}
-use Rattle.sk_sym_walk.specs.Walk.{expr_part, eval_part, IsBehind}
+use Rattle.sk_sym_walk.specs.Walk.{expr_part, eval_part}
 use Rattle.sk_sym_walk.specs.Parts.{list_part, braces_part, IsEvaluated, AreEvaluated}
 use Rattle.sk_sym_walk.proofs.Layers.{counts_push, turn_push, map_push}
 

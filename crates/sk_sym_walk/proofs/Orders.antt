@@ -1,5 +1,5 @@
 -- Statements in an order that sites give.
-use Rattle.std.proofs.Common.{◌≡◌, ℕ, zero, suc, ◌+◌, ◌-◌, ◌==◌, List, [], ◌∷◌, ◌++◌, map, take, length, get_or, Bool, true, false, Option, None, refl, sym, ap, subst, ◌∙◌, ◌<◌, ◌≤◌, arith}
+use Rattle.std.proofs.Common.{◌≡◌, ℕ, zero, suc, ◌+◌, ◌-◌, ◌==◌, List, [], ◌∷◌, ◌++◌, map, take, length, get_or, Bool, true, false, Option, None, refl, sym, ap, subst, ◌∙◌, ◌<◌, arith}
 use Rattle.std.specs.Prelude.{if◌then◌else◌}
 use Rattle.std.proofs.lemmas.List.Elements.{All-get_or, All-weaker}
 use Rattle.std.specs.Option.{option_copied}
@@ -17,29 +17,29 @@ use Rattle.sk_prog.specs.declared.stmt.PForm.TheOpen as S
 use Rattle.sk_prog.specs.declared.stmt.PForm.TheViews as W
 use Rattle.sk_model.specs.declared.expanded.Choice.{Choice}
 use Rattle.sk_model.specs.declared.expanded.Expanded.{Expanded}
-use Rattle.sk_model.specs.Parts.{Part, counts, in_turn}
-use Rattle.sk_model.specs.Step.{State, Step, Goes, Comp, and_then, pure}
+use Rattle.sk_model.specs.Parts.{Part}
+use Rattle.sk_model.specs.Step.{State, Comp, and_then, pure}
 use Rattle.sk_model.specs.Fill.{arrange}
 use Rattle.sk_model.specs.Exec.{Flow, Onward, unless_returned, one_by_one}
 use Rattle.sk_model.proofs.Layers.{stmt_layer}
-use Rattle.sk_paid.specs.Orders.{order, turns, values_of}
-use Rattle.sk_paid.specs.Payments.{IsColumn, AreColumns}
+use Rattle.sk_paid.specs.Orders.{order}
+use Rattle.sk_paid.specs.Payments.{IsColumn}
 use Rattle.sk_paid.proofs.OrderLaws.{length_order, arranged, turn_of}
 use Rattle.sk_sym_sites.specs.Counts.{stmts_count}
 use Rattle.sk_sym_sites.proofs.Trees.{counts_body}
 use Rattle.sk_sym_state.specs.declared.state.SymState.{SymState}
 use Rattle.sk_sym_state.specs.Shows.{SeesFlow}
 use Rattle.sk_sym_state.specs.Branching.{IsBit}
-use Rattle.sk_sym_state.specs.Meaning.{IsLater, Executes, choice_at}
+use Rattle.sk_sym_state.specs.Meaning.{IsLater, Executes}
 use Rattle.sk_sym_state.specs.Stands.{StateStands}
 use Rattle.sk_sym_state.proofs.Carrying.{Moves-trans, later_keeps}
 use Rattle.sk_sym_state.proofs.Ends.{moves_none}
 use Rattle.sk_sym_walk.specs.declared.activation.Activation.{Activation}
 use Rattle.sk_sym_walk.specs.Walk.{prog_of, values_at, calls_at, stmt_part, all_part}
 use Rattle.sk_sym_walk.specs.Parts.{IsExecuted, IsExecutedOn, ways_part}
-use Rattle.sk_sym_walk.specs.Orders.{each_at, order_at, numbered, turns_at, ordered_part, reorder_part, alone, number_at, turn_at, one_turn_part, AreOrders, IsNodeOf}
+use Rattle.sk_sym_walk.specs.Orders.{each_at, order_at, numbered, turns_at, ordered_part, reorder_part, alone, number_at, turn_at, AreOrders, IsNodeOf}
 use Rattle.sk_sym_walk.proofs.Sequences.{SamePart}
-use Rattle.sk_sym_walk.proofs.Layers.{stmt_step, all_count, map_push, nothing_more, one_more}
+use Rattle.sk_sym_walk.proofs.Layers.{stmt_step, map_push, nothing_more, one_more}
 use Rattle.sk_sym_walk.proofs.Copies.{length_turn}
 
 length_each : (a : Activation) (i : ℕ) (ss : List PStmt) (e : Env) → length (each_at a i ss e) ≡ length ss

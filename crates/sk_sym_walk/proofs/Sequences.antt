@@ -1,8 +1,7 @@
 -- One part after another.
-use Rattle.std.proofs.Common.{◌≡◌, ℕ, ◌+◌, List, Option, Some, None, Bool, true, false, true≢false, refl, sym, ap, subst, ◌∙◌, arith, take, Result, Ok, Err}
-use Rattle.std.specs.Prelude.{IfOk, OnOk, All}
+use Rattle.std.proofs.Common.{◌≡◌, ℕ, ◌+◌, List, Bool, false, true≢false, refl, sym, ap, subst, ◌∙◌, arith, take, Result, Ok, Err}
+use Rattle.std.specs.Prelude.{IfOk, OnOk}
 use Rattle.std.proofs.lemmas.List.Elements.{All-take}
-use Rattle.sk_base.specs.declared.span.Span.{Span}
 use Rattle.sk_dag.specs.declared.env.Env.{Env}
 use Rattle.sk_dag.specs.declared.node.BoolId.{BoolId}
 use Rattle.sk_dag.specs.declared.shape.Shape.{Shape}
@@ -10,10 +9,9 @@ use Rattle.sk_dag.specs.declared.shape.Shape.TheVariants as shape
 use Rattle.sk_dag.specs.Graph.{Graph, Grows, HasBool}
 use Rattle.sk_dag.specs.Eval.{bool_value, Keeps}
 use Rattle.sk_dag.specs.EvalShape.{shape_value}
-use Rattle.sk_arr.specs.Shapes.{Stands, AllStand}
+use Rattle.sk_arr.specs.Shapes.{Stands}
 use Rattle.sk_arr.proofs.Makers.{Keeps-refl}
 use Rattle.sk_arr.proofs.Values.{value_bit}
-use Rattle.sk_arr.proofs.Standing.{Stands-keeps}
 use Rattle.sk_heap.specs.declared.slot.Slot.{Slot}
 use Rattle.sk_prog.specs.declared.value.Value.{Value}
 use Rattle.sk_prog.specs.declared.value.Value.TheVariants as value
@@ -26,7 +24,7 @@ use Rattle.sk_sym_state.specs.declared.setting.Setting.{Setting}
 use Rattle.sk_sym_state.specs.declared.state.SymState.{SymState}
 use Rattle.sk_sym_state.specs.Seen.{IsWorth}
 use Rattle.sk_sym_state.specs.Stands.{StateStands}
-use Rattle.sk_sym_state.specs.Shows.{Shows, Sees, SeesFlow}
+use Rattle.sk_sym_state.specs.Shows.{Sees, SeesFlow}
 use Rattle.sk_sym_state.specs.Variables.{with_slots}
 use Rattle.sk_sym_state.specs.Branching.{IsBit}
 use Rattle.sk_sym_state.specs.Meaning.{IsLater, Does, DoesOn, Executes, ExecutesOn, Evaluates}

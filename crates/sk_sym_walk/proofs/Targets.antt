@@ -1,5 +1,5 @@
 -- Targets, assignments and records that are made.
-use Rattle.std.proofs.Common.{◌≡◌, ℕ, ◌+◌, List, [], ◌∷◌, ◌++◌, map, take, length, get_or, Option, refl, sym, ap, subst, ◌∙◌, ◌<◌, arith}
+use Rattle.std.proofs.Common.{◌≡◌, ℕ, ◌+◌, List, [], ◌∷◌, ◌++◌, map, take, length, get_or, Option, sym, ap, ◌∙◌, ◌<◌, arith}
 use Rattle.std.proofs.lemmas.List.{take_more}
 use Rattle.sk_base.specs.declared.span.Span.{Span}
 use Rattle.sk_base.specs.declared.name.Name.{Name}
@@ -15,36 +15,31 @@ use Rattle.sk_prog.specs.declared.expr.PEForm.{PEForm}
 use Rattle.sk_prog.specs.declared.expr.PEForm.TheVariants as eform
 use Rattle.sk_prog.specs.declared.expr.PEForm.TheOpen as P
 use Rattle.sk_prog.specs.declared.stmt.PStmt.{PStmt}
-use Rattle.sk_prog.specs.declared.stmt.PForm.{PForm}
 use Rattle.sk_prog.specs.declared.stmt.PForm.TheVariants as form
 use Rattle.sk_prog.specs.declared.stmt.PForm.TheOpen as S
 use Rattle.sk_prog.specs.declared.stmt.PForm.TheViews as W
 use Rattle.sk_model.specs.Parts.{Part, counts, in_turn}
-use Rattle.sk_model.specs.Step.{State, Step, Comp, and_then, ◌>>=◌, pure}
+use Rattle.sk_model.specs.Step.{State, Comp, and_then, ◌>>=◌, pure}
 use Rattle.sk_model.specs.Heap as model
 use Rattle.sk_model.specs.Eval.{Does, fields_in_order, add_index}
-use Rattle.sk_model.specs.Exec.{Flow, onward}
+use Rattle.sk_model.specs.Exec.{Flow}
 use Rattle.sk_model.specs.Open.{open_eform, open_field, open_form}
 use Rattle.sk_model.proofs.Layers.{layer_field, layer_var, layer_member, layer_index, layer_new, stmt_layer}
-use Rattle.sk_sym_state.specs.declared.setting.Setting.{Setting}
 use Rattle.sk_sym_state.specs.declared.state.SymState.{SymState}
 use Rattle.sk_sym_state.specs.Stands.{StateStands}
-use Rattle.sk_sym_state.specs.Meaning.{Evaluates, ExecutesOn}
-use Rattle.sk_sym_state.proofs.Ends.{does_same, executes_same}
+use Rattle.sk_sym_state.proofs.Ends.{does_same}
 use Rattle.sk_sym_state.proofs.Following.{does_on}
 use Rattle.sk_sym_steps.specs.Steps.{EvaluatesOn}
 use Rattle.sk_sym_stores.specs.declared.location.Location.{Location}
 use Rattle.sk_sym_stores.specs.declared.location.Root.TheVariants.{Variable, Field}
 use Rattle.sk_sym_stores.specs.declared.creation.Init.{Init}
-use Rattle.sk_sym_stores.specs.Locations.{Locates, IsIndexed}
-use Rattle.sk_sym_stores.specs.Records.{EvaluateFields, InitsAre}
-use Rattle.sk_sym_stores.specs.Stores.{IsStored}
+use Rattle.sk_sym_stores.specs.Locations.{IsIndexed}
+use Rattle.sk_sym_stores.specs.Records.{InitsAre}
 use Rattle.sk_sym_stores.proofs.Locating.{variable_locates, field_locates, index_locates}
-use Rattle.sk_sym_stores.proofs.Assigning.{assigned}
 use Rattle.sk_sym_stores.proofs.Records.{no_fields, more_fields, fields_in_order_push}
 use Rattle.sk_sym_walk.specs.declared.activation.Activation.{Activation}
-use Rattle.sk_sym_walk.specs.Walk.{prog_of, values_at, calls_at, expr_part, eval_part, stmt_part, IsBehind}
-use Rattle.sk_sym_walk.specs.Parts.{siteless, IsEvaluated, IsExecuted}
+use Rattle.sk_sym_walk.specs.Walk.{prog_of, values_at, calls_at, expr_part, eval_part, stmt_part}
+use Rattle.sk_sym_walk.specs.Parts.{siteless, IsEvaluated}
 use Rattle.sk_sym_walk.specs.Targets.{target_part, field_target, index_target, assign_part, field_part, fields_part, new_part, IsLocated, AreSetTo}
 use Rattle.sk_sym_walk.proofs.Sequences.{SamePart, same_part, behind_as}
 use Rattle.sk_sym_walk.proofs.Layers.{counts_push, turn_push, map_push}
@@ -109,12 +104,6 @@ index_located {a} {i = i} span x y first second is =
       };
       place = record { place = λ e. omega (arith, first.place.place e, second.place.place e) };
     }
-
-pub assign_executed : {a : Activation} {d0 d1 d2 d3 : Graph} {s0 s1 s2 s3 : SymState} {i j k : ℕ} {l : Location} {r : Shape} (span : Span) (x y : PExpr) → IsLocated a d0 d1 s0 s1 i j (target_part a span x) l → IsEvaluated a d1 d2 s1 s2 j k (eval_part a span y) r → ExecutesOn a.setting d2 d3 s2 s3 (IsStored s2.heap l r) (λ e p. onward (model.store span p.0 p.1)) → IsExecuted a d0 d3 s0 s3 i k (assign_part a span x y)
-assign_executed {a} {i = i} span x y first second on = record {
-  executes = executes_same (λ e s. ap (λ n. onward ((target_part a span x e).at i >>= (λ location. (eval_part a span y e).at n >>= model.store span location)) s) (sym (first.place.place e))) (assigned span first.locates second.evaluates on);
-  place = record { place = λ e. omega (arith, first.place.place e, second.place.place e) };
-}
 
 -- ---- new records
 

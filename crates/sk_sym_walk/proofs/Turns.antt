@@ -1,18 +1,18 @@
 -- The turns of a loop.
-use Rattle.std.proofs.Common.{◌≡◌, ℕ, zero, suc, ◌+◌, true, false, refl, sym, ap, subst, ◌∙◌, arith}
+use Rattle.std.proofs.Common.{◌≡◌, ℕ, zero, suc, ◌+◌, true, false, refl, ap, ◌∙◌, arith}
 use Rattle.sk_base.specs.declared.span.Span.{Span}
 use Rattle.sk_dag.specs.declared.env.Env.{Env}
 use Rattle.sk_dag.specs.declared.node.BoolId.{BoolId}
 use Rattle.sk_dag.specs.declared.shape.Shape.TheVariants as shape
 use Rattle.sk_dag.specs.Graph.{Graph, Grows}
-use Rattle.sk_dag.specs.Eval.{bool_value, Keeps}
+use Rattle.sk_dag.specs.Eval.{bool_value}
 use Rattle.sk_prog.specs.declared.expr.PExpr.{PExpr}
 use Rattle.sk_prog.specs.declared.stmt.PStmt.{PStmt}
 use Rattle.sk_prog.specs.declared.stmt.PForm.TheVariants as form
 use Rattle.sk_prog.specs.declared.stmt.PForm.TheOpen as S
 use Rattle.sk_prog.specs.declared.stmt.PForm.TheViews as W
 use Rattle.sk_model.specs.Parts.{Part}
-use Rattle.sk_model.specs.Step.{State, Comp, ◌>>=◌, and_then, pure, fail}
+use Rattle.sk_model.specs.Step.{State, Comp, and_then, pure, fail}
 use Rattle.sk_model.specs.Eval.{Does, choose}
 use Rattle.sk_model.specs.Exec.{Flow, Onward, unless_returned, turns}
 use Rattle.sk_model.proofs.Layers.{stmt_layer}

@@ -14,8 +14,7 @@ use Rattle.sk_arr.proofs.Makers.{Keeps-refl}
 use Rattle.sk_prog.specs.declared.value.Value.{Value}
 use Rattle.sk_prog.specs.declared.value.Value.TheVariants as value
 use Rattle.sk_model.specs.Parts.{Part}
-use Rattle.sk_model.specs.Step.{State, Step, Comp, pure}
-use Rattle.sk_model.specs.Eval.{choose}
+use Rattle.sk_model.specs.Step.{State, Comp, pure}
 use Rattle.sk_model.specs.Exec.{Flow}
 use Rattle.sk_seen.specs.Heaps.{HeapGrows}
 use Rattle.sk_seen.proofs.Grown.{HeapGrows-refl, HeapGrows-trans}
@@ -27,14 +26,13 @@ use Rattle.sk_sym_state.specs.Seen.{IsWorth}
 use Rattle.sk_sym_state.specs.Stands.{StateStands}
 use Rattle.sk_sym_state.specs.Shows.{Shows, Sees, SeesFlow}
 use Rattle.sk_sym_state.specs.Branching.{IsBit, IsForked, AreTurned, AreJoined}
-use Rattle.sk_sym_state.specs.Meaning.{IsLater, Moves, Does, DoesOn, Evaluates, ExecutesOn}
+use Rattle.sk_sym_state.specs.Meaning.{IsLater, Moves, Does, DoesOn}
 use Rattle.sk_sym_state.proofs.Worth.{IsWorth-grown}
 use Rattle.sk_sym_state.proofs.Branches.{branch_executes, branch_does}
 use Rattle.sk_sym_state.proofs.Standing.{StateStands-keeps}
 use Rattle.sk_sym_state.proofs.Carrying.{Moves-trans, later_keeps}
 use Rattle.sk_sym_state.proofs.Ends.{moves_none, does_same, executes_same}
 use Rattle.sk_sym_walk.specs.declared.activation.Activation.{Activation}
-use Rattle.sk_sym_walk.specs.Walk.{IsBehind}
 use Rattle.sk_sym_walk.specs.Parts.{either_part, given, IsEvaluated, IsEvaluatedOn, IsExecuted, IsExecutedOn, IsBoth, IsGuarded, AreJoinedWith}
 use Rattle.sk_sym_walk.proofs.Sequences.{worth_same, bit_worth, worth_bit, sees_more, does_kept}
 

@@ -1,5 +1,5 @@
 -- The copies of a statement, of which a site says how many are done.
-use Rattle.std.specs.Prelude.{◌≡◌, ℕ, suc, ◌+◌, List, map, take, nat_lt, if◌then◌else◌}
+use Rattle.std.specs.Prelude.{ℕ, suc, List, map, take, nat_lt, if◌then◌else◌}
 use Rattle.sk_dag.specs.declared.env.Env.{Env}
 use Rattle.sk_prog.specs.declared.expr.PExpr.{PExpr}
 use Rattle.sk_prog.specs.declared.stmt.PStmt.{PStmt}

@@ -1,5 +1,5 @@
 -- Parts that are put together from smaller ones, and what the walk answers for a part.
-use Rattle.std.specs.Prelude.{◌≡◌, ℕ, ◌+◌, ◌&&◌, Bool, true, false, List, map, Option, Some, None}
+use Rattle.std.specs.Prelude.{◌≡◌, ℕ, ◌+◌, ◌&&◌, Bool, false, List, map, Option, Some, None}
 use Rattle.sk_base.specs.declared.span.Span.{Span}
 use Rattle.sk_dag.specs.declared.env.Env.{Env}
 use Rattle.sk_dag.specs.declared.node.BoolId.{BoolId}

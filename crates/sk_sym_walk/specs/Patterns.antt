@@ -1,4 +1,4 @@
--- Patterns as values: the string that the value of a site names.
+-- Patterns: the string that the value of a site names.
 use Rattle.std.specs.Prelude.{◌≡◌, ℕ, suc, ◌-◌, List, ◌∷◌, map}
 use Rattle.sk_base.specs.declared.span.Span.{Span}
 use Rattle.sk_dag.specs.declared.env.Env.{Env}
@@ -6,6 +6,7 @@ use Rattle.sk_prog.specs.declared.value.Value.{Value}
 use Rattle.sk_prog.specs.declared.expr.PExpr.{PExpr}
 use Rattle.sk_model.specs.Parts.{Part, counts, pick, value}
 use Rattle.sk_model.specs.Step.{Comp}
+use Rattle.sk_model.specs.Exec.{Flow, assign}
 use Rattle.sk_model.specs.Open.{nothing_done}
 use Rattle.sk_sym_walk.specs.declared.activation.Activation.{Activation}
 use Rattle.sk_sym_walk.specs.Walk.{values_at, expr_part, eval_part}
@@ -30,3 +31,25 @@ pattern_part a span xs e = record { count = suc (counts (map (λ x. expr_part a 
 -- this is the first of some expressions, and what follows it
 pub record AreExprs (list : List PExpr) (first : PExpr) (more : List PExpr) : Type 0 where
   pub front : list ≡ first ∷ more
+
+-- ---- patterns as targets
+
+-- an assignment to a target, of a value whose first site has the place `start`
+abbrev pub assign_at_part : Activation → Span → ℕ → PExpr → PExpr → Env → Part (Comp Flow)
+assign_at_part a span start x y e = record { count = (expr_part a x e).count; at = λ i. assign span ((expr_part a x e).at i) ((expr_part a y e).at start) }
+
+-- so to the string with a number, where the first site of all strings has place i
+abbrev pub assign_string_at : Activation → Span → ℕ → List PExpr → PExpr → ℕ → ℕ → Env → Comp Flow
+assign_string_at a span start xs y n i e = assign span (pick nothing_done (map (λ x. expr_part a x e) xs) n i) ((expr_part a y e).at start)
+
+-- to one of strings whose first has number k, as `strings_part` has the value of one
+abbrev pub assign_strings_part : Activation → Span → ℕ → ℕ → ℕ → List PExpr → PExpr → Env → Part (Comp Flow)
+assign_strings_part a span start site k xs y e = record { count = counts (map (λ x. expr_part a x e) xs); at = λ i. assign_string_at a span start xs y (value (values_at a e) site - k) i e }
+
+-- to the first string where the bit holds, and else to one of the others, whose first has number `next`
+abbrev pub assign_string_part : Activation → Span → ℕ → ℕ → ℕ → PExpr → List PExpr → PExpr → Env → Part (Value → Comp Flow)
+assign_string_part a span start site next x xs y = either_part span (assign_at_part a span start x y) (assign_strings_part a span start site next xs y)
+
+-- to a pattern
+abbrev pub assign_pattern_part : Activation → Span → ℕ → List PExpr → PExpr → Env → Part (Comp Flow)
+assign_pattern_part a span start xs y e = record { count = suc (counts (map (λ x. expr_part a x e) xs)); at = λ i. assign_string_at a span start xs y (value (values_at a e) i) (suc i) e }

@@ -1,5 +1,5 @@
 -- The turns of a loop.
-use Rattle.std.specs.Prelude.{◌≡◌, ℕ, zero, suc, ◌+◌}
+use Rattle.std.specs.Prelude.{ℕ, zero, suc, ◌+◌}
 use Rattle.sk_base.specs.declared.span.Span.{Span}
 use Rattle.sk_dag.specs.declared.env.Env.{Env}
 use Rattle.sk_prog.specs.declared.value.Value.{Value}

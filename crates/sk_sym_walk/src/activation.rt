@@ -3,23 +3,24 @@
 ghost use Rattle.std.specs.Prelude.{◌≡◌, length, IfOk, OnOk, Some, false, true};
 ghost use Rattle.std.specs.Option.{option_copied};
 ghost use Rattle.sk_dag.specs.Graph.{HasBool};
-ghost use Rattle.sk_arr.specs.Shapes.{AllStand};
+ghost use Rattle.sk_arr.specs.Shapes.{Stands, AllStand};
 ghost use Rattle.sk_sym_state.specs.Seen.{AreWorth};
-ghost use Rattle.sk_sym_state.specs.Stands.{StateStands};
+ghost use Rattle.sk_sym_state.specs.Stands.{StateStands, EndedStands};
+ghost use Rattle.sk_sym_state.specs.Shows.{EndedIs};
 ghost use Rattle.sk_sym_steps.specs.Steps.{EvaluatesOn};
 ghost use Rattle.sk_sym_state.specs.Meaning.{Executes};
 ghost use Rattle.sk_sym_state.specs.Branching.{IsBit};
 ghost use Rattle.sk_sym_walk.specs.Walk.{exec_all_at, eval_part, stmt_part, all_part, IsBehind};
 ghost use Rattle.sk_sym_walk.specs.Parts.{IsEvaluated, IsEvaluatedOn, IsGuarded, IsExecuted, IsExecutedOn, AreEvaluated, given, either_part, single_part, double_part, binary_part, pick_part, cond_part, act_part, other_part, ways_part, branch_part, list_part, braces_part};
-ghost use Rattle.sk_sym_walk.specs.Calls.{callee, value_called, call_part, IsInside, IsCalled};
+ghost use Rattle.sk_sym_walk.specs.Calls.{callee, value_called, call_part, ends, copied_at, copied_first, AreCopiedBack, IsCopiedBack, HasResult, IsInside, IsCalled};
 ghost use Rattle.sk_sym_walk.specs.Turns.{turns_part, turn_part, decided_part};
 ghost use Rattle.sk_sym_walk.specs.Copies.{some_part, copies_part, copy_part, repeat_part};
 ghost use Rattle.sk_sym_walk.specs.Orders.{ordered_part, reorder_part, one_turn_part, AreOrders};
-ghost use Rattle.sk_sym_walk.specs.Patterns.{strings_part, string_part, pattern_part};
+ghost use Rattle.sk_sym_walk.specs.Patterns.{strings_part, string_part, pattern_part, assign_at_part, assign_string_part, assign_strings_part, assign_pattern_part};
 ghost use Rattle.sk_sym_walk.specs.Targets.{target_part, field_target, index_target, assign_part, fields_part, new_part, IsLocated, AreSetTo};
 
 use crate::calling::{
-    absent, count_of, function_of, pays_nothing, plain_params, value_of, with_function,
+    absent, count_of, first_param, first_shape, pays_nothing, value_of, with_function,
 };
 use crate::leaf::{hole, leaf};
 use crate::pattern::{first_expr, is_at_most, number_behind};
@@ -30,14 +31,14 @@ use sk_base::{Bounds, Boxed, List, Span};
 use sk_dag::{BoolId, Dag, Shape};
 use sk_folded::{and, known_bool, not, or};
 use sk_paid::orders;
-use sk_prog::{BinOp, Fun, FunId, PEForm, PExpr, PField, PForm, PStmt, StructId, Ty};
+use sk_prog::{BinOp, Fun, FunId, PEForm, PExpr, PField, PForm, PStmt, ParamDef, StructId, Ty};
 use sk_sym_forms::{
     Act, Double, Single, apply, apply_two, declare_zero, fail_here, give_nothing, perform,
 };
 use sk_sym_frames::{enter, leave};
 use sk_sym_sites::{pass_expr, pass_exprs, pass_stmt, pass_stmts, start_of};
 use sk_sym_state::{Ended, Setting, SymState};
-use sk_sym_stores::{Init, Location, assign, make};
+use sk_sym_stores::{Init, Location, assign, make, store};
 use std::alloc::AllocError;
 
 /// A call that is active. Nothing of it changes while it is.
@@ -481,7 +482,7 @@ impl Activation<'_> {
         None
     }
 
-    /// A call. One of a function with `ref` parameters counts as want of memory.
+    /// A call.
     #[cycle(run)]
     #[inline(never)]
     fn call(
@@ -498,14 +499,14 @@ impl Activation<'_> {
         requires stands { StateStands dag.old self.now.setting.expanded.now.prog state.old }
         ensures evaluated { IfOk result (λ r. IsEvaluated self.now dag.old dag.new state.old state.new at.old at.new (call_part self.now span f args.now) r) }
     {
-        let found = function_of(&self.setting.expanded.prog, f);
-        plain_params(found)?;
+        let first = *at;
         let values = self.all(room, dag, state, at, span, args)?;
-        let r = self.call_with(room, dag, state, span, ty, f.index, values)?;
+        let r = self.call_with(room, dag, state, span, ty, f.index, first, args, values)?;
         Ok(r)
     }
 
-    /// A call on these values. Where the run is seen to go on nowhere, it is not entered.
+    /// A call on the values of arguments whose first site has the place `first`. Where the run is seen to go on nowhere, it is
+    /// not entered.
     #[cycle(run)]
     #[inline(never)]
     fn call_with(
@@ -516,11 +517,13 @@ impl Activation<'_> {
         span: Span,
         ty: Option<Ty>,
         f: u32,
+        first: usize,
+        args: &[PExpr],
         values: List<Shape>,
     ) -> Result<Shape, AllocError>
         requires stands { StateStands dag.old self.now.setting.expanded.now.prog state.old }
         requires values { AllStand dag.old values }
-        ensures evaluates { IfOk result (λ r. EvaluatesOn self.now.setting dag.old dag.new state.old state.new (λ g e vs. AreWorth g e state.old.heap values vs) r (value_called self.now span f)) }
+        ensures evaluates { IfOk result (λ r. EvaluatesOn self.now.setting dag.old dag.new state.old state.new (λ g e vs. AreWorth g e state.old.heap values vs) r (value_called self.now span f args.now first)) }
     {
         if is_over(dag, state) {
             let r = absent(self.setting.alloc, dag, ty)?;
@@ -533,7 +536,7 @@ impl Activation<'_> {
                 Ok(r)
             }
             Some(fun) => {
-                let r = self.call_of(room, dag, state, span, f, fun, values)?;
+                let r = self.call_of(room, dag, state, span, f, fun, first, args, values)?;
                 Ok(r)
             }
         }
@@ -550,14 +553,15 @@ impl Activation<'_> {
         span: Span,
         f: u32,
         fun: &Fun,
+        first: usize,
+        args: &[PExpr],
         values: List<Shape>,
     ) -> Result<Shape, AllocError>
         requires stands { StateStands dag.old self.now.setting.expanded.now.prog state.old }
         requires values { AllStand dag.old values }
         requires callee { callee self.now f ≡ Some fun.now }
-        ensures evaluates { IfOk result (λ r. EvaluatesOn self.now.setting dag.old dag.new state.old state.new (λ g e vs. AreWorth g e state.old.heap values vs) r (value_called self.now span f)) }
+        ensures evaluates { IfOk result (λ r. EvaluatesOn self.now.setting dag.old dag.new state.old state.new (λ g e vs. AreWorth g e state.old.heap values vs) r (value_called self.now span f args.now first)) }
     {
-        let _span = span;
         if room == 0 {
             return Err(AllocError);
         }
@@ -577,8 +581,134 @@ impl Activation<'_> {
             active: active.as_slice(),
         };
         let ended = self.within(room - 1, dag, state, &inner, start, values)?;
+        let r = self.end_call(room - 1, dag, state, span, fun, first, args, ended)?;
+        Ok(r)
+    }
+
+    /// What a call of a function gives as a value, once the final values of its `ref` parameters have gone back to the
+    /// arguments.
+    #[cycle(run)]
+    #[inline(never)]
+    fn end_call(
+        &self,
+        room: u32,
+        dag: &mut Dag,
+        state: &mut SymState,
+        span: Span,
+        fun: &Fun,
+        first: usize,
+        args: &[PExpr],
+        ended: Ended,
+    ) -> Result<Shape, AllocError>
+        requires stands { StateStands dag.old self.now.setting.expanded.now.prog state.old }
+        requires ended { EndedStands dag.old ended }
+        ensures evaluates { IfOk result (λ r. EvaluatesOn self.now.setting dag.old dag.new state.old state.new (λ g e called. EndedIs g e state.old.heap (Some ended) called.result called.refs × HasResult fun.now.result called.result) r (ends self.now span fun.now.params args.now first)) }
+    {
+        let params = fun.params.as_slice();
+        let refs = ended.refs.as_slice();
+        self.copy_back(room, dag, state, span, params, first, args, refs)?;
         let r = value_of(self.setting.alloc, dag, fun.result, ended.result)?;
         Ok(r)
+    }
+
+    /// Final values go back to the arguments for `ref` parameters, from left to right. The first site of all arguments has the
+    /// place `first`.
+    #[cycle(run)]
+    #[inline(never)]
+    fn copy_back(
+        &self,
+        room: u32,
+        dag: &mut Dag,
+        state: &mut SymState,
+        span: Span,
+        params: &[ParamDef],
+        first: usize,
+        args: &[PExpr],
+        refs: &[Shape],
+    ) -> Result<(), AllocError>
+        requires stands { StateStands dag.old self.now.setting.expanded.now.prog state.old }
+        requires refs { AllStand dag.old refs.now }
+        ensures copied { OnOk result (AreCopiedBack self.now dag.old dag.new state.old state.new refs.now (copied_at self.now span params.now args.now first)) }
+    {
+        if room == 0 {
+            return Err(AllocError);
+        }
+        let Some(param) = first_param(params) else {
+            return Ok(());
+        };
+        let Some(arg) = first_expr(args) else {
+            return Ok(());
+        };
+        self.copy_arg(
+            room - 1,
+            dag,
+            state,
+            span,
+            param.by_ref,
+            param.more,
+            first,
+            arg.first,
+            arg.more,
+            refs,
+        )?;
+        Ok(())
+    }
+
+    /// The first of final values goes back to an argument where that is for a `ref` parameter, and then the others to those
+    /// behind it.
+    #[cycle(run)]
+    #[inline(never)]
+    fn copy_arg(
+        &self,
+        room: u32,
+        dag: &mut Dag,
+        state: &mut SymState,
+        span: Span,
+        by_ref: bool,
+        params: &[ParamDef],
+        first: usize,
+        arg: &PExpr,
+        args: &[PExpr],
+        refs: &[Shape],
+    ) -> Result<(), AllocError>
+        requires stands { StateStands dag.old self.now.setting.expanded.now.prog state.old }
+        requires refs { AllStand dag.old refs.now }
+        ensures copied { OnOk result (AreCopiedBack self.now dag.old dag.new state.old state.new refs.now (copied_first self.now span by_ref arg.now params.now args.now first)) }
+    {
+        let mut at = first;
+        if !by_ref {
+            pass_expr(&mut at, arg)?;
+            self.copy_back(room, dag, state, span, params, at, args, refs)?;
+            return Ok(());
+        }
+        let Some(value) = first_shape(refs) else {
+            return Ok(());
+        };
+        self.copy_one(room, dag, state, &mut at, span, arg, value.first)?;
+        self.copy_back(room, dag, state, span, params, at, args, value.more)?;
+        Ok(())
+    }
+
+    /// A final value goes back to an argument.
+    #[cycle(run)]
+    #[inline(never)]
+    fn copy_one(
+        &self,
+        room: u32,
+        dag: &mut Dag,
+        state: &mut SymState,
+        at: &mut usize,
+        span: Span,
+        arg: &PExpr,
+        value: &Shape,
+    ) -> Result<(), AllocError>
+        requires stands { StateStands dag.old self.now.setting.expanded.now.prog state.old }
+        requires value { Stands dag.old value.now }
+        ensures copied { OnOk result (IsCopiedBack self.now dag.old dag.new state.old state.new at.old at.new span arg.now value.now) }
+    {
+        let location = self.target(room, dag, state, at, span, arg)?;
+        store(&self.setting, dag, state, span, &location, value)?;
+        Ok(())
     }
 
     /// Runs the body of a call that is made inside this one.
@@ -803,7 +933,7 @@ impl Activation<'_> {
         Ok(location)
     }
 
-    /// An assignment.
+    /// An assignment. The sites of the value stand behind those of the target.
     #[cycle(run)]
     #[inline(never)]
     fn assign(
@@ -819,9 +949,196 @@ impl Activation<'_> {
         requires stands { StateStands dag.old self.now.setting.expanded.now.prog state.old }
         ensures executed { OnOk result (IsExecuted self.now dag.old dag.new state.old state.new at.old at.new (assign_part self.now span target.now value.now)) }
     {
+        let mut start = *at;
+        pass_expr(&mut start, target)?;
+        self.assign_at(room, dag, state, at, span, start, target, value)?;
+        pass_expr(at, value)?;
+        Ok(())
+    }
+
+    /// An assignment to a target, of a value whose first site has the place `start`. To a pattern it is one to the string that its
+    /// site names.
+    #[cycle(run)]
+    #[inline(never)]
+    fn assign_at(
+        &self,
+        room: u32,
+        dag: &mut Dag,
+        state: &mut SymState,
+        at: &mut usize,
+        span: Span,
+        start: usize,
+        target: &PExpr,
+        value: &PExpr,
+    ) -> Result<(), AllocError>
+        requires stands { StateStands dag.old self.now.setting.expanded.now.prog state.old }
+        ensures executed { OnOk result (IsExecuted self.now dag.old dag.new state.old state.new at.old at.new (assign_at_part self.now span start target.now value.now)) }
+    {
+        match &target.form {
+            PEForm::Pattern(strings) => {
+                let list = strings.as_slice();
+                self.assign_pattern(room, dag, state, at, span, start, list, value)
+            }
+            _ => self.assign_one(room, dag, state, at, span, start, target, value),
+        }
+    }
+
+    /// An assignment to a target that is no pattern.
+    #[cycle(run)]
+    #[inline(never)]
+    fn assign_one(
+        &self,
+        room: u32,
+        dag: &mut Dag,
+        state: &mut SymState,
+        at: &mut usize,
+        span: Span,
+        start: usize,
+        target: &PExpr,
+        value: &PExpr,
+    ) -> Result<(), AllocError>
+        requires stands { StateStands dag.old self.now.setting.expanded.now.prog state.old }
+        ensures executed { OnOk result (IsExecuted self.now dag.old dag.new state.old state.new at.old at.new (assign_at_part self.now span start target.now value.now)) }
+    {
         let location = self.target(room, dag, state, at, span, target)?;
-        let v = self.eval(room, dag, state, at, span, value)?;
+        let mut from = start;
+        let v = self.eval(room, dag, state, &mut from, span, value)?;
         assign(&self.setting, dag, state, span, &location, &v)?;
+        Ok(())
+    }
+
+    /// An assignment to a pattern. The value is walked once for each string that may be meant.
+    #[cycle(run)]
+    #[inline(never)]
+    fn assign_pattern(
+        &self,
+        room: u32,
+        dag: &mut Dag,
+        state: &mut SymState,
+        at: &mut usize,
+        span: Span,
+        start: usize,
+        list: &[PExpr],
+        value: &PExpr,
+    ) -> Result<(), AllocError>
+        requires stands { StateStands dag.old self.now.setting.expanded.now.prog state.old }
+        ensures executed { OnOk result (IsExecuted self.now dag.old dag.new state.old state.new at.old at.new (assign_pattern_part self.now span start list.now value.now)) }
+    {
+        let site = *at;
+        pass_site(at)?;
+        self.assign_strings(room, dag, state, at, span, start, site, 0, list, value)?;
+        Ok(())
+    }
+
+    /// An assignment to one of some strings, whose first has number `k`, by the value of a site. One past the last string, which no
+    /// site has, counts as want of memory.
+    #[cycle(run)]
+    #[inline(never)]
+    fn assign_strings(
+        &self,
+        room: u32,
+        dag: &mut Dag,
+        state: &mut SymState,
+        at: &mut usize,
+        span: Span,
+        start: usize,
+        site: usize,
+        k: u64,
+        list: &[PExpr],
+        value: &PExpr,
+    ) -> Result<(), AllocError>
+        requires stands { StateStands dag.old self.now.setting.expanded.now.prog state.old }
+        ensures executed { OnOk result (IsExecuted self.now dag.old dag.new state.old state.new at.old at.new (assign_strings_part self.now span start site k list.now value.now)) }
+    {
+        if room == 0 {
+            return Err(AllocError);
+        }
+        let Some(found) = first_expr(list) else {
+            return Err(AllocError);
+        };
+        let next = number_behind(k)?;
+        let here = is_at_most(&self.setting, dag, site, k)?;
+        self.assign_string(
+            room - 1,
+            dag,
+            state,
+            at,
+            span,
+            start,
+            site,
+            next,
+            here,
+            found.first,
+            found.more,
+            value,
+        )?;
+        Ok(())
+    }
+
+    /// An assignment to a string where a bit holds, and else to one of those behind it, whose first has number `next`.
+    #[cycle(run)]
+    #[inline(never)]
+    fn assign_string(
+        &self,
+        room: u32,
+        dag: &mut Dag,
+        state: &mut SymState,
+        at: &mut usize,
+        span: Span,
+        start: usize,
+        site: usize,
+        next: u64,
+        here: BoolId,
+        first: &PExpr,
+        more: &[PExpr],
+        value: &PExpr,
+    ) -> Result<(), AllocError>
+        requires stands { StateStands dag.old self.now.setting.expanded.now.prog state.old }
+        requires here { HasBool dag.old.nodes here }
+        ensures executed { OnOk result (IsExecutedOn self.now dag.old dag.new state.old state.new at.old at.new (IsBit here) (assign_string_part self.now span start site next first.now more.now value.now)) }
+    {
+        match known_bool(dag, here) {
+            Some(true) => {
+                self.assign_at(room, dag, state, at, span, start, first, value)?;
+                pass_exprs(at, more)
+            }
+            Some(false) => {
+                pass_expr(at, first)?;
+                self.assign_strings(room, dag, state, at, span, start, site, next, more, value)
+            }
+            None => self.assign_either(
+                room, dag, state, at, span, start, site, next, here, first, more, value,
+            ),
+        }
+    }
+
+    /// Assignments to a string and to those behind it, of which one is done by a bit.
+    #[cycle(run)]
+    #[inline(never)]
+    fn assign_either(
+        &self,
+        room: u32,
+        dag: &mut Dag,
+        state: &mut SymState,
+        at: &mut usize,
+        span: Span,
+        start: usize,
+        site: usize,
+        next: u64,
+        here: BoolId,
+        first: &PExpr,
+        more: &[PExpr],
+        value: &PExpr,
+    ) -> Result<(), AllocError>
+        requires stands { StateStands dag.old self.now.setting.expanded.now.prog state.old }
+        requires here { HasBool dag.old.nodes here }
+        ensures executed { OnOk result (IsExecutedOn self.now dag.old dag.new state.old state.new at.old at.new (IsBit here) (assign_string_part self.now span start site next first.now more.now value.now)) }
+    {
+        let waits = state.fork(&self.setting, dag, here)?;
+        self.assign_at(room, dag, state, at, span, start, first, value)?;
+        let gone = state.turn(waits);
+        self.assign_strings(room, dag, state, at, span, start, site, next, more, value)?;
+        state.join(&self.setting, dag, here, gone)?;
         Ok(())
     }
 
@@ -873,7 +1190,8 @@ impl Activation<'_> {
     }
 
     /// Runs statements one after another, until one returns. The first of their sites has the place `at`, which moves behind
-    /// the last. `room` is how many levels of statements and expressions may nest, past which the answer is want of memory.
+    /// the last. `room` is how many levels of statements and expressions may nest, past which the answer is want of memory. A turn
+    /// of a loop, a string of a pattern and an argument whose final value may go back are a level each.
     ///
     /// # Errors
     ///

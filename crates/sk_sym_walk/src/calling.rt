@@ -1,42 +1,50 @@
 //! Steps of calls that run no part.
 
-ghost use Rattle.std.specs.Prelude.{◌≡◌, ◌==◌, ◌++◌, ◌∷◌, [], count_by, slice_get, IfOk, OnOk, IsTrue};
-ghost use Rattle.std.specs.Option.{option_copied};
+ghost use Rattle.std.specs.Prelude.{◌≡◌, ◌==◌, ◌++◌, ◌∷◌, [], count_by, IfOk, OnOk, MatchOption};
 ghost use Rattle.sk_dag.specs.Eval.{Keeps};
 ghost use Rattle.sk_arr.specs.Shapes.{Stands};
-ghost use Rattle.sk_model.specs.Eval.{params_of};
 ghost use Rattle.sk_sym_state.specs.Stands.{AnyStands};
-ghost use Rattle.sk_sym_walk.specs.Calls.{NoRefs, PaysNothing, IsResultShape};
+ghost use Rattle.sk_sym_walk.specs.Calls.{PaysNothing, IsResultShape, AreParams, AreShapes};
 
 use sk_dag::{Dag, Shape};
 use sk_literals::zero_of;
-use sk_prog::{Elem, Fun, FunId, FunKind, ParamDef, Prog, Ty};
+use sk_prog::{Elem, Fun, FunKind, ParamDef, Ty};
 use std::alloc::{AllocError, Global};
 
-/// Whether no parameter is a `ref` parameter.
-fn has_no_refs(params: &[ParamDef]) -> bool
-    ensures { IsTrue result → NoRefs params.now }
-{
-    for p in params {
-        if p.by_ref {
-            return false;
-        }
-    }
-    true
+/// The first of some parameters, whether it is a `ref` parameter, and those behind it.
+#[derive(Clone, Copy)]
+pub(crate) struct Params<'a> {
+    pub(crate) by_ref: bool,
+    pub(crate) more: &'a [ParamDef],
 }
 
-/// Refuses a function that has `ref` parameters, as by want of memory.
-pub(crate) fn plain_params(found: Option<&Fun>) -> Result<(), AllocError>
-    ensures { OnOk result (NoRefs (params_of (option_copied found.entry))) }
+/// The first of some parameters, where there is one.
+pub(crate) fn first_param<'a>(params: &'a [ParamDef]) -> Option<Params<'a>>
+    ensures { MatchOption result (params.now ≡ []) (λ found. AreParams params.now found.by_ref found.more.now) }
 {
-    match found {
-        None => Ok(()),
-        Some(fun) => {
-            if !has_no_refs(fun.params.as_slice()) {
-                return Err(AllocError);
-            }
-            Ok(())
-        }
+    match params {
+        [] => None,
+        [first, more @ ..] => Some(Params {
+            by_ref: first.by_ref,
+            more,
+        }),
+    }
+}
+
+/// The first of some shapes, and those behind it.
+#[derive(Clone, Copy)]
+pub(crate) struct Shapes<'a> {
+    pub(crate) first: &'a Shape,
+    pub(crate) more: &'a [Shape],
+}
+
+/// The first of some shapes, where there is one.
+pub(crate) fn first_shape<'a>(shapes: &'a [Shape]) -> Option<Shapes<'a>>
+    ensures { MatchOption result (shapes.now ≡ []) (λ found. AreShapes shapes.now found.first.now found.more.now) }
+{
+    match shapes {
+        [] => None,
+        [first, more @ ..] => Some(Shapes { first, more }),
     }
 }
 
@@ -49,13 +57,6 @@ pub(crate) fn pays_nothing(fun: &Fun) -> Result<(), AllocError>
         FunKind::Generator => Ok(()),
         FunKind::Harness => Err(AllocError),
     }
-}
-
-/// The function with a number, where there is one.
-pub(crate) fn function_of(prog: &Prog, f: FunId) -> Option<&Fun>
-    ensures { option_copied result ≡ slice_get prog.now.funs f.index }
-{
-    prog.funs.as_slice().get(f.index as usize)
 }
 
 /// These functions and one more.

@@ -1,4 +1,4 @@
-use Rattle.std.proofs.Common.{Some, subst}
+use Rattle.std.proofs.Common.{subst}
 use Rattle.sk_sym_state.specs.Stands.{AnyStands}
 use Rattle.sk_sym_walk.proofs.Called.{result_given, result_blank}
 use Rattle.sk_sym_walk.proofs.calling.value_of.Goals as goal

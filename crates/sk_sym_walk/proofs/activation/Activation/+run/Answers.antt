@@ -1,13 +1,12 @@
 use Rattle.std.specs.Prelude.{◌==◌, if◌then◌else◌}
-use Rattle.std.proofs.Common.{◌≡◌, ◌+◌, ◌-◌, length, true, false, arith, refl, sym, ap, subst, ◌∙◌, ℕ, take, Some, List}
+use Rattle.std.proofs.Common.{◌≡◌, ◌+◌, ◌-◌, length, true, false, arith, refl, sym, ap, subst, ◌∙◌, take}
 use Rattle.std.proofs.lemmas.List.{take_all}
 use Rattle.sk_dag.specs.declared.env.Env.{Env}
 use Rattle.sk_dag.specs.Graph.{Graph, Grows, BoolSort}
 use Rattle.sk_dag.specs.Eval.{bool_value}
 use Rattle.sk_dag.proofs.EvalLemmas.{Keeps-trans}
-use Rattle.sk_arr.proofs.Makers.{Keeps-refl}
 use Rattle.sk_arr.proofs.Standing.{Stands-keeps, bit_there, bit_stands, array_stands}
-use Rattle.sk_sym_state.proofs.Standing.{StateStands-keeps, SideStands-keeps, turned_stands, gone_stands}
+use Rattle.sk_sym_state.proofs.Standing.{AnyStands-keeps, StateStands-keeps, SideStands-keeps, turned_stands, gone_stands}
 use Rattle.sk_sym_walk.specs.Walk.{eval_part, exec_all_at, stmt_part, all_part}
 use Rattle.sk_sym_walk.specs.Parts.{given, list_part, AreEvaluated, other_part}
 use Rattle.sk_sym_walk.proofs.Sequences.{ok_more, evaluated_as, bit_worth, evaluated_then, evaluated_parts, two_evaluated, given_evaluated, on_ok, same_part, executed_as, executed_parts, executed_none, executed_over, siteless_executed, executes_cut, executes_nothing, executed_then}
@@ -21,13 +20,15 @@ use Rattle.sk_sym_state.specs.Meaning.{Executes}
 use Rattle.sk_sym_state.proofs.Ends.{executes_same}
 use Rattle.sk_sym_state.proofs.Following.{executes_then}
 use Rattle.std.specs.Option.{option_copied}
-use Rattle.sk_prog.specs.declared.prog.Fun.{Fun}
 use Rattle.sk_model.specs.declared.expanded.Expanded.{Expanded}
-use Rattle.sk_model.specs.Eval.{params_of}
 use Rattle.sk_sym_state.specs.Stands.{StateStands}
 use Rattle.sk_sym_frames.proofs.Frames.{CallerStands-keeps}
-use Rattle.sk_sym_walk.specs.Calls.{callee, NoRefs, IsCallOf}
-use Rattle.sk_sym_walk.proofs.Called.{called_is, call_evaluates, refused_evaluates, over_evaluates, call_evaluated}
+use Rattle.sk_sym_walk.specs.Calls.{copied_at, AreCopiedBack}
+use Rattle.sk_sym_walk.proofs.Called.{called_is, ended_evaluates, call_evaluates, refused_evaluates, over_evaluates, call_evaluated}
+use Rattle.sk_sym_walk.proofs.Copying.{first_stands, more_stand, back_no_params, back_no_args, back_no_values, back_arg, back_passed, one_back}
+use Rattle.sk_sym_stores.proofs.Assigning.{given_stored}
+use Rattle.sk_arr.specs.Shapes.{AllStand}
+use Rattle.sk_arr.proofs.Standing.{AllStand-keeps}
 use Rattle.sk_sym_walk.specs.Copies.{copies_at, copy_part}
 use Rattle.sk_sym_walk.specs.Orders.{number_at, turn_at, AreOrders}
 use Rattle.sk_sym_walk.proofs.Turns.{same_while, loop_behind, turns_executed, turn_fails, turn_executed, decided_on, decided_off, decided_both}
@@ -38,9 +39,9 @@ use Rattle.sk_sym_steps.specs.Steps.{EvaluatesOn}
 use Rattle.sk_sym_stores.specs.Records.{InitsStand, InitsAre}
 use Rattle.sk_sym_stores.proofs.Locating.{LocationStands-keeps}
 use Rattle.sk_sym_walk.specs.Targets.{fields_part, AreSetTo}
-use Rattle.sk_sym_walk.proofs.Targets.{located_as, same_variable_target, same_field_target, same_index_target, same_new, same_assign, variable_located, field_located, index_located, assign_executed, fields_none, fields_more, new_evaluated}
-use Rattle.sk_sym_walk.specs.Patterns.{strings_part}
-use Rattle.sk_sym_walk.proofs.Patterns.{same_pattern, pattern_evaluated, strings_evaluated, strings_behind}
+use Rattle.sk_sym_walk.proofs.Targets.{located_as, same_variable_target, same_field_target, same_index_target, same_new, same_assign, variable_located, field_located, index_located, fields_none, fields_more, new_evaluated}
+use Rattle.sk_sym_walk.specs.Patterns.{strings_part, assign_at_part, assign_strings_part}
+use Rattle.sk_sym_walk.proofs.Patterns.{same_pattern, pattern_evaluated, strings_evaluated, strings_behind, assign_executed, one_assigned, same_pattern_target, pattern_assigned, strings_assigned, string_behind, assigned_behind}
 use Rattle.sk_sym_walk.proofs.activation.Activation.+run.Goals as goal
 
 -- ---- forms
@@ -351,31 +352,6 @@ eval-returns-in-Call t c =
 
 pub call-all-requires : goal.call-all-requires
 call-all-requires t c = (omega arith, c.requires.stands)
-
-pub call-call_with-requires : goal.call-call_with-requires
-call-call_with-requires t c = let v = c.in_ok-values.ensures.evaluated.evaluate in (omega arith, (v.does.moves.stands, v.there))
-
-pub call-returns : goal.call-returns
-call-returns t c = record { evaluated = call_evaluated c.args.span c.args.f c.args.args.now (subst (λ o. NoRefs (params_of o)) c.function_of-found.ensures c.in_ok-plain_params.ensures) c.in_ok-values.ensures.evaluated c.in_ok-r.ensures.evaluates }
-
-pub call_with-call_of-requires : goal.call_with-call_of-requires
-call_with-call_of-requires t c = (omega arith, (c.requires.stands, (c.requires.values, sym c.callee.ensures ∙ ap option_copied c.in-Some.is)))
-
-pub call_with-returns-then-is_over : goal.call_with-returns-then-is_over
-call_with-returns-then-is_over t c = record { evaluates = over_evaluates c.requires.stands (c.is_over.ensures c.if-is_over.true) c.in_ok-r.ensures.keeps c.in_ok-r.ensures.stands }
-
-pub call_with-returns-in_ok-r-in-None : goal.call_with-returns-in_ok-r-in-None
-call_with-returns-in_ok-r-in-None t c = record { evaluates = refused_evaluates c.args.self.now c.args.f c.args.span c.in_ok-fail_here-in-None.ensures.executes c.in_ok-r-in-None.ensures.keeps c.in_ok-r-in-None.ensures.stands (sym c.callee.ensures ∙ ap option_copied c.in-None.is) }
-
-pub call_of-within-requires : goal.call_of-within-requires
-call_of-within-requires t c = (omega arith, (c.requires.stands, (c.requires.values, record { expanded = refl; choice = refl })))
-
-pub call_of-returns : goal.call_of-returns
-call_of-returns t c = record {
-  evaluates = call_evaluates c.args.span c.args.fun.now c.in_ok-ended.ensures.called c.in_ok-r.ensures.keeps c.in_ok-r.ensures.result c.requires.callee
-      (record { inside = record { expanded = refl; choice = refl }; bounds = refl; left = c.saturating_sub-left.ensures; active = c.as_slice.ensures.value ∙ c.in_ok-active.ensures; of = refl })
-      c.in_ok-pays_nothing.ensures c.in_ok-start.ensures;
-}
 
 pub within-exec_all-requires : goal.within-exec_all-requires
 within-exec_all-requires t c = (omega arith, subst (λ (x : Expanded). StateStands c.enter.new.dag x.prog c.enter.new.state) (sym c.requires.inside.expanded) c.in_ok-caller.ensures.entered.stands)
@@ -867,18 +843,6 @@ index_target-eval-requires t c = (omega arith, c.in_ok-location.ensures.located.
 pub index_target-returns : goal.index_target-returns
 index_target-returns t c = record { located = index_located c.args.span c.args.base.now c.args.index.now c.in_ok-location.ensures.located c.in_ok-i.ensures.evaluated c.in_ok-push_index.ensures }
 
-pub assign-target-requires : goal.assign-target-requires
-assign-target-requires t c = (omega arith, c.requires.stands)
-
-pub assign-eval-requires : goal.assign-eval-requires
-assign-eval-requires t c = (omega arith, c.in_ok-location.ensures.located.locates.does.moves.stands)
-
-pub assign-assign-requires-clause-location : goal.assign-assign-requires-clause-location
-assign-assign-requires-clause-location t c = LocationStands-keeps c.in_ok-v.ensures.evaluated.evaluates.does.moves.keeps c.in_ok-location.ensures.located.locates.there
-
-pub assign-returns : goal.assign-returns
-assign-returns t c = record { executed = assign_executed c.args.span c.args.target.now c.args.value.now c.in_ok-location.ensures.located c.in_ok-v.ensures.evaluated c.in_ok-assign.ensures.executes }
-
 pub exec-assign-requires : goal.exec-assign-requires
 exec-assign-requires t c = (omega arith, c.requires.stands)
 
@@ -993,3 +957,179 @@ both_strings-joined-requires-clause-b t c = c.in_ok-y.ensures.evaluated.evaluate
 
 pub both_strings-returns : goal.both_strings-returns
 both_strings-returns t c = record { evaluated = both_evaluated c.args.span c.in_ok-waits.ensures.forked c.in_ok-x.ensures.evaluated c.turn-gone.ensures c.in_ok-y.ensures.evaluated c.in_ok-r.ensures.joined }
+
+-- ---- calls, and the values that go back to their arguments
+
+pub call-call_with-requires : goal.call-call_with-requires
+call-call_with-requires t c = let v = c.in_ok-values.ensures.evaluated.evaluate in (omega arith, (v.does.moves.stands, v.there))
+
+pub call-returns : goal.call-returns
+call-returns t c = record { evaluated = call_evaluated c.args.span c.args.f c.args.args.now c.in_ok-values.ensures.evaluated c.in_ok-r.ensures.evaluates }
+
+pub call_with-call_of-requires : goal.call_with-call_of-requires
+call_with-call_of-requires t c = (omega arith, (c.requires.stands, (c.requires.values, sym c.callee.ensures ∙ ap option_copied c.in-Some.is)))
+
+pub call_with-returns-then-is_over : goal.call_with-returns-then-is_over
+call_with-returns-then-is_over t c = record { evaluates = over_evaluates c.requires.stands (c.is_over.ensures c.if-is_over.true) c.in_ok-r.ensures.keeps c.in_ok-r.ensures.stands }
+
+pub call_with-returns-in_ok-r-in-None : goal.call_with-returns-in_ok-r-in-None
+call_with-returns-in_ok-r-in-None t c = record { evaluates = refused_evaluates c.args.self.now c.args.f c.args.span c.args.args.now c.args.first c.in_ok-fail_here-in-None.ensures.executes c.in_ok-r-in-None.ensures.keeps c.in_ok-r-in-None.ensures.stands (sym c.callee.ensures ∙ ap option_copied c.in-None.is) }
+
+pub call_of-within-requires : goal.call_of-within-requires
+call_of-within-requires t c = (omega arith, (c.requires.stands, (c.requires.values, record { expanded = refl; choice = refl })))
+
+pub call_of-end_call-requires : goal.call_of-end_call-requires
+call_of-end_call-requires t c = let h = c.in_ok-ended.ensures.called in (omega arith, (h.does.moves.stands, h.there))
+
+pub call_of-returns : goal.call_of-returns
+call_of-returns t c = record {
+  evaluates = call_evaluates c.args.span c.args.fun.now c.args.args.now c.args.first c.in_ok-ended.ensures.called c.in_ok-r.ensures.evaluates c.requires.callee
+      (record { inside = record { expanded = refl; choice = refl }; bounds = refl; left = c.saturating_sub-left.ensures; active = c.as_slice.ensures.value ∙ c.in_ok-active.ensures; of = refl })
+      c.in_ok-pays_nothing.ensures c.in_ok-start.ensures;
+}
+
+pub end_call-copy_back-requires : goal.end_call-copy_back-requires
+end_call-copy_back-requires t c = (omega arith, (c.requires.stands, subst (AllStand c.args.dag.now) (sym c.as_slice-refs.ensures) c.requires.ended.refs))
+
+pub copy_back-copy_arg-requires : goal.copy_back-copy_arg-requires
+copy_back-copy_arg-requires t c = (omega arith, (c.requires.stands, c.requires.refs))
+
+pub copy_arg-copy_back-requires : goal.copy_arg-copy_back-requires
+copy_arg-copy_back-requires t c = (omega arith, (c.requires.stands, c.requires.refs))
+
+pub copy_arg-copy_one-requires : goal.copy_arg-copy_one-requires
+copy_arg-copy_one-requires t c = (omega arith, (c.requires.stands, first_stands c.in-Some.ensures c.requires.refs))
+
+pub copy_arg-copy_back-requires-2 : goal.copy_arg-copy_back-requires-2
+copy_arg-copy_back-requires-2 t c =
+    let m = c.in_ok-copy_one.ensures.copied.does.moves in
+    (omega arith, (m.stands, AllStand-keeps m.keeps (more_stand c.in-Some.ensures c.requires.refs)))
+
+pub copy_one-target-requires : goal.copy_one-target-requires
+copy_one-target-requires t c = (omega arith, c.requires.stands)
+
+pub copy_one-store-requires-clause-value : goal.copy_one-store-requires-clause-value
+copy_one-store-requires-clause-value t c = Stands-keeps c.in_ok-location.ensures.located.locates.does.moves.keeps c.requires.value
+
+pub copy_one-returns : goal.copy_one-returns
+copy_one-returns t c = let l = c.in_ok-location.ensures.located in record { copied = record { does = given_stored c.args.span l.locates c.in_ok-store.ensures.stores; place = l.place } }
+
+-- ---- values that go back to arguments
+
+pub copy_back-returns-in_default : goal.copy_back-returns-in_default
+copy_back-returns-in_default t c = record { copied = back_no_params c.args.span c.args.args.now c.args.first c.requires.stands c.in_default.ensures }
+
+pub copy_back-returns-in_default-first_expr : goal.copy_back-returns-in_default-first_expr
+copy_back-returns-in_default-first_expr t c = record { copied = back_no_args c.args.span c.args.params.now c.args.first c.requires.stands c.in_default-first_expr.ensures }
+
+pub copy_back-returns : goal.copy_back-returns
+copy_back-returns t c = record { copied = back_arg c.args.span c.args.first c.in-Some.ensures c.in-Some-first_expr.ensures c.in_ok-copy_arg.ensures.copied }
+
+pub copy_arg-returns-then-not-by_ref : goal.copy_arg-returns-then-not-by_ref
+copy_arg-returns-then-not-by_ref t c = record { copied = back_passed c.args.span c.args.arg.now c.args.params.now c.args.args.now c.args.first c.if-not-by_ref.true c.in_ok-pass_expr.ensures c.in_ok-copy_back.ensures.copied }
+
+pub copy_arg-returns-in_default : goal.copy_arg-returns-in_default
+copy_arg-returns-in_default t c = record { copied = back_no_values c.args.span c.args.by_ref c.args.arg.now c.args.params.now c.args.args.now c.args.first c.requires.stands c.in_default.ensures }
+
+pub copy_arg-returns : goal.copy_arg-returns
+copy_arg-returns t c = record { copied = one_back c.args.span c.args.arg.now c.args.params.now c.args.args.now c.if-not-by_ref.false c.in-Some.ensures c.in_ok-copy_one.ensures.copied c.in_ok-copy_back-2.ensures.copied }
+
+pub end_call-value_of-requires : goal.end_call-value_of-requires
+end_call-value_of-requires t c = record { given = AnyStands-keeps c.in_ok-copy_back.ensures.copied.does.moves.keeps c.args.ended.result c.requires.ended.result }
+
+pub end_call-returns : goal.end_call-returns
+end_call-returns t c =
+    let self = c.args.self.now in
+    let params = subst (λ ps. AreCopiedBack self c.args.dag.now c.copy_back.new.dag c.args.state.now c.copy_back.new.state c.as_slice-refs.result.now (copied_at self c.args.span ps c.args.args.now c.args.first)) c.as_slice-params.ensures c.in_ok-copy_back.ensures.copied in
+    let copied = subst (λ rs. AreCopiedBack self c.args.dag.now c.copy_back.new.dag c.args.state.now c.copy_back.new.state rs (copied_at self c.args.span c.args.fun.now.params c.args.args.now c.args.first)) c.as_slice-refs.ensures params in
+    record { evaluates = ended_evaluates {ended = c.args.ended} c.args.span c.args.fun.now.result c.args.fun.now.params c.args.args.now c.args.first copied c.in_ok-r.ensures.keeps c.in_ok-r.ensures.result }
+
+-- ---- assignments, also to patterns
+
+pub assign-assign_at-requires : goal.assign-assign_at-requires
+assign-assign_at-requires t c = (omega arith, c.requires.stands)
+
+pub assign-returns : goal.assign-returns
+assign-returns t c = record { executed = assign_executed c.args.span c.args.target.now c.args.value.now c.in_ok-pass_expr.ensures c.in_ok-assign_at.ensures.executed c.in_ok-pass_expr-2.ensures }
+
+pub assign_at-assign_pattern-requires : goal.assign_at-assign_pattern-requires
+assign_at-assign_pattern-requires t c = (omega arith, c.requires.stands)
+
+pub assign_at-assign_one-requires : goal.assign_at-assign_one-requires
+assign_at-assign_one-requires t c = (omega arith, c.requires.stands)
+
+pub assign_at-returns-in-Pattern : goal.assign_at-returns-in-Pattern
+assign_at-returns-in-Pattern t c =
+    let is = rw (← c.as_slice-list.ensures) at c.in-Pattern.is in
+    record { executed = on_ok c.assign_pattern.result (executed_as (same_pattern_target c.args.self.now c.args.span c.args.start c.args.target.now c.args.value.now c.as_slice-list.result.now is)) c.assign_pattern.ensures.executed }
+
+pub assign_one-target-requires : goal.assign_one-target-requires
+assign_one-target-requires t c = (omega arith, c.requires.stands)
+
+pub assign_one-eval-requires : goal.assign_one-eval-requires
+assign_one-eval-requires t c = (omega arith, c.in_ok-location.ensures.located.locates.does.moves.stands)
+
+pub assign_one-assign-requires-clause-location : goal.assign_one-assign-requires-clause-location
+assign_one-assign-requires-clause-location t c = LocationStands-keeps c.in_ok-v.ensures.evaluated.evaluates.does.moves.keeps c.in_ok-location.ensures.located.locates.there
+
+pub assign_one-returns : goal.assign_one-returns
+assign_one-returns t c = record { executed = one_assigned c.args.span c.args.target.now c.args.value.now c.in_ok-location.ensures.located c.in_ok-v.ensures.evaluated c.in_ok-assign.ensures.executes }
+
+pub assign_pattern-assign_strings-requires : goal.assign_pattern-assign_strings-requires
+assign_pattern-assign_strings-requires t c = (omega arith, c.requires.stands)
+
+pub assign_pattern-returns : goal.assign_pattern-returns
+assign_pattern-returns t c = record { executed = pattern_assigned c.args.span c.args.start c.args.list.now c.args.value.now c.in_ok-pass_site.ensures c.in_ok-assign_strings.ensures.executed }
+
+pub assign_strings-assign_string-requires : goal.assign_strings-assign_string-requires
+assign_strings-assign_string-requires t c = (omega arith, (StateStands-keeps c.in_ok-here.ensures.keeps c.requires.stands, c.in_ok-here.ensures.there))
+
+pub assign_strings-returns : goal.assign_strings-returns
+assign_strings-returns t c = record { executed = strings_assigned c.in_ok-here.here c.args.span c.args.start c.args.site c.args.k c.in_ok-next.next c.args.value.now c.in-Some.ensures c.in_ok-next.ensures c.requires.stands c.in_ok-here.ensures.keeps c.in_ok-here.ensures.value c.in_ok-assign_string.ensures.executed }
+
+pub assign_string-assign_at-requires : goal.assign_string-assign_at-requires
+assign_string-assign_at-requires t c = (omega arith, c.requires.stands)
+
+pub assign_string-assign_strings-requires : goal.assign_string-assign_strings-requires
+assign_string-assign_strings-requires t c = (omega arith, c.requires.stands)
+
+pub assign_string-assign_either-requires : goal.assign_string-assign_either-requires
+assign_string-assign_either-requires t c = (omega arith, (c.requires.stands, c.requires.here))
+
+pub assign_string-returns-in_ok-assign_at-in-Some-true : goal.assign_string-returns-in_ok-assign_at-in-Some-true
+assign_string-returns-in_ok-assign_at-in-Some-true t c =
+    let h = c.in_ok-assign_at-in-Some-true.ensures.executed in
+    record { executed = on_ok c.pass_exprs.result (λ p. first_executed c.args.span c.args.here (assign_at_part c.args.self.now c.args.span c.args.start c.args.first.now c.args.value.now) (assign_strings_part c.args.self.now c.args.span c.args.start c.args.site c.args.next c.args.more.now c.args.value.now) (λ g more e. c.in-Some-true.ensures g (h.executes.moves.keeps.later g more) e ∙ c.in-Some-true.field-0-test) h (assigned_behind _ c.args.self.now c.args.span c.args.start c.args.site c.args.next c.args.more.now c.args.value.now p)) c.pass_exprs.ensures }
+
+pub assign_string-returns-in_ok-pass_expr-in-Some-false : goal.assign_string-returns-in_ok-pass_expr-in-Some-false
+assign_string-returns-in_ok-pass_expr-in-Some-false t c =
+    let p = c.in_ok-pass_expr-in-Some-false.ensures in
+    record { executed = on_ok c.assign_strings.result (λ h. second_executed c.args.span c.args.here (assign_at_part c.args.self.now c.args.span c.args.start c.args.first.now c.args.value.now) (assign_strings_part c.args.self.now c.args.span c.args.start c.args.site c.args.next c.args.more.now c.args.value.now) (λ g more e. c.in-Some-false.ensures g (h.executes.moves.keeps.later g more) e ∙ c.in-Some-false.field-0-test) (string_behind _ c.args.self.now c.args.span c.args.start c.args.first.now c.args.value.now p) h) c.assign_strings.ensures.executed }
+
+pub assign_either-assign_at-requires : goal.assign_either-assign_at-requires
+assign_either-assign_at-requires t c = (omega arith, c.in_ok-waits.ensures.forked.stands)
+
+pub assign_either-assign_strings-requires : goal.assign_either-assign_strings-requires
+assign_either-assign_strings-requires t c =
+    let a = c.in_ok-assign_at.ensures.executed.executes.moves in
+    (omega arith, turned_stands c.turn-gone.ensures (SideStands-keeps a.keeps c.in_ok-waits.ensures.forked.waits) a.stands)
+
+pub assign_either-join-requires-clause-stands : goal.assign_either-join-requires-clause-stands
+assign_either-join-requires-clause-stands t c = c.in_ok-assign_strings.ensures.executed.executes.moves.stands
+
+pub assign_either-join-requires-clause-cond : goal.assign_either-join-requires-clause-cond
+assign_either-join-requires-clause-cond t c =
+    let f = c.in_ok-waits.ensures.forked in
+    let a = c.in_ok-assign_at.ensures.executed.executes.moves in
+    let b = c.in_ok-assign_strings.ensures.executed.executes.moves in
+    (Keeps-trans f.keeps (Keeps-trans a.keeps b.keeps)).sorts _ BoolSort c.requires.here
+
+pub assign_either-join-requires-clause-gone : goal.assign_either-join-requires-clause-gone
+assign_either-join-requires-clause-gone t c =
+    let f = c.in_ok-waits.ensures.forked in
+    let a = c.in_ok-assign_at.ensures.executed.executes.moves in
+    let b = c.in_ok-assign_strings.ensures.executed.executes.moves in
+    SideStands-keeps b.keeps (gone_stands c.turn-gone.ensures (SideStands-keeps a.keeps f.waits) a.stands)
+
+pub assign_either-returns : goal.assign_either-returns
+assign_either-returns t c = record { executed = both_executed c.args.span c.in_ok-waits.ensures.forked c.in_ok-assign_at.ensures.executed c.turn-gone.ensures c.in_ok-assign_strings.ensures.executed c.in_ok-join.ensures.joined }

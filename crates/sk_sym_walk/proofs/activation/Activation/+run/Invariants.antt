@@ -159,7 +159,7 @@ abbrev pub decreases-index_target : goal.decreases-index_target
 decreases-index_target l = 8 * l.room + 1
 
 abbrev pub decreases-assign : goal.decreases-assign
-decreases-assign l = 8 * l.room + 1
+decreases-assign l = 8 * l.room + 4
 
 abbrev pub decreases-fields : goal.decreases-fields
 decreases-fields l = 8 * l.room + 1
@@ -182,3 +182,33 @@ decreases-string l = 8 * l.room + 2
 
 abbrev pub decreases-pattern : goal.decreases-pattern
 decreases-pattern l = 8 * l.room + 1
+
+abbrev pub decreases-end_call : goal.decreases-end_call
+decreases-end_call l = 8 * l.room + 1
+
+abbrev pub decreases-copy_back : goal.decreases-copy_back
+decreases-copy_back l = 8 * l.room
+
+abbrev pub decreases-copy_arg : goal.decreases-copy_arg
+decreases-copy_arg l = 8 * l.room + 2
+
+abbrev pub decreases-copy_one : goal.decreases-copy_one
+decreases-copy_one l = 8 * l.room + 1
+
+abbrev pub decreases-assign_at : goal.decreases-assign_at
+decreases-assign_at l = 8 * l.room + 3
+
+abbrev pub decreases-assign_one : goal.decreases-assign_one
+decreases-assign_one l = 8 * l.room + 1
+
+abbrev pub decreases-assign_pattern : goal.decreases-assign_pattern
+decreases-assign_pattern l = 8 * l.room + 2
+
+abbrev pub decreases-assign_strings : goal.decreases-assign_strings
+decreases-assign_strings l = 8 * l.room
+
+abbrev pub decreases-assign_string : goal.decreases-assign_string
+decreases-assign_string l = 8 * l.room + 5
+
+abbrev pub decreases-assign_either : goal.decreases-assign_either
+decreases-assign_either l = 8 * l.room + 4
