@@ -49,14 +49,6 @@ pub fn run_filled(
     }
 }
 
-fn copied(alloc: Global, numbers: &[u64]) -> Result<List<u64>, AllocError> {
-    let mut made = List::new(alloc);
-    for number in numbers {
-        made.push(*number)?;
-    }
-    Ok(made)
-}
-
 fn scalars_of(alloc: Global, args: &[Value]) -> Result<List<i64>, AllocError> {
     let mut scalars = List::new(alloc);
     push_scalars(&mut scalars, args)?;
@@ -64,7 +56,7 @@ fn scalars_of(alloc: Global, args: &[Value]) -> Result<List<i64>, AllocError> {
 }
 
 fn environment(alloc: Global, choice: &[u64], args: &[Value]) -> Result<Env, AllocError> {
-    let choice = copied(alloc, choice)?;
+    let choice = List::from_slice(alloc, choice)?;
     let input = scalars_of(alloc, args)?;
     Ok(Env { choice, input })
 }

@@ -1,5 +1,5 @@
-use Rattle.std.proofs.Common.{◌≡◌, arith, refl, sym, ap, subst, ◌∙◌}
-use Rattle.sk_arr.specs.Shapes.{Stands, AllStand}
+use Rattle.std.proofs.Common.{arith, sym, ap, subst}
+use Rattle.sk_arr.specs.Shapes.{AllStand}
 use Rattle.sk_arr.proofs.Depths.{depth_array, depth_within, depths}
 use Rattle.sk_arr.proofs.Standing.{bit_there, int_there, parts_stand}
 use Rattle.sym_cases.proofs.Inputs.{stands_at}
