@@ -21,7 +21,7 @@ use std::alloc::AllocError;
 
 /// How deep statements and expressions may nest, over all active calls. A run that needs more ends as by want of
 /// memory, before its stack does.
-const MOST_LEVELS: u32 = 4096;
+const MOST_LEVELS: u32 = 2048;
 
 /// Does what the body of the function with a number does, which is that of the call.
 fn body(

@@ -59,7 +59,7 @@ fn run(
 ///
 /// # Errors
 ///
-/// Memory is wanting, statements and expressions nest more than 4,096 deep over all active calls, no call may be active by
+/// Memory is wanting, statements and expressions nest more than 2,048 deep over all active calls, no call may be active by
 /// the bounds, there is no such function, or its result or the final value of a `ref` parameter names a record.
 pub fn execute(
     alloc: Global,
