@@ -1,0 +1,397 @@
+//! Judging of rows.
+
+ghost use Rattle.std.specs.Prelude.{◌≤◌, IfSome};
+
+use crate::ending::ending_text;
+use crate::runs::{Subject, run_filled, run_over_nodes};
+use crate::sketch::{Sketch, function_named, sketch_of};
+use row_files::{BlockRow, Row, first_line, first_section, words_of};
+use sk_base::{List, Name};
+use sk_model::Choice;
+use sk_prog::Value;
+use sk_values::read_arguments;
+use std::alloc::{AllocError, Global};
+
+/// What a line says: the values of the sites, those of the arguments, and how the run ends, where it says so.
+#[derive(Drop)]
+struct Case<'a> {
+    choice: Choice,
+    args: List<Value>,
+    wanted: Option<&'a [u8]>,
+}
+
+/// What the settings of a row name: a function, and how many bits an `int` has.
+#[derive(Clone, Copy)]
+struct Called<'a> {
+    name: &'a str,
+    width: u32,
+    ghost low: { 6 ≤ width },
+    ghost high: { width ≤ 32 },
+}
+
+// The number of bits of an `int` that a word spells.
+fn bits_in(word: &str) -> Option<u32>
+    ensures low { IfSome result (λ bits. 6 ≤ bits) }
+    ensures high { IfSome result (λ bits. bits ≤ 32) }
+{
+    match word.parse::<u32>() {
+        Ok(bits) if bits >= 6 && bits <= 32 => Some(bits),
+        _ => None,
+    }
+}
+
+fn call_in<'a>(words: &'a [String]) -> Option<Called<'a>> {
+    match words {
+        [name] => Some(Called {
+            name: name.as_str(),
+            width: 16,
+        }),
+        [name, bits] => {
+            let bits = bits_in(bits.as_str())?;
+            Some(Called {
+                name: name.as_str(),
+                width: bits,
+            })
+        }
+        _ => None,
+    }
+}
+
+// What stands before ` => ` in a line, and what behind it.
+fn divided<'a>(line: &'a [u8]) -> (&'a [u8], Option<&'a [u8]>) {
+    for at in 0..line.len() {
+        let (before, behind) = line.split_at(at);
+        if let Some(wanted) = behind.strip_prefix(b" => ") {
+            return (before, Some(wanted));
+        }
+    }
+    (line, None)
+}
+
+fn names(alloc: Global, words: &[String]) -> Result<List<Name>, AllocError> {
+    let mut made = List::new(alloc);
+    for word in words {
+        made.push(Name::from_slice(alloc, word.as_bytes())?)?;
+    }
+    Ok(made)
+}
+
+// The numbers before the word `:`, and the words behind it.
+fn sites_of<'a>(
+    alloc: Global,
+    words: &'a [String],
+) -> Result<Option<(List<u64>, &'a [String])>, AllocError> {
+    let mut values = List::new(alloc);
+    let mut rest = words;
+    while let [word, after @ ..] = rest {
+        rest = after;
+        if word.as_str() == ":" {
+            return Ok(Some((values, rest)));
+        }
+        match word.as_str().parse::<u64>() {
+            Ok(number) => values.push(number)?,
+            Err(_) => return Ok(None),
+        }
+    }
+    Ok(None)
+}
+
+// The arguments that words spell.
+fn arguments(
+    alloc: Global,
+    subject: &Subject<'_>,
+    words: &[String],
+) -> Result<Option<List<Value>>, AllocError> {
+    let spelt = names(alloc, words)?;
+    match read_arguments(alloc, &subject.sketch.bounds, subject.fun, spelt.as_slice()) {
+        Ok(args) => Ok(Some(args)),
+        Err(_) => Ok(None),
+    }
+}
+
+// What a line says. There is nothing where it says no such thing.
+fn case_of<'a>(
+    alloc: Global,
+    subject: &Subject<'_>,
+    line: &'a [u8],
+) -> Result<Option<Case<'a>>, AllocError> {
+    let (before, wanted) = divided(line);
+    let words = words_of(alloc, before)?;
+    match sites_of(alloc, words.as_slice())? {
+        None => Ok(None),
+        Some((values, rest)) => case_with(alloc, subject, values, rest, wanted),
+    }
+}
+
+// The case of a line with these values of the sites.
+fn case_with<'a>(
+    alloc: Global,
+    subject: &Subject<'_>,
+    values: List<u64>,
+    words: &[String],
+    wanted: Option<&'a [u8]>,
+) -> Result<Option<Case<'a>>, AllocError> {
+    match arguments(alloc, subject, words)? {
+        None => Ok(None),
+        Some(args) => Ok(Some(Case {
+            choice: Choice { values },
+            args,
+            wanted,
+        })),
+    }
+}
+
+// Tells a line that fails, and what came in place of what was wanted.
+fn tell(
+    out: &mut Vec<u8>,
+    line: &[u8],
+    who: &[u8],
+    wanted: &[u8],
+    came: &[u8],
+) -> Result<(), AllocError> {
+    if came == wanted {
+        return Ok(());
+    }
+    for part in [
+        line,
+        b"\n  ",
+        who,
+        b": ",
+        came,
+        b"\n  wanted: ",
+        wanted,
+        b"\n",
+    ] {
+        out.extend_from_slice(part)?;
+    }
+    Ok(())
+}
+
+// How the function runs over nodes.
+fn over_nodes(
+    alloc: Global,
+    subject: &Subject<'_>,
+    given: Option<&Choice>,
+    choice: &[u64],
+    args: &[Value],
+) -> Result<Vec<u8>, AllocError> {
+    match run_over_nodes(alloc, subject, given, choice, args) {
+        Ok(outcome) => ending_text(alloc, subject.fun, &outcome),
+        Err(_) => Vec::from_slice(alloc, b"no memory"),
+    }
+}
+
+// How the function runs in the program that the choice makes. There is nothing where the choice is not in range.
+fn filled(
+    alloc: Global,
+    subject: &Subject<'_>,
+    case: &Case<'_>,
+) -> Result<Option<Vec<u8>>, AllocError> {
+    match run_filled(alloc, subject, &case.choice, case.args.as_slice())? {
+        None => Ok(None),
+        Some(outcome) => {
+            let text = ending_text(alloc, subject.fun, &outcome)?;
+            Ok(Some(text))
+        }
+    }
+}
+
+/// A way to run over nodes: what it is called, the choice that is given, and the choice of the environment.
+#[derive(Clone, Copy)]
+struct Way<'a> {
+    who: &'a [u8],
+    given: Option<&'a Choice>,
+    choice: &'a [u64],
+}
+
+// Tells where this run over nodes ends in another way than the run of the filled program.
+fn compare_by(
+    alloc: Global,
+    subject: &Subject<'_>,
+    line: &[u8],
+    args: &[Value],
+    way: Way<'_>,
+    run: &[u8],
+    out: &mut Vec<u8>,
+) -> Result<(), AllocError> {
+    let came = over_nodes(alloc, subject, way.given, way.choice, args)?;
+    tell(out, line, way.who, run, came.as_slice())
+}
+
+// Tells where a run over nodes ends in another way than the run of the filled program: by the choice of the environment,
+// and by the given choice where the environment has none.
+fn compare(
+    alloc: Global,
+    subject: &Subject<'_>,
+    line: &[u8],
+    case: &Case<'_>,
+    run: &[u8],
+    out: &mut Vec<u8>,
+) -> Result<(), AllocError> {
+    let args = case.args.as_slice();
+    let open = Way {
+        who: b"over nodes",
+        given: None,
+        choice: case.choice.values.as_slice(),
+    };
+    let given = Way {
+        who: b"with the choice given",
+        given: Some(&case.choice),
+        choice: &[],
+    };
+    compare_by(alloc, subject, line, args, open, run, out)?;
+    compare_by(alloc, subject, line, args, given, run, out)
+}
+
+// Tells where the run of the filled program ends in another way than the line says.
+fn compare_wanted(
+    line: &[u8],
+    case: &Case<'_>,
+    run: &[u8],
+    out: &mut Vec<u8>,
+) -> Result<(), AllocError> {
+    match case.wanted {
+        None => Ok(()),
+        Some(wanted) => tell(out, line, b"run", wanted, run),
+    }
+}
+
+// Tells what is wrong with a case whose filled program ends so.
+fn judge_run(
+    alloc: Global,
+    subject: &Subject<'_>,
+    line: &[u8],
+    case: &Case<'_>,
+    run: &[u8],
+    out: &mut Vec<u8>,
+) -> Result<(), AllocError> {
+    compare_wanted(line, case, run, out)?;
+    compare(alloc, subject, line, case, run, out)
+}
+
+// Tells what is wrong with a case.
+fn judge_case(
+    alloc: Global,
+    subject: &Subject<'_>,
+    line: &[u8],
+    case: &Case<'_>,
+    out: &mut Vec<u8>,
+) -> Result<(), AllocError> {
+    match filled(alloc, subject, case)? {
+        None => tell(out, line, b"choice", b"in range", b"out of range"),
+        Some(run) => judge_run(alloc, subject, line, case, run.as_slice(), out),
+    }
+}
+
+// Tells what is wrong with a line.
+fn judge_line(
+    alloc: Global,
+    subject: &Subject<'_>,
+    line: &[u8],
+    out: &mut Vec<u8>,
+) -> Result<(), AllocError> {
+    match case_of(alloc, subject, line)? {
+        None => tell(out, line, b"line", b"values : values", b"none"),
+        Some(case) => judge_case(alloc, subject, line, &case, out),
+    }
+}
+
+// Tells what is wrong with the lines of an answer.
+fn judge_lines(
+    alloc: Global,
+    subject: &Subject<'_>,
+    lines: &[u8],
+    out: &mut Vec<u8>,
+) -> Result<(), AllocError> {
+    let mut rest = lines;
+    while let Some(first) = first_line(rest) {
+        rest = first.rest;
+        judge_line(alloc, subject, first.line, out)?;
+    }
+    Ok(())
+}
+
+// The function with this name.
+fn subject_of<'a>(sketch: &'a Sketch, name: &str) -> Option<Subject<'a>> {
+    let f = function_named(&sketch.expanded, name)?;
+    let fun = sketch.expanded.prog.funs.as_slice().get(f.index as usize)?;
+    Some(Subject { sketch, f, fun })
+}
+
+// What is wrong with lines of this function.
+fn told_of(alloc: Global, subject: &Subject<'_>, lines: &[u8]) -> Result<Vec<u8>, AllocError> {
+    let mut out = Vec::new(alloc);
+    judge_lines(alloc, subject, lines, &mut out)?;
+    Ok(out)
+}
+
+// What is wrong with lines of a function of a sketch.
+fn judge_sketch(
+    alloc: Global,
+    sketch: &Sketch,
+    name: &str,
+    lines: &[u8],
+) -> Result<Vec<u8>, AllocError> {
+    match subject_of(sketch, name) {
+        None => Vec::from_slice(alloc, b"no function\n"),
+        Some(subject) => told_of(alloc, &subject, lines),
+    }
+}
+
+// What is wrong with lines of a function of a text.
+fn judge_text(
+    alloc: Global,
+    called: Called<'_>,
+    text: &[u8],
+    lines: &[u8],
+) -> Result<Vec<u8>, AllocError> {
+    match sketch_of(alloc, called.width, text) {
+        None => Vec::from_slice(alloc, b"no sketch\n"),
+        Some(sketch) => judge_sketch(alloc, &sketch, called.name, lines),
+    }
+}
+
+// What is wrong with lines of the function of a text that words name.
+fn judge_called(
+    alloc: Global,
+    words: &[String],
+    text: &[u8],
+    lines: &[u8],
+) -> Result<Vec<u8>, AllocError> {
+    match call_in(words) {
+        None => Vec::from_slice(alloc, b"no settings\n"),
+        Some(called) => judge_text(alloc, called, text, lines),
+    }
+}
+
+fn judge_block(alloc: Global, row: &BlockRow) -> Result<Vec<u8>, AllocError> {
+    let Some(answer) = first_section(row.answers) else {
+        return Vec::from_slice(alloc, b"no lines\n");
+    };
+    let words = words_of(alloc, row.settings)?;
+    judge_called(alloc, words.as_slice(), row.text.body, answer.section.body)
+}
+
+// What is told below a title, if anything is.
+fn titled(alloc: Global, title: &[u8], told: &[u8]) -> Result<Option<Vec<u8>>, AllocError> {
+    if told.is_empty() {
+        return Ok(None);
+    }
+    let mut out = Vec::from_slice(alloc, b"=== ")?;
+    for part in [title, b"\n", told] {
+        out.extend_from_slice(part)?;
+    }
+    Ok(Some(out))
+}
+
+/// What is to be told of a row, if something is wrong with it.
+pub fn judge(alloc: Global, row: &Row) -> Result<Option<Vec<u8>>, AllocError> {
+    match row {
+        Row::Block(row) => {
+            let told = judge_block(alloc, row)?;
+            titled(alloc, row.title, told.as_slice())
+        }
+        Row::Line(row) => titled(alloc, row.text, b"no block\n"),
+        Row::Unreadable(line) => titled(alloc, line, b"unreadable\n"),
+    }
+}
