@@ -1,0 +1,5 @@
+pub mod Ranges
+pub mod Parameters
+pub mod Speaking
+pub mod Listed
+pub mod Whole

@@ -1,0 +1,92 @@
+//! Whether the input speaks against a choice, as a node.
+
+ghost use Rattle.std.specs.Prelude.{◌≡◌, ◌-◌, ◌≤◌, ◌+◌, IfOk, OnOk};
+ghost use Rattle.sk_dag.specs.Eval.{Keeps};
+ghost use Rattle.sk_holes.specs.Needs.{HasItsSites};
+ghost use Rattle.sk_model.specs.Fill.{InRange};
+ghost use Rattle.sk_query.specs.Widths.{params_of as takes};
+ghost use Rattle.sk_arguments.specs.Arguments.{count_of};
+ghost use Rattle.sk_oblig.specs.Nodes.{SaysAnyBad, SaysBad};
+
+use crate::plain::{count_of, has_inputs, params_of};
+use sk_arguments::arguments;
+use sk_base::Bounds;
+use sk_checks::check;
+use sk_dag::{BoolId, Dag};
+use sk_folded::{flag, or};
+use sk_model::{Choice, Expanded, Obligation};
+use std::alloc::{AllocError, Global};
+
+// Whether the numbers of the input from a scalar on speak against a choice by an obligation that has inputs.
+#[tactic(auto, using(crate::proofs::Speaking::one))]
+fn speaks(
+    alloc: Global,
+    dag: &mut Dag,
+    expanded: &Expanded,
+    bounds: &Bounds,
+    obligation: Obligation,
+    first: u32,
+    choice: &Choice,
+    limit: Option<u64>,
+) -> Result<BoolId, AllocError>
+    requires width { dag.old.bits ≡ bounds.now.int_bits }
+    requires inbits { bounds.now.inbits ≤ bounds.now.int_bits - 1 }
+    requires sites { HasItsSites expanded.now }
+    requires range { InRange expanded.now choice.now }
+    ensures keeps { OnOk result (Keeps dag.old dag.new) }
+    ensures bad { IfOk result (λ r. SaysBad dag.new expanded.now choice.now bounds.now limit obligation first r) }
+{
+    if !has_inputs(&expanded.prog, obligation) {
+        let r = flag(dag, false)?;
+        return Ok(r);
+    }
+    let args = arguments(alloc, dag, params_of(&expanded.prog, obligation), first)?;
+    let given = Some(choice);
+    let r = check(alloc, dag, expanded, bounds, obligation, args.as_slice(), given, limit)?;
+    Ok(r)
+}
+
+// The scalar behind those of an obligation. More than can be numbered count as want of memory.
+fn behind(expanded: &Expanded, obligation: Obligation, first: u32) -> Result<u32, AllocError>
+    ensures { IfOk result (λ next. next ≡ first + count_of (takes expanded.now.prog obligation)) }
+{
+    let Some(count) = count_of(params_of(&expanded.prog, obligation)) else {
+        return Err(AllocError);
+    };
+    let Some(next) = u64::from(first).checked_add(count) else {
+        return Err(AllocError);
+    };
+    match u32::try_from(next) {
+        Ok(next) => Ok(next),
+        Err(_) => Err(AllocError),
+    }
+}
+
+/// Whether the numbers of the input, those of each obligation behind those of the one before it, speak against a choice by
+/// one of the obligations.
+#[tactic(auto, using(crate::proofs::Speaking::several))]
+pub(crate) fn any_speaks(
+    alloc: Global,
+    dag: &mut Dag,
+    expanded: &Expanded,
+    bounds: &Bounds,
+    obligations: &[Obligation],
+    choice: &Choice,
+    limit: Option<u64>,
+) -> Result<BoolId, AllocError>
+    requires width { dag.old.bits ≡ bounds.now.int_bits }
+    requires inbits { bounds.now.inbits ≤ bounds.now.int_bits - 1 }
+    requires sites { HasItsSites expanded.now }
+    requires range { InRange expanded.now choice.now }
+    ensures keeps { OnOk result (Keeps dag.old dag.new) }
+    ensures bad { IfOk result (λ r. SaysAnyBad dag.new expanded.now choice.now bounds.now limit obligations.now r) }
+{
+    let mut any = flag(dag, false)?;
+    let mut first = 0;
+    for obligation in obligations {
+        let one = speaks(alloc, dag, expanded, bounds, *obligation, first, choice, limit)?;
+        any = or(dag, any, one)?;
+        first = behind(expanded, *obligation, first)?;
+    }
+    Ok(any)
+}

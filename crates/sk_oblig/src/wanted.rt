@@ -1,0 +1,92 @@
+//! Whether no listed input speaks against a choice, as a node.
+
+ghost use Rattle.std.specs.Prelude.{◌≡◌, slice_get, Some, IfOk, OnOk};
+ghost use Rattle.sk_dag.specs.Eval.{Keeps};
+ghost use Rattle.sk_holes.specs.Needs.{HasItsSites};
+ghost use Rattle.sk_model.specs.Obligations.{obligations};
+ghost use Rattle.sk_oblig.specs.Nodes.{SaysAllFine, SaysFine};
+
+use sk_arguments::constants;
+use sk_base::Bounds;
+use sk_checks::check;
+use sk_dag::{BoolId, Dag};
+use sk_folded::{and, flag, not};
+use sk_model::{Expanded, Input, Obligation};
+use std::alloc::{AllocError, Global};
+
+// Whether an input of an obligation does not speak against the choice.
+#[tactic(auto, using(crate::proofs::Listed::sparing))]
+fn spares(
+    alloc: Global,
+    dag: &mut Dag,
+    expanded: &Expanded,
+    bounds: &Bounds,
+    obligation: Obligation,
+    input: &Input,
+    limit: Option<u64>,
+) -> Result<BoolId, AllocError>
+    requires width { dag.old.bits ≡ bounds.now.int_bits }
+    requires sites { HasItsSites expanded.now }
+    requires found { slice_get (obligations expanded.now.prog) input.now.obligation ≡ Some obligation }
+    ensures keeps { OnOk result (Keeps dag.old dag.new) }
+    ensures fine { IfOk result (λ r. SaysFine dag.new expanded.now bounds.now limit input.now r) }
+{
+    let args = constants(alloc, dag, input.args.as_slice())?;
+    let bad = check(alloc, dag, expanded, bounds, obligation, args.as_slice(), None, limit)?;
+    let r = not(dag, bad)?;
+    Ok(r)
+}
+
+// Whether an input does not speak against the choice; one of no obligation never does.
+#[tactic(auto, using(crate::proofs::Listed::sparing))]
+fn is_fine(
+    alloc: Global,
+    dag: &mut Dag,
+    expanded: &Expanded,
+    bounds: &Bounds,
+    listed: &[Obligation],
+    input: &Input,
+    limit: Option<u64>,
+) -> Result<BoolId, AllocError>
+    requires width { dag.old.bits ≡ bounds.now.int_bits }
+    requires sites { HasItsSites expanded.now }
+    requires listed { listed.now ≡ obligations expanded.now.prog }
+    ensures keeps { OnOk result (Keeps dag.old dag.new) }
+    ensures fine { IfOk result (λ r. SaysFine dag.new expanded.now bounds.now limit input.now r) }
+{
+    match listed.get(input.obligation as usize) {
+        Some(obligation) => {
+            let r = spares(alloc, dag, expanded, bounds, *obligation, input, limit)?;
+            Ok(r)
+        }
+        None => {
+            let r = flag(dag, true)?;
+            Ok(r)
+        }
+    }
+}
+
+/// Whether no listed input speaks against the choice, where that is in range.
+#[tactic(auto, using(crate::proofs::Listed::listed))]
+pub(crate) fn all_fine(
+    alloc: Global,
+    dag: &mut Dag,
+    expanded: &Expanded,
+    bounds: &Bounds,
+    listed: &[Obligation],
+    inputs: &[Input],
+    limit: Option<u64>,
+) -> Result<BoolId, AllocError>
+    requires width { dag.old.bits ≡ bounds.now.int_bits }
+    requires sites { HasItsSites expanded.now }
+    requires listed { listed.now ≡ obligations expanded.now.prog }
+    ensures keeps { OnOk result (Keeps dag.old dag.new) }
+    ensures fine { IfOk result (λ r. SaysAllFine dag.new expanded.now bounds.now limit inputs.now r) }
+{
+    let mut all = flag(dag, true)?;
+    for input in inputs {
+        let one = is_fine(alloc, dag, expanded, bounds, listed, input, limit)?;
+        all = and(dag, all, one)?;
+    }
+    Ok(all)
+}
