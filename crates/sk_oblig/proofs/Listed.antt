@@ -11,6 +11,7 @@ use Rattle.sk_dag.specs.Eval.{bool_value, Keeps}
 use Rattle.sk_dag.proofs.EvalLemmas.{Keeps-trans}
 use Rattle.sk_arr.proofs.Makers.{Keeps-refl}
 use Rattle.sk_arr.proofs.Values.{all_push, all_front, all_last}
+use Rattle.sk_prog.specs.declared.value.Value.{Value}
 use Rattle.sk_model.specs.declared.expanded.Expanded.{Expanded}
 use Rattle.sk_model.specs.declared.expanded.Input.{Input}
 use Rattle.sk_model.specs.declared.expanded.Obligation.{Obligation}
@@ -33,20 +34,23 @@ not_true true P b = (λ h. absurd (true≢false (sym h)), λ h. absurd (h (b.0 r
 not_true false P b = (λ h p. true≢false (sym (b.1 p)), λ h. refl)
 
 module _ {x : Expanded} {bounds : Bounds} {limit : Option ℕ} where
-  pub spared : {d0 d1 d2 : Graph} (input : Input) (o : Obligation) (args : List Shape) (bad r : BoolId) → slice_get (obligations x.prog) input.obligation ≡ Some o
-      → Keeps d0 d1 → Keeps d1 d2 → AreConstant d0 input.args args → IsCheck d1 x None bounds limit o args bad
+  pub spared : {d0 d1 d2 : Graph} (input : Input) (o : Obligation) (values : List Value) (args slice : List Shape) (bad r : BoolId) → slice_get (obligations x.prog) input.obligation ≡ Some o
+      → values ≡ input.args → slice ≡ args → Keeps d0 d1 → Keeps d1 d2 → AreConstant d0 values args → IsCheck d1 x None bounds limit o slice bad
       → HasBool d2.nodes r → ((g : Graph) → Grows d2 g → (e : Env) → bool_value g e r ≡ not (bool_value g e bad))
       → SaysFine d2 x bounds limit input r
-  spared input o args bad r at k1 k2 are check there is = record {
-    there = there;
-    value = λ g e m range.
-        let m1 = k2.later g m in
-        let says = check.value g e input.args m1 range (are.worth g e (k1.later g m1)) in
-        let into = subst (λ q. IsBrokenUnder x (choice_of None e) bounds input.args q ⊎ IsOver limit (cost_of_obligation_under x (choice_of None e) bounds input.args q)) (sym at) in
-        let from = subst (λ q. IsBrokenUnder x (choice_of None e) bounds input.args q ⊎ IsOver limit (cost_of_obligation_under x (choice_of None e) bounds input.args q)) at in
-        let both = not_true (bool_value g e bad) (BadBy x (choice_of None e) bounds limit input) ((λ h. into (says.0 h)), λ h. says.1 (from h)) in
-        (λ h. both.0 (sym (is g m e) ∙ h), λ h. is g m e ∙ both.1 h);
-  }
+  spared {d0} {d1} {d2} input o values args slice bad r at given same k1 k2 constant checks there is =
+      let are : AreConstant d0 input.args args = subst (λ (vs : List Value). AreConstant d0 vs args) given constant in
+      let check : IsCheck d1 x None bounds limit o args bad = subst (λ (ss : List Shape). IsCheck d1 x None bounds limit o ss bad) same checks in
+      record {
+        there = there;
+        value = λ g e m range.
+            let m1 = k2.later g m in
+            let says = check.value g e input.args m1 range (are.worth g e (k1.later g m1)) in
+            let into = subst (λ q. IsBrokenUnder x (choice_of None e) bounds input.args q ⊎ IsOver limit (cost_of_obligation_under x (choice_of None e) bounds input.args q)) (sym at) in
+            let from = subst (λ q. IsBrokenUnder x (choice_of None e) bounds input.args q ⊎ IsOver limit (cost_of_obligation_under x (choice_of None e) bounds input.args q)) at in
+            let both = not_true (bool_value g e bad) (BadBy x (choice_of None e) bounds limit input) ((λ h. into (says.0 h)), λ h. says.1 (from h)) in
+            (λ h. both.0 (sym (is g m e) ∙ h), λ h. is g m e ∙ both.1 h);
+      }
 
   pub of_none : {d : Graph} (input : Input) (r : BoolId) → slice_get (obligations x.prog) input.obligation ≡ None → HasBool d.nodes r → ((g : Graph) → Grows d g → (e : Env) → bool_value g e r ≡ true) → SaysFine d x bounds limit input r
   of_none input r at there is = record {
@@ -87,4 +91,4 @@ module _ {x : Expanded} {bounds : Bounds} {limit : Option ℕ} where
 
 pub ruleset listed = (fine_none, fine_all, keeps_width, Keeps-refl, Keeps-trans)
 
-pub ruleset sparing = (spared, of_none, keeps_width, Keeps-trans)
+pub ruleset sparing = (of_none, keeps_width, Keeps-trans)

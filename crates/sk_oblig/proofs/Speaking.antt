@@ -14,6 +14,7 @@ use Rattle.sk_model.specs.declared.expanded.Choice.{Choice}
 use Rattle.sk_model.specs.declared.expanded.Expanded.{Expanded}
 use Rattle.sk_model.specs.declared.expanded.Obligation.{Obligation}
 use Rattle.sk_model.specs.Fill.{InRange}
+use Rattle.sk_prog.specs.declared.prog.ParamDef.{ParamDef}
 use Rattle.sk_prog.specs.declared.prog.Prog.{Prog}
 use Rattle.sk_query.specs.Widths.{params_widths, params_of, obligations_widths}
 use Rattle.sk_query.specs.Said.{args_said}
@@ -44,20 +45,36 @@ module _ {x : Expanded} {a : Choice} {bounds : Bounds} {limit : Option ℕ} wher
     value = λ g e ns m has below. (λ h. absurd (true≢false (sym h ∙ is g m e)), λ h. absurd (true≢false (sym h.0 ∙ none)));
   }
 
-  pub with_inputs : {d d0 d1 : Graph} (o : Obligation) (first : ℕ) (args : List Shape) (r : BoolId) → d.bits ≡ bounds.int_bits → bounds.inbits ≤ bounds.int_bits - 1 → InRange x a → has_inputs x.prog o ≡ true
-      → Keeps d d0 → Keeps d0 d1 → AreArguments d0 (params_of x.prog o) first args → IsCheck d1 x (Some a) bounds limit o args r → SaysBad d1 x a bounds limit o first r
-  with_inputs {d} {d0} {d1} o first args r width few range has_any k0 k1 are check = record {
-    there = check.there;
-    value = λ g e ns m has below.
-        let m0 = k1.later g m in
-        let bits : g.bits ≡ d.bits = (k0.later g m0).bits in
-        let fits : bounds.inbits ≤ g.bits - 1 = omega (arith, bits, width, few) in
-        let both = check.value g e (args_said (params_of x.prog o) ns) m range (are.worth g e ns bounds.inbits m0 fits has below) in
-        (λ h. (has_any, both.0 h), λ h. both.1 h.1);
-  }
+  pub with_inputs : {d d0 d1 : Graph} (o : Obligation) (first : ℕ) (params : List ParamDef) (args slice : List Shape) (r : BoolId) → d.bits ≡ bounds.int_bits → bounds.inbits ≤ bounds.int_bits - 1 → InRange x a → has_inputs x.prog o ≡ true
+      → params ≡ params_of x.prog o → slice ≡ args → Keeps d d0 → Keeps d0 d1 → AreArguments d0 params first args → IsCheck d1 x (Some a) bounds limit o slice r → SaysBad d1 x a bounds limit o first r
+  with_inputs {d} {d0} {d1} o first params args slice r width few range has_any is same k0 k1 reads checks =
+      let are : AreArguments d0 (params_of x.prog o) first args = subst (λ (ps : List ParamDef). AreArguments d0 ps first args) is reads in
+      let check : IsCheck d1 x (Some a) bounds limit o args r = subst (λ (ss : List Shape). IsCheck d1 x (Some a) bounds limit o ss r) same checks in
+      record {
+        there = check.there;
+        value = λ g e ns m has below.
+            let m0 = k1.later g m in
+            let bits : g.bits ≡ d.bits = (k0.later g m0).bits in
+            let fits : bounds.inbits ≤ g.bits - 1 = omega (arith, bits, width, few) in
+            let both = check.value g e (args_said (params_of x.prog o) ns) m range (are.worth g e ns bounds.inbits m0 fits has below) in
+            (λ h. (has_any, both.0 h), λ h. both.1 h.1);
+      }
 
-  -- Several
+-- Several
 
+module _ (x : Expanded) (bounds : Bounds) where
+  widths_push : (os : List Obligation) (o : Obligation) → obligations_widths bounds.inbits x.prog (os ++ o ∷ []) ≡ obligations_widths bounds.inbits x.prog os ++ params_widths bounds.inbits (params_of x.prog o)
+  widths_push [] o = append-nil (params_widths bounds.inbits (params_of x.prog o))
+  widths_push (p ∷ os) o = ap (λ ws. params_widths bounds.inbits (params_of x.prog p) ++ ws) (widths_push os o) ∙ sym (append_assoc (params_widths bounds.inbits (params_of x.prog p)) (obligations_widths bounds.inbits x.prog os) (params_widths bounds.inbits (params_of x.prog o)))
+
+  pub place_more : (os : List Obligation) (i : ℕ) (d : Obligation) (first next : ℕ) → i < length os → first ≡ length (obligations_widths bounds.inbits x.prog (take i os)) → next ≡ first + count_of (params_of x.prog (get_or os i d)) → next ≡ length (obligations_widths bounds.inbits x.prog (take (i + 1) os))
+  place_more os i d first next l before is =
+      let o : Obligation = get_or os i d in
+      let more : take (i + 1) os ≡ take i os ++ o ∷ [] = take_more os i d l in
+      let long = ap length (ap (obligations_widths bounds.inbits x.prog) more ∙ widths_push (take i os) o) ∙ length-append (obligations_widths bounds.inbits x.prog (take i os)) (params_widths bounds.inbits (params_of x.prog o)) ∙ ap (λ c. length (obligations_widths bounds.inbits x.prog (take i os)) + c) (widths_count bounds.inbits (params_of x.prog o)) in
+      is ∙ ap (λ c. c + count_of (params_of x.prog o)) before ∙ sym long
+
+module _ (x : Expanded) (a : Choice) (bounds : Bounds) (limit : Option ℕ) where
   pushed : (p : Obligation) (os : List Obligation) (o : Obligation) (ns : List ℕ)
       → (AnyBad x a bounds limit (os ++ o ∷ []) (drop (length (params_widths bounds.inbits (params_of x.prog p))) ns) ↔ (AnyBad x a bounds limit os (drop (length (params_widths bounds.inbits (params_of x.prog p))) ns) ⊎ BadOf x a bounds limit o (drop (length (obligations_widths bounds.inbits x.prog os)) (drop (length (params_widths bounds.inbits (params_of x.prog p))) ns))))
       → AnyBad x a bounds limit (p ∷ (os ++ o ∷ [])) ns ↔ (AnyBad x a bounds limit (p ∷ os) ns ⊎ BadOf x a bounds limit o (drop (length (obligations_widths bounds.inbits x.prog (p ∷ os))) ns))
@@ -93,50 +110,6 @@ module _ {x : Expanded} {a : Choice} {bounds : Bounds} {limit : Option ℕ} wher
       back (inr h) = inl h
   any_push (p ∷ os) o ns = pushed p os o ns (any_push os o (drop (length (params_widths bounds.inbits (params_of x.prog p))) ns))
 
-  widths_push : (os : List Obligation) (o : Obligation) → obligations_widths bounds.inbits x.prog (os ++ o ∷ []) ≡ obligations_widths bounds.inbits x.prog os ++ params_widths bounds.inbits (params_of x.prog o)
-  widths_push [] o = append-nil (params_widths bounds.inbits (params_of x.prog o))
-  widths_push (p ∷ os) o = ap (λ ws. params_widths bounds.inbits (params_of x.prog p) ++ ws) (widths_push os o) ∙ sym (append_assoc (params_widths bounds.inbits (params_of x.prog p)) (obligations_widths bounds.inbits x.prog os) (params_widths bounds.inbits (params_of x.prog o)))
-
-  pub any_none : {d : Graph} (r : BoolId) → HasBool d.nodes r → ((g : Graph) → Grows d g → (e : Env) → bool_value g e r ≡ false) → SaysAnyBad d x a bounds limit [] r
-  any_none r there is = record { there = there; value = λ g e ns m has below. (λ h. true≢false (sym h ∙ is g m e), λ h. absurd h) }
-
-  pub any_more : {d0 d1 d2 : Graph} (os : List Obligation) (i : ℕ) (o : Obligation) (first : ℕ) (any one next : BoolId) → i < length os → o ≡ get_or os i o
-      → first ≡ length (obligations_widths bounds.inbits x.prog (take i os)) → Keeps d0 d1 → Keeps d1 d2
-      → SaysAnyBad d0 x a bounds limit (take i os) any → SaysBad d1 x a bounds limit o first one
-      → HasBool d2.nodes next → ((g : Graph) → Grows d2 g → (e : Env) → bool_value g e next ≡ (bool_value g e any || bool_value g e one))
-      → SaysAnyBad d2 x a bounds limit (take (i + 1) os) next
-  any_more {d0} {d1} {d2} os i o first any one next l at place k1 k2 before last there is =
-      let more : take (i + 1) os ≡ take i os ++ o ∷ [] = take_more os i o l ∙ ap (λ q. take i os ++ q ∷ []) (sym at) in
-      subst (λ (qs : List Obligation). SaysAnyBad d2 x a bounds limit qs next) (sym more) (record {
-        there = there;
-        value = λ g e ns m has below.
-            let ws : List ℕ = obligations_widths bounds.inbits x.prog (take i os) in
-            let m1 = k2.later g m in
-            let s = starts_split ws (params_widths bounds.inbits (params_of x.prog o)) ns (subst (λ (vs : List ℕ). StartsBelow vs ns) (widths_push (take i os) o) below) in
-            let here : 0 + length ws ≡ first = omega (arith, place) in
-            let behind = subst (λ c. HasNumbers e c (drop (length ws) ns)) here (has_later (length ws) has) in
-            let front = before.value g e ns (k1.later g m1) has s.0 in
-            let back = last.value g e (drop (length ws) ns) m1 behind s.1 in
-            let both = either_true (bool_value g e any) (bool_value g e one) in
-            let push = any_push (take i os) o ns in (
-              λ h. push.1 (sides front.0 back.0 (both.0 (sym (is g m e) ∙ h))),
-              λ h. is g m e ∙ both.1 (sides front.1 back.1 (push.0 h)),
-            );
-      })
-    where
-      sides : {A B C D : Type 0} → (A → C) → (B → D) → A ⊎ B → C ⊎ D
-      sides f h (inl q) = inl (f q)
-      sides f h (inr q) = inr (h q)
-
-  pub place_more : (os : List Obligation) (i : ℕ) (o : Obligation) (first next : ℕ) → i < length os → o ≡ get_or os i o → first ≡ length (obligations_widths bounds.inbits x.prog (take i os)) → next ≡ first + count_of (params_of x.prog o) → next ≡ length (obligations_widths bounds.inbits x.prog (take (i + 1) os))
-  place_more os i o first next l at before is =
-      let more : take (i + 1) os ≡ take i os ++ o ∷ [] = take_more os i o l ∙ ap (λ q. take i os ++ q ∷ []) (sym at) in
-      let long = ap length (ap (obligations_widths bounds.inbits x.prog) more ∙ widths_push (take i os) o) ∙ length-append (obligations_widths bounds.inbits x.prog (take i os)) (params_widths bounds.inbits (params_of x.prog o)) ∙ ap (λ c. length (obligations_widths bounds.inbits x.prog (take i os)) + c) (widths_count bounds.inbits (params_of x.prog o)) in
-      is ∙ ap (λ c. c + count_of (params_of x.prog o)) before ∙ sym long
-
-  pub any_all : {d : Graph} (os : List Obligation) (i : ℕ) (r : BoolId) → length os ≤ i → SaysAnyBad d x a bounds limit (take i os) r → SaysAnyBad d x a bounds limit os r
-  any_all {d} os i r h is = subst (λ (qs : List Obligation). SaysAnyBad d x a bounds limit qs r) (take_all i os h) is
-
   -- what is said of any is said of the one with some number
   abbrev pub OneBad : List Obligation → List ℕ → Type 0
   OneBad os ns = (i : ℕ) × (o : Obligation) × (slice_get os i ≡ Some o) × BadOf x a bounds limit o (drop (length (obligations_widths bounds.inbits x.prog (take i os))) ns)
@@ -159,6 +132,42 @@ module _ {x : Expanded} {a : Choice} {bounds : Bounds} {limit : Option ℕ} wher
   any_is [] ns = (λ h. absurd h, λ h. absurd (none-some h.1 h.2))
   any_is (p ∷ os) ns = indexed p os ns (any_is os (drop (length (params_widths bounds.inbits (params_of x.prog p))) ns))
 
+module _ {x : Expanded} {a : Choice} {bounds : Bounds} {limit : Option ℕ} where
+  pub any_none : {d : Graph} (r : BoolId) → HasBool d.nodes r → ((g : Graph) → Grows d g → (e : Env) → bool_value g e r ≡ false) → SaysAnyBad d x a bounds limit [] r
+  any_none r there is = record { there = there; value = λ g e ns m has below. (λ h. true≢false (sym h ∙ is g m e), λ h. absurd h) }
+
+  pub any_more : {d0 d1 d2 : Graph} (os : List Obligation) (i : ℕ) (d : Obligation) (first : ℕ) (any one next : BoolId) → i < length os
+      → first ≡ length (obligations_widths bounds.inbits x.prog (take i os)) → Keeps d0 d1 → Keeps d1 d2
+      → SaysAnyBad d0 x a bounds limit (take i os) any → SaysBad d1 x a bounds limit (get_or os i d) first one
+      → HasBool d2.nodes next → ((g : Graph) → Grows d2 g → (e : Env) → bool_value g e next ≡ (bool_value g e any || bool_value g e one))
+      → SaysAnyBad d2 x a bounds limit (take (i + 1) os) next
+  any_more {d0} {d1} {d2} os i d first any one next l place k1 k2 before last there is =
+      let o : Obligation = get_or os i d in
+      let more : take (i + 1) os ≡ take i os ++ o ∷ [] = take_more os i d l in
+      subst (λ (qs : List Obligation). SaysAnyBad d2 x a bounds limit qs next) (sym more) (record {
+        there = there;
+        value = λ g e ns m has below.
+            let ws : List ℕ = obligations_widths bounds.inbits x.prog (take i os) in
+            let m1 = k2.later g m in
+            let s = starts_split ws (params_widths bounds.inbits (params_of x.prog o)) ns (subst (λ (vs : List ℕ). StartsBelow vs ns) (widths_push x bounds (take i os) o) below) in
+            let here : 0 + length ws ≡ first = omega (arith, place) in
+            let behind = subst (λ c. HasNumbers e c (drop (length ws) ns)) here (has_later (length ws) has) in
+            let front = before.value g e ns (k1.later g m1) has s.0 in
+            let back = last.value g e (drop (length ws) ns) m1 behind s.1 in
+            let both = either_true (bool_value g e any) (bool_value g e one) in
+            let push = any_push x a bounds limit (take i os) o ns in (
+              λ h. push.1 (sides front.0 back.0 (both.0 (sym (is g m e) ∙ h))),
+              λ h. is g m e ∙ both.1 (sides front.1 back.1 (push.0 h)),
+            );
+      })
+    where
+      sides : {A B C D : Type 0} → (A → C) → (B → D) → A ⊎ B → C ⊎ D
+      sides f h (inl q) = inl (f q)
+      sides f h (inr q) = inr (h q)
+
+  pub any_all : {d : Graph} (os : List Obligation) (i : ℕ) (r : BoolId) → length os ≤ i → SaysAnyBad d x a bounds limit (take i os) r → SaysAnyBad d x a bounds limit os r
+  any_all {d} os i r h is = subst (λ (qs : List Obligation). SaysAnyBad d x a bounds limit qs r) (take_all i os h) is
+
 pub ruleset several = (any_none, any_all, keeps_width, Keeps-refl, Keeps-trans)
 
-pub ruleset one = (with_inputs, without_inputs, keeps_width)
+pub ruleset one = (without_inputs, keeps_width)

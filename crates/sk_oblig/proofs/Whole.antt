@@ -52,13 +52,14 @@ use Rattle.sk_oblig.proofs.Speaking.{any_is}
 
 -- A wanted choice
 
-pub says_wanted : {d0 d1 d2 : Graph} {x : Expanded} {bounds : Bounds} {inputs : List Input} {limit : Option ℕ} (fine range r : BoolId) → Keeps d0 d1 → Keeps d1 d2 → SaysAllFine d0 x bounds limit inputs fine → SaysInRange d1 x.sites range
+pub says_wanted : {d0 d1 d2 : Graph} {x : Expanded} {bounds : Bounds} {inputs : List Input} {limit : Option ℕ} (sites : List Site) (fine range r : BoolId) → sites ≡ x.sites → Keeps d0 d1 → Keeps d1 d2 → SaysAllFine d0 x bounds limit inputs fine → SaysInRange d1 sites range
     → HasBool d2.nodes r → ((g : Graph) → Grows d2 g → (e : Env) → bool_value g e r ≡ (bool_value g e range && bool_value g e fine))
     → SaysWanted d2 x bounds inputs limit r
-says_wanted {d0} {d1} {d2} {x} {bounds} {inputs} {limit} fine range r k1 k2 fine_is range_is there is = record {
+says_wanted {d0} {d1} {d2} {x} {bounds} {inputs} {limit} sites fine range r same k1 k2 fine_is among there is = record {
   there = there;
   value = λ g e m below long.
       let m1 = k2.later g m in
+      let range_is : SaysInRange d1 x.sites range = subst (λ (ss : List Site). SaysInRange d1 ss range) same among in
       let inside = range_is.value g e m1 below in
       let both = both_true (bool_value g e range) (bool_value g e fine) in (
         λ h.
@@ -71,9 +72,9 @@ says_wanted {d0} {d1} {d2} {x} {bounds} {inputs} {limit} fine range r k1 k2 fine
 
 -- What is said of runs under a choice is said of its filling
 
-module _ {x : Expanded} {bounds : Bounds} {a : Choice} {limit : Option ℕ} (met : IsMetUnder x a bounds) where
-  bad_filling : (input : Input) → BadBy x a bounds limit input ↔ (Breaks (fill x a) bounds input ⊎ IsOver limit (cost_on (fill x a) bounds input))
-  bad_filling input = (forth, back)
+module _ {x : Expanded} {bounds : Bounds} {a : Choice} (met : IsMetUnder x a bounds) where
+  bad_filling : (limit : Option ℕ) (input : Input) → BadBy x a bounds limit input ↔ (Breaks (fill x a) bounds input ⊎ IsOver limit (cost_on (fill x a) bounds input))
+  bad_filling limit input = (forth, back)
     where
       forth : BreaksUnder x a bounds input ⊎ IsOver limit (cost_under x a bounds input) → Breaks (fill x a) bounds input ⊎ IsOver limit (cost_on (fill x a) bounds input)
       forth (inl h) = inl ((met.breaks input).1 h)
@@ -145,7 +146,7 @@ module _ {x : Expanded} {bounds : Bounds} {a : Choice} {limit : Option ℕ} (ask
       from : BadBy x a bounds limit (input_said x.prog i ns) → IsBadUnder x a bounds limit o (args_said (params_of x.prog o) ns)
       from h = subst (IsBadUnder x a bounds limit o) (sym args) (subst Under at h)
       filling : BadBy x a bounds limit (input_said x.prog i ns) ↔ (Breaks (fill x a) bounds (input_said x.prog i ns) ⊎ IsOver limit (cost_on (fill x a) bounds (input_said x.prog i ns)))
-      filling = bad_filling (askable.met a range) (input_said x.prog i ns)
+      filling = bad_filling (askable.met a range) limit (input_said x.prog i ns)
       forth : BadOf x a bounds limit o ns → IsBad x bounds a limit (input_said x.prog i ns)
       forth h = record { is_input = is.0 h.0; bad = filling.0 (into h.1) }
       back : IsBad x bounds a limit (input_said x.prog i ns) → BadOf x a bounds limit o ns
@@ -159,7 +160,7 @@ module _ {x : Expanded} {bounds : Bounds} {a : Choice} {limit : Option ℕ} (ask
         let ns : List ℕ = numbers_said ws bits in
         let below = starts_said ws bits in
         let both = is.value d (env_of x bounds (query.Bad a limit) bits) ns (Grows-refl d) (has_all ns) below in
-        let any = any_is {x} {a} {bounds} {limit} (obligations x.prog) ns in (
+        let any = any_is x a bounds limit (obligations x.prog) ns in (
           λ h.
               let p = any.0 (both.0 h) in
               (p.0, (bad_of p.0 p.1 (drop (numbers_before bounds.inbits x.prog p.0) ns) p.2 (starts_at bounds.inbits x.prog (obligations x.prog) p.0 p.1 ns p.2 below)).0 p.3),
@@ -284,12 +285,8 @@ puts_root {f} {old} {new} leaves root simple made keeps is enc = record {
 pub simple_there : {old new : Graph} (root simple : BoolId) (made : List BoolId) → KeepsRoots old (root ∷ []) new made → made ≡ simple ∷ [] → HasBool new.nodes simple
 simple_there root simple made keeps is = keeps.there 0 simple (ap (λ (ms : List BoolId). slice_get ms 0) is)
 
-pub root_there : {g : Graph} (r : BoolId) → HasBool g.nodes r → All (HasBool g.nodes) (r ∷ [])
-root_there r h zero d l = h
-root_there r h (suc i) d l = absurd (omega (arith, l))
+pub root_there : (g : Graph) (r : BoolId) → HasBool g.nodes r → All (HasBool g.nodes) (r ∷ [])
+root_there g r h zero d l = h
+root_there g r h (suc i) d l = absurd (omega (arith, l))
 
-pub ruleset roots = (wanted_root, bad_root, bad_at_root)
-
-pub ruleset put = (puts_root, simple_there, root_there)
-
-pub ruleset asks_for = (asks)
+pub ruleset put = (root_there)

@@ -1,12 +1,12 @@
 //! Whether the input speaks against a choice, as a node.
 
-ghost use Rattle.std.specs.Prelude.{◌≡◌, ◌-◌, ◌≤◌, ◌+◌, IfOk, OnOk};
+ghost use Rattle.std.specs.Prelude.{◌≡◌, ◌-◌, ◌≤◌, ◌+◌, true, IfOk, OnOk};
 ghost use Rattle.sk_dag.specs.Eval.{Keeps};
 ghost use Rattle.sk_holes.specs.Needs.{HasItsSites};
 ghost use Rattle.sk_model.specs.Fill.{InRange};
 ghost use Rattle.sk_query.specs.Widths.{params_of as takes};
 ghost use Rattle.sk_arguments.specs.Arguments.{count_of};
-ghost use Rattle.sk_oblig.specs.Nodes.{SaysAnyBad, SaysBad};
+ghost use Rattle.sk_oblig.specs.Nodes.{SaysAnyBad, SaysBad, has_inputs as has};
 
 use crate::plain::{count_of, has_inputs, params_of};
 use sk_arguments::arguments;
@@ -18,6 +18,32 @@ use sk_model::{Choice, Expanded, Obligation};
 use std::alloc::{AllocError, Global};
 
 // Whether the numbers of the input from a scalar on speak against a choice by an obligation that has inputs.
+#[tactic(auto, using(crate::proofs::Speaking::one))]
+fn judges(
+    alloc: Global,
+    dag: &mut Dag,
+    expanded: &Expanded,
+    bounds: &Bounds,
+    obligation: Obligation,
+    first: u32,
+    choice: &Choice,
+    limit: Option<u64>,
+) -> Result<BoolId, AllocError>
+    requires width { dag.old.bits ≡ bounds.now.int_bits }
+    requires inbits { bounds.now.inbits ≤ bounds.now.int_bits - 1 }
+    requires sites { HasItsSites expanded.now }
+    requires range { InRange expanded.now choice.now }
+    requires any { has expanded.now.prog obligation ≡ true }
+    ensures keeps { OnOk result (Keeps dag.old dag.new) }
+    ensures bad { IfOk result (λ r. SaysBad dag.new expanded.now choice.now bounds.now limit obligation first r) }
+{
+    let args = arguments(alloc, dag, params_of(&expanded.prog, obligation), first)?;
+    let given = Some(choice);
+    let r = check(alloc, dag, expanded, bounds, obligation, args.as_slice(), given, limit)?;
+    Ok(r)
+}
+
+// The same of any obligation: one without inputs never speaks.
 #[tactic(auto, using(crate::proofs::Speaking::one))]
 fn speaks(
     alloc: Global,
@@ -36,13 +62,10 @@ fn speaks(
     ensures keeps { OnOk result (Keeps dag.old dag.new) }
     ensures bad { IfOk result (λ r. SaysBad dag.new expanded.now choice.now bounds.now limit obligation first r) }
 {
-    if !has_inputs(&expanded.prog, obligation) {
-        let r = flag(dag, false)?;
-        return Ok(r);
+    if has_inputs(&expanded.prog, obligation) {
+        return judges(alloc, dag, expanded, bounds, obligation, first, choice, limit);
     }
-    let args = arguments(alloc, dag, params_of(&expanded.prog, obligation), first)?;
-    let given = Some(choice);
-    let r = check(alloc, dag, expanded, bounds, obligation, args.as_slice(), given, limit)?;
+    let r = flag(dag, false)?;
     Ok(r)
 }
 

@@ -74,7 +74,6 @@ fn bad_at(
 }
 
 // Whether the choice is in range and no listed input speaks against it.
-#[tactic(auto, using(crate::proofs::Whole::says_wanted))]
 fn wanted(
     alloc: Global,
     dag: &mut Dag,
@@ -95,7 +94,6 @@ fn wanted(
 }
 
 // Whether the bits of a query say what it asks for.
-#[tactic(auto, using(crate::proofs::Whole::roots))]
 fn root_of(
     alloc: Global,
     dag: &mut Dag,
@@ -158,7 +156,6 @@ fn put(alloc: Global, dag: &Dag, root: BoolId, leaves: &[Leaf]) -> Result<Encode
 ///
 /// Memory is wanting, or what `execute` counts as that; a listed input names a record, or has an `int` that is no word of
 /// the width; or there are more scalars than can be numbered.
-#[tactic(auto, using(crate::proofs::Whole::asks_for))]
 pub fn formula(
     alloc: Global,
     expanded: &Expanded,

@@ -1,6 +1,6 @@
 //! The parameters of obligations, and whether they hold references.
 
-ghost use Rattle.std.specs.Prelude.{◌≡◌, length, IfSome};
+ghost use Rattle.std.specs.Prelude.{◌≡◌, ◌+◌, IfSome};
 ghost use Rattle.sk_arguments.specs.Arguments.{count_of};
 ghost use Rattle.sk_model.specs.Inputs.{fun_of};
 ghost use Rattle.sk_oblig.specs.Nodes.{has_inputs};
@@ -90,6 +90,12 @@ pub(crate) fn has_inputs(prog: &Prog, obligation: Obligation) -> bool
     }
 }
 
+fn sum_of(a: u64, b: u64) -> Option<u64>
+    ensures { IfSome result (λ n. n ≡ a + b) }
+{
+    a.checked_add(b)
+}
+
 /// How many numbers the parameters have together, if they can be counted.
 #[tactic(auto, using(crate::proofs::Parameters::counting))]
 pub(crate) fn count_of(params: &[ParamDef]) -> Option<u64>
@@ -97,7 +103,7 @@ pub(crate) fn count_of(params: &[ParamDef]) -> Option<u64>
 {
     let mut count: u64 = 0;
     for param in params {
-        count = count.checked_add(numbers_of(param.ty))?;
+        count = sum_of(count, numbers_of(param.ty))?;
     }
     Some(count)
 }

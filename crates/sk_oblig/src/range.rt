@@ -1,6 +1,6 @@
 //! Whether a choice is in range, by its bits.
 
-ghost use Rattle.std.specs.Prelude.{◌≡◌, ◌<◌, ◌%◌, ◌^◌, ◌&&◌, ◌||◌, if◌then◌else◌, nat_lt, slice_index, IfOk};
+ghost use Rattle.std.specs.Prelude.{◌≡◌, ◌+◌, ◌<◌, ◌%◌, ◌^◌, ◌&&◌, ◌||◌, if◌then◌else◌, nat_lt, slice_index, IfOk};
 ghost use Rattle.sk_dag.specs.declared.env.Env.{Env};
 ghost use Rattle.sk_dag.specs.Graph.{Graph, Grows, HasBool};
 ghost use Rattle.sk_dag.specs.Eval.{bool_value, Keeps};
@@ -93,13 +93,13 @@ fn is_below(dag: &mut Dag, site: u32, size: u64) -> Result<BoolId, AllocError>
     Ok(r)
 }
 
-// The place of a site. More than can be numbered count as want of memory.
-fn place_of(place: usize) -> Result<u32, AllocError>
-    ensures { IfOk result (λ p. p ≡ place) }
+// The place behind one. More than can be numbered count as want of memory.
+fn behind(place: u32) -> Result<u32, AllocError>
+    ensures { IfOk result (λ next. next ≡ place + 1) }
 {
-    match u32::try_from(place) {
-        Ok(p) => Ok(p),
-        Err(_) => Err(AllocError),
+    match place.checked_add(1) {
+        Some(next) => Ok(next),
+        None => Err(AllocError),
     }
 }
 
@@ -110,10 +110,11 @@ pub(crate) fn in_range(dag: &mut Dag, sites: &[Site]) -> Result<BoolId, AllocErr
     ensures range { IfOk result (λ r. SaysInRange dag.new sites.now r) }
 {
     let mut all = flag(dag, true)?;
-    for i in 0..sites.len() {
-        let place = place_of(i)?;
-        let one = is_below(dag, place, sites[i].size)?;
+    let mut place = 0;
+    for site in sites {
+        let one = is_below(dag, place, site.size)?;
         all = and(dag, all, one)?;
+        place = behind(place)?;
     }
     Ok(all)
 }
