@@ -82,18 +82,24 @@ module _ (x : Expanded) (a : Choice) (bounds : Bounds) (limit : Option ℕ) wher
     where
       ws : List ℕ
       ws = params_widths bounds.inbits (params_of x.prog p)
+
       vs : List ℕ
       vs = obligations_widths bounds.inbits x.prog os
+
       rest : List ℕ
       rest = drop (length ws) ns
+
       same : drop (length vs) rest ≡ drop (length (ws ++ vs)) ns
       same = drop-drop (length vs) (length ws) ns ∙ ap (λ c. drop c ns) (sym (length-append ws vs))
+
       on : AnyBad x a bounds limit os rest ⊎ BadOf x a bounds limit o (drop (length vs) rest) → (BadOf x a bounds limit p ns ⊎ AnyBad x a bounds limit os rest) ⊎ BadOf x a bounds limit o (drop (length (ws ++ vs)) ns)
       on (inl k) = inl (inr k)
       on (inr k) = inr (subst (BadOf x a bounds limit o) same k)
+
       forth : BadOf x a bounds limit p ns ⊎ AnyBad x a bounds limit (os ++ o ∷ []) rest → (BadOf x a bounds limit p ns ⊎ AnyBad x a bounds limit os rest) ⊎ BadOf x a bounds limit o (drop (length (ws ++ vs)) ns)
       forth (inl h) = inl (inl h)
       forth (inr h) = on (inner.0 h)
+
       back : (BadOf x a bounds limit p ns ⊎ AnyBad x a bounds limit os rest) ⊎ BadOf x a bounds limit o (drop (length (ws ++ vs)) ns) → BadOf x a bounds limit p ns ⊎ AnyBad x a bounds limit (os ++ o ∷ []) rest
       back (inl (inl h)) = inl h
       back (inl (inr h)) = inr (inner.1 (inl h))
@@ -105,6 +111,7 @@ module _ (x : Expanded) (a : Choice) (bounds : Bounds) (limit : Option ℕ) wher
       forth : BadOf x a bounds limit o ns ⊎ ⊥ → ⊥ ⊎ BadOf x a bounds limit o ns
       forth (inl h) = inr h
       forth (inr h) = absurd h
+
       back : ⊥ ⊎ BadOf x a bounds limit o ns → BadOf x a bounds limit o ns ⊎ ⊥
       back (inl h) = absurd h
       back (inr h) = inl h
@@ -119,11 +126,14 @@ module _ (x : Expanded) (a : Choice) (bounds : Bounds) (limit : Option ℕ) wher
     where
       ws : List ℕ
       ws = params_widths bounds.inbits (params_of x.prog p)
+
       behind : (i : ℕ) → drop (length (obligations_widths bounds.inbits x.prog (take i os))) (drop (length ws) ns) ≡ drop (length (ws ++ obligations_widths bounds.inbits x.prog (take i os))) ns
       behind i = drop-drop (length (obligations_widths bounds.inbits x.prog (take i os))) (length ws) ns ∙ ap (λ c. drop c ns) (sym (length-append ws (obligations_widths bounds.inbits x.prog (take i os))))
+
       forth : BadOf x a bounds limit p ns ⊎ AnyBad x a bounds limit os (drop (length ws) ns) → OneBad (p ∷ os) ns
       forth (inl h) = (0, p, refl, h)
       forth (inr h) = let r = inner.0 h in (suc r.0, r.1, r.2, subst (BadOf x a bounds limit r.1) (behind r.0) r.3)
+
       by : (i : ℕ) (o : Obligation) → slice_get (p ∷ os) i ≡ Some o → BadOf x a bounds limit o (drop (length (obligations_widths bounds.inbits x.prog (take i (p ∷ os)))) ns) → BadOf x a bounds limit p ns ⊎ AnyBad x a bounds limit os (drop (length ws) ns)
       by zero o at h = let e : p ≡ o = same_Some p o at in inl (subst (λ (q : Obligation). BadOf x a bounds limit q ns) (sym e) h)
       by (suc i) o at h = inr (inner.1 (i, o, at, subst (BadOf x a bounds limit o) (sym (behind i)) h))

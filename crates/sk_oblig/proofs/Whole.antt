@@ -79,6 +79,7 @@ module _ {x : Expanded} {bounds : Bounds} {a : Choice} (met : IsMetUnder x a bou
       forth : BreaksUnder x a bounds input ⊎ IsOver limit (cost_under x a bounds input) → Breaks (fill x a) bounds input ⊎ IsOver limit (cost_on (fill x a) bounds input)
       forth (inl h) = inl ((met.breaks input).1 h)
       forth (inr h) = inr (subst (IsOver limit) (sym (met.costs input)) h)
+
       back : Breaks (fill x a) bounds input ⊎ IsOver limit (cost_on (fill x a) bounds input) → BreaksUnder x a bounds input ⊎ IsOver limit (cost_under x a bounds input)
       back (inl h) = inl ((met.breaks input).0 h)
       back (inr h) = inr (subst (IsOver limit) (met.costs input) h)
@@ -137,18 +138,25 @@ module _ {x : Expanded} {bounds : Bounds} {a : Choice} {limit : Option ℕ} (ask
     where
       args : args_said (params_of x.prog o) ns ≡ args_said (params_at x.prog i) ns
       args = ap (λ (ps : List ParamDef). args_said ps ns) (sym (ap (params_if x.prog) at))
+
       is : (has_inputs x.prog o ≡ true) ↔ IsInput x.prog bounds (input_said x.prog i ns)
       is = input_is x.prog bounds i o ns at below
+
       Under : Option Obligation → Type 0
       Under q = IsBrokenUnder x a bounds (args_said (params_at x.prog i) ns) q ⊎ IsOver limit (cost_of_obligation_under x a bounds (args_said (params_at x.prog i) ns) q)
+
       into : IsBadUnder x a bounds limit o (args_said (params_of x.prog o) ns) → BadBy x a bounds limit (input_said x.prog i ns)
       into h = subst Under (sym at) (subst (IsBadUnder x a bounds limit o) args h)
+
       from : BadBy x a bounds limit (input_said x.prog i ns) → IsBadUnder x a bounds limit o (args_said (params_of x.prog o) ns)
       from h = subst (IsBadUnder x a bounds limit o) (sym args) (subst Under at h)
+
       filling : BadBy x a bounds limit (input_said x.prog i ns) ↔ (Breaks (fill x a) bounds (input_said x.prog i ns) ⊎ IsOver limit (cost_on (fill x a) bounds (input_said x.prog i ns)))
       filling = bad_filling (askable.met a range) limit (input_said x.prog i ns)
+
       forth : BadOf x a bounds limit o ns → IsBad x bounds a limit (input_said x.prog i ns)
       forth h = record { is_input = is.0 h.0; bad = filling.0 (into h.1) }
+
       back : IsBad x bounds a limit (input_said x.prog i ns) → BadOf x a bounds limit o ns
       back h = (is.1 h.is_input, from (filling.1 h.bad))
 

@@ -39,7 +39,16 @@ fn judges(
 {
     let args = arguments(alloc, dag, params_of(&expanded.prog, obligation), first)?;
     let given = Some(choice);
-    let r = check(alloc, dag, expanded, bounds, obligation, args.as_slice(), given, limit)?;
+    let r = check(
+        alloc,
+        dag,
+        expanded,
+        bounds,
+        obligation,
+        args.as_slice(),
+        given,
+        limit,
+    )?;
     Ok(r)
 }
 
@@ -63,7 +72,9 @@ fn speaks(
     ensures bad { IfOk result (λ r. SaysBad dag.new expanded.now choice.now bounds.now limit obligation first r) }
 {
     if has_inputs(&expanded.prog, obligation) {
-        return judges(alloc, dag, expanded, bounds, obligation, first, choice, limit);
+        return judges(
+            alloc, dag, expanded, bounds, obligation, first, choice, limit,
+        );
     }
     let r = flag(dag, false)?;
     Ok(r)
@@ -107,7 +118,16 @@ pub(crate) fn any_speaks(
     let mut any = flag(dag, false)?;
     let mut first = 0;
     for obligation in obligations {
-        let one = speaks(alloc, dag, expanded, bounds, *obligation, first, choice, limit)?;
+        let one = speaks(
+            alloc,
+            dag,
+            expanded,
+            bounds,
+            *obligation,
+            first,
+            choice,
+            limit,
+        )?;
         any = or(dag, any, one)?;
         first = behind(expanded, *obligation, first)?;
     }

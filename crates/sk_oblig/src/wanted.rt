@@ -32,7 +32,16 @@ fn spares(
     ensures fine { IfOk result (λ r. SaysFine dag.new expanded.now bounds.now limit input.now r) }
 {
     let args = constants(alloc, dag, input.args.as_slice())?;
-    let bad = check(alloc, dag, expanded, bounds, obligation, args.as_slice(), None, limit)?;
+    let bad = check(
+        alloc,
+        dag,
+        expanded,
+        bounds,
+        obligation,
+        args.as_slice(),
+        None,
+        limit,
+    )?;
     let r = not(dag, bad)?;
     Ok(r)
 }
