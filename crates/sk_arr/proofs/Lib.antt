@@ -1,5 +1,6 @@
 pub mod Makers
 pub mod Targets
+pub mod Rises
 pub mod Parts
 pub mod Depths
 pub mod Standing

@@ -1,6 +1,7 @@
 pub mod Shapes
 pub mod Forms
 pub mod Held
+pub mod Rising
 pub mod Firsts
 pub mod Places
 pub mod Answers

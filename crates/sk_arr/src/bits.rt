@@ -16,7 +16,7 @@ use std::alloc::{AllocError, Global};
 
 /// Whether exactly one holds.
 #[tactic(auto, using(crate::proofs::Makers::staying))]
-fn differ(dag: &mut Dag, a: BoolId, b: BoolId) -> Result<BoolId, AllocError>
+pub(crate) fn differ(dag: &mut Dag, a: BoolId, b: BoolId) -> Result<BoolId, AllocError>
     requires a { HasBool dag.old.nodes a }
     requires b { HasBool dag.old.nodes b }
     ensures keeps { Keeps dag.old dag.new }

@@ -1,9 +1,10 @@
 //! One of two shapes.
 
-ghost use Rattle.std.specs.Prelude.{◌≡◌, [], IfOk, All, map};
+ghost use Rattle.std.specs.Prelude.{◌≡◌, [], ℕ, IfOk, All, map};
 ghost use Rattle.sk_dag.specs.Graph.{HasBool};
 ghost use Rattle.sk_dag.specs.Eval.{Keeps};
 ghost use Rattle.sk_arr.specs.Held.{AreMerged, AllIn};
+ghost use Rattle.sk_arr.specs.Rising.{RiseFrom};
 ghost use Rattle.sk_arr.specs.Shapes.{blank, Alike, Stands, AllStand};
 ghost use Rattle.sk_arr.specs.Answers.{IsChoice, AreChoices};
 
@@ -16,7 +17,8 @@ use sk_dag::{BoolId, Dag, Shape, Targets};
 use smallvec::SmallVec;
 use std::alloc::{AllocError, Global};
 
-/// A reference that has the targets of the one where `c` holds, and those of the other where it does not.
+/// A reference that has the targets of the one where `c` holds, and those of the other where it does not. Where both have
+/// each slot once and in rising order, so has it.
 #[tactic(auto, using(crate::proofs::Targets::none_in))]
 fn choose_targets(
     alloc: Global,
@@ -30,6 +32,7 @@ fn choose_targets(
     requires b { AllIn dag.old b.now.slots.items }
     ensures keeps { Keeps dag.old dag.new }
     ensures choice { IfOk result (λ r. AreMerged dag.new c a.now.slots.items b.now.slots.items [] r.slots.items) }
+    ensures rising { IfOk result (λ r. (low : ℕ) → RiseFrom low a.now.slots.items → RiseFrom low b.now.slots.items → RiseFrom low r.slots.items) }
 {
     let mut slots = SmallVec::new(alloc);
     add_targets(dag, c, a.slots.as_slice(), b.slots.as_slice(), &mut slots)?;

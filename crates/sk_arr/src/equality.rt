@@ -10,7 +10,8 @@ ghost use Rattle.sk_arr.specs.Firsts.{IsFirst};
 ghost use Rattle.sk_arr.specs.Shapes.{blank, Alike, Stands, AllStand};
 ghost use Rattle.sk_arr.specs.Answers.{IsEquality, AreEqual};
 
-use crate::maker::{both, either};
+use crate::bits::differ;
+use crate::maker::{both, either, number_of, opposite};
 use crate::part::{bit_of, parts_of, targets_of, word_of};
 use sk_dag::{BoolId, Dag, Shape, Targets, WordId};
 use std::alloc::AllocError;
@@ -29,8 +30,8 @@ fn same_bits(dag: &mut Dag, a: BoolId, b: BoolId) -> Result<BoolId, AllocError>
         let yes = dag.flag(true)?;
         return Ok(yes);
     }
-    let differ = dag.xor(a, b)?;
-    let r = dag.not(differ)?;
+    let other = differ(dag, a, b)?;
+    let r = opposite(dag, other)?;
     Ok(r)
 }
 
@@ -47,6 +48,12 @@ fn same_words(dag: &mut Dag, a: WordId, b: WordId) -> Result<BoolId, AllocError>
     if a.index == b.index {
         let yes = dag.flag(true)?;
         return Ok(yes);
+    }
+    if let Some(x) = number_of(dag, a) {
+        if let Some(y) = number_of(dag, b) {
+            let r = dag.flag(x == y)?;
+            return Ok(r);
+        }
     }
     let r = dag.eq(a, b)?;
     Ok(r)
@@ -161,7 +168,7 @@ fn none_holds(dag: &mut Dag, a: &[(u32, BoolId)], b: &[(u32, BoolId)]) -> Result
     let first = some_holds(dag, a)?;
     let second = some_holds(dag, b)?;
     let some = either(dag, first, second)?;
-    let r = dag.not(some)?;
+    let r = opposite(dag, some)?;
     Ok(r)
 }
 
@@ -183,6 +190,7 @@ fn same_targets(dag: &mut Dag, a: &Targets, b: &Targets) -> Result<BoolId, Alloc
 }
 
 /// Whether the shapes are equal: references where they are the same slot or both null, arrays where their elements are.
+/// Adds no node but flags where all the nodes that they name are given.
 #[cycle(same)]
 #[tactic(auto, using(crate::proofs::Equals::parts))]
 pub fn same(dag: &mut Dag, a: &Shape, b: &Shape) -> Result<BoolId, AllocError>

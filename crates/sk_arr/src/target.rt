@@ -1,10 +1,11 @@
 //! Targets of references.
 
-ghost use Rattle.std.specs.Prelude.{◌≡◌, ◌++◌, ◌∷◌, ◌+◌, ◌<◌, [], ℕ, Bool, length, IfOk, OnOk, MatchOption, if◌then◌else◌};
+ghost use Rattle.std.specs.Prelude.{◌≡◌, ◌++◌, ◌∷◌, ◌+◌, ◌<◌, [], ℕ, Bool, length, IfOk, OnOk, IfSome, MatchOption, if◌then◌else◌};
 ghost use Rattle.sk_dag.specs.declared.env.Env.{Env};
 ghost use Rattle.sk_dag.specs.Graph.{Graph, Grows, HasBool};
 ghost use Rattle.sk_dag.specs.Eval.{bool_value, Keeps};
 ghost use Rattle.sk_arr.specs.Held.{held_in, held_by, with_target, guard_in, AllIn, AllPass, IsAdded, AreMerged, IsNext};
+ghost use Rattle.sk_arr.specs.Rising.{RiseFrom, IsLeast, AddsRising};
 
 use crate::maker::pick_bool;
 use sk_dag::{BoolId, Dag, Targets};
@@ -32,7 +33,8 @@ struct Next<'a> {
 
 /// The lesser one of the first two slots.
 fn next_slot<'a>(a: &'a [(u32, BoolId)], b: &'a [(u32, BoolId)]) -> Option<Next<'a>>
-    ensures { MatchOption result ((a.now ≡ []) × (b.now ≡ [])) (λ next. IsNext a.now b.now next.slot next.first next.second next.more.now next.others.now) }
+    ensures next { MatchOption result ((a.now ≡ []) × (b.now ≡ [])) (λ next. IsNext a.now b.now next.slot next.first next.second next.more.now next.others.now) }
+    ensures least { IfSome result (λ next. IsLeast a.now b.now next.slot next.more.now next.others.now) }
 {
     match a {
         [] => match b {
@@ -161,6 +163,7 @@ pub(crate) fn add_targets(
     requires made { AllIn dag.old made.old.items }
     ensures keeps { Keeps dag.old dag.new }
     ensures merged { OnOk result (AreMerged dag.new c a.now b.now made.old.items made.new.items) }
+    ensures rising { OnOk result ((low : ℕ) → RiseFrom low a.now → RiseFrom low b.now → AddsRising low made.old.items made.new.items) }
 {
     let Some(next) = next_slot(a, b) else {
         return Ok(());
