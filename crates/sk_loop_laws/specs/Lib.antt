@@ -1,0 +1,4 @@
+pub mod Counts
+pub mod Honest
+pub mod Shown
+pub mod Laws
