@@ -653,7 +653,7 @@ def sites(p,B):
     for f in p.funs: walk(f.body)
     return out
 def fill(p,a,target=False):
-    p=copy.deepcopy(p); used=set(); mins=[]
+    p=copy.copy(p); used=set(); mins=[]
     def ex(x,target=False):
         if isinstance(x,N):
             if x.k=="hole":
@@ -684,7 +684,7 @@ def fill(p,a,target=False):
     funs=[]
     for i,f in enumerate(p.funs):
         if i>=p.ordinary and f.name not in used: continue
-        f.body=ex(f.body); funs.append(f)
+        f=copy.copy(f); f.body=ex(f.body); funs.append(f)
     mins.sort(key=lambda m:m[0])
     for f in funs:
         if f.kind=="harness": f.body=[N("minimize",sp,e=N("num",sp,ty=INT,v=v)) for _,v,sp in mins]+f.body
@@ -693,6 +693,7 @@ def fill(p,a,target=False):
 class Fail(Exception): pass
 class Skip(Exception): pass
 class Ret(Exception): pass
+def copied(v): return [copied(x) for x in v] if isinstance(v,list) else v
 def zero(t):
     if t==INT: return 0
     if t==BIT: return 0
@@ -713,7 +714,7 @@ def run(p,fname,args,B):
         if k=="true": return 1
         if k=="false": return 0
         if k=="null": return None
-        if k=="var": return copy.deepcopy(fr[e.slot])
+        if k=="var": return copied(fr[e.slot])
         if k=="const": return wrap(consts[e.name])
         if k=="paren": return ev(e.e,fr)
         if k=="toint": return ev(e.e,fr)
@@ -731,7 +732,7 @@ def run(p,fname,args,B):
         if k=="member":
             b=ev(e.base,fr)
             if b is None: fail()
-            return copy.deepcopy(heap[b[1]][e.name])
+            return copied(heap[b[1]][e.name])
         if k=="index":
             b=ev(e.base,fr); i=ev(e.i,fr)
             if not 0<=i<len(b): fail()
@@ -789,7 +790,7 @@ def run(p,fname,args,B):
         for i,(w,t,r) in enumerate(fn.params):
             if r:
                 refs.append(fr2[i])
-                if e is not None: fr[e.args[i].slot]=copy.deepcopy(fr2[i])
+                if e is not None: fr[e.args[i].slot]=copied(fr2[i])
         if e is None: return res,refs
         return res
     def assign(t,val,fr):
@@ -814,7 +815,7 @@ def run(p,fname,args,B):
             arr=box[key]
             if not 0<=i<len(arr): fail()
             box=arr; key=i
-        box[key]=copy.deepcopy(v)
+        box[key]=copied(v)
     def ex(ss,fr):
         for s in ss: st(s,fr)
     def st(s,fr):
@@ -970,11 +971,11 @@ def inputs(t,B):
     if t==BIT: return range(2)
     return [list(x) for x in itertools.product(inputs(t[1],B),repeat=t[2])]
 def breaks(P,B,o,args):
-    if o[0]=="harness": return run(P,o[1],copy.deepcopy(args),B)[0]=="failed"
-    g=run(P,o[2],copy.deepcopy(args),B)
+    if o[0]=="harness": return run(P,o[1],copied(args),B)[0]=="failed"
+    g=run(P,o[2],copied(args),B)
     if g[0]=="failed": return True
     if g[0]=="skipped": return False
-    f=run(P,o[1],copy.deepcopy(args),B)
+    f=run(P,o[1],copied(args),B)
     return f[0]!="done" or f[1:3]!=g[1:3]
 def synth(text,most=1<<18,**opts):
     prog,B=load(text,**opts); e=expand(prog,B); ss=sites(e,B)
@@ -994,7 +995,7 @@ def synth(text,most=1<<18,**opts):
                 args=list(args)
                 if breaks(F,B,o,args): ok=False; bad.insert(0,(oi,args)); break
                 if o[0]=="harness":
-                    r=run(F,o[1],copy.deepcopy(args),B)
+                    r=run(F,o[1],copied(args),B)
                     if r[0]=="done": val=max(val,r[3])
             if not ok: break
         if ok: hits.append((val,a,F))

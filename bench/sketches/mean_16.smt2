@@ -1,0 +1,10 @@
+; sat
+(set-logic BV)
+(declare-const p Bool)
+(declare-const mask (_ BitVec 16))
+(declare-const s (_ BitVec 16))
+(assert (bvult s #x0010))
+(assert (forall ((x (_ BitVec 16)) (y (_ BitVec 16)))
+  (= (bvadd (ite p (bvand x y) (bvxor x y)) (bvlshr (bvand (bvxor x y) mask) s))
+     ((_ extract 16 1) (bvadd ((_ zero_extend 1) x) ((_ zero_extend 1) y))))))
+(check-sat)

@@ -1,0 +1,12 @@
+; sat
+(set-logic BV)
+(declare-const a (_ BitVec 16))
+(declare-const b (_ BitVec 16))
+(declare-const c (_ BitVec 16))
+(assert (bvult a #x0020))
+(assert (bvult b #x0020))
+(assert (bvult c #x0400))
+(assert (forall ((x (_ BitVec 16)) (y (_ BitVec 16))) (=> (and (bvult x #x0020) (bvult y #x0020))
+  (= (bvsub (bvmul (bvadd x a) (bvadd y b)) (bvmul x y))
+     (bvadd (bvadd (bvmul #x0017 x) (bvmul #x001d y)) c)))))
+(check-sat)

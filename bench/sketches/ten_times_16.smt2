@@ -1,0 +1,10 @@
+; sat
+(set-logic BV)
+(declare-const a (_ BitVec 16))
+(declare-const b (_ BitVec 16))
+(assert (bvult a #x0010))
+(assert (bvult b #x0010))
+(assert (forall ((x (_ BitVec 16)))
+  (let ((five (bvadd (bvadd (bvadd (bvadd x x) x) x) x)))
+  (= (bvadd (bvshl x a) (bvshl x b)) (bvadd five five)))))
+(check-sat)

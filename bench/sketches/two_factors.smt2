@@ -1,0 +1,10 @@
+; sat
+(set-logic BV)
+(declare-const a (_ BitVec 16))
+(declare-const b (_ BitVec 16))
+(assert (bvult a #x0020))
+(assert (bvult b #x0020))
+(assert (forall ((x (_ BitVec 16))) (=> (bvult x #x0020)
+  (= (bvmul (bvadd x a) (bvadd x b))
+     (bvadd (bvadd (bvmul x x) (bvmul #x0029 x)) #x01a4)))))
+(check-sat)
