@@ -1,0 +1,8 @@
+-- One round.
+use Rattle.sk_loop.proofs.Growing.{keeps_same, kept_room, is_round}
+use Rattle.sk_loop.proofs.Standing.{steps_same, steps_solved, steps_from}
+use Rattle.sk_loop.proofs.Proposing.{spent_bad}
+
+pub ruleset judging = (keeps_same, kept_room, is_round, steps_same, spent_bad)
+
+pub ruleset turning = (keeps_same, steps_solved, steps_from)

@@ -1,0 +1,11 @@
+pub mod Loading
+pub mod Answering
+pub mod Countering
+pub mod Beginning
+pub mod Demanding
+pub mod Growing
+pub mod Standing
+pub mod Proposing
+pub mod Noting
+pub mod Judging
+pub mod Turns

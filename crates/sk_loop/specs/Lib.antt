@@ -1,0 +1,5 @@
+pub mod Found
+pub mod Countered
+pub mod Session
+pub mod Answered
+pub mod Rounds

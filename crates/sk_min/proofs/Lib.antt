@@ -1,0 +1,5 @@
+pub mod Lists
+pub mod Greatest
+pub mod Bests
+pub mod Raises
+pub mod Lowers

@@ -1,0 +1,15 @@
+use Rattle.std.proofs.Common.{IsTrue, refl, sym}
+use Rattle.sk_costs.specs.Free.{is_free}
+use Rattle.sk_min.proofs.Bests.{best_at_zero}
+use Rattle.sk_costs.proofs.Runs.{free_is_best}
+use Rattle.sk_min.proofs.descent.from_first.Goals as goal
+
+pub returns-then-is_free : goal.returns-then-is_free
+returns-then-is_free c =
+    let free : IsTrue (is_free c.args.expanded.now.prog) = sym c.if-is_free.ensures in
+    let met = c.requires.askable.met c.args.best c.requires.meeting.range in (
+      c.requires.honest,
+      best_at_zero c.args.expanded.now c.args.bounds.now c.args.best c.requires.meeting (free_is_best c.args.expanded.now c.args.best c.args.bounds.now met free),
+      tt,
+      λ _. refl,
+    )

@@ -1,0 +1,10 @@
+use Rattle.std.proofs.Common.{subst}
+use Rattle.sk_min.specs.declared.search.Raised.{Raised}
+use Rattle.sk_min.specs.Search.{IsRaisedTo}
+use Rattle.sk_min.proofs.Lowers.{ready_turn}
+use Rattle.sk_min.proofs.descent.turn.Goals as goal
+
+pub lower-requires-clause-ready : goal.lower-requires-clause-ready
+lower-requires-clause-ready c =
+    let top = subst (λ (x : Raised). IsRaisedTo c.args.expanded.now c.args.bounds.now c.args.budget.now c.args.state.best c.args.state.pairs x) c.in-Top.is c.in_ok-pairs.ensures in
+    ready_turn c.args.expanded.now c.args.bounds.now c.args.state.session c.args.state.pairs c.in-Top.pairs c.args.state.best c.in-Top.best c.in-Top.value c.requires.state.ready top.0 top.1 top.2

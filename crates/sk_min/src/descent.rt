@@ -1,0 +1,203 @@
+//! The search for a completion that costs least.
+
+ghost use Rattle.std.specs.Prelude.{◌≡◌, ◌-◌, IfOk, IsTrue, None, Some};
+ghost use Rattle.sk_loop.specs.Session.{IsReady, StandsFor};
+ghost use Rattle.sk_loop_laws.specs.Honest.{Honest, inputs_of};
+ghost use Rattle.sk_loop_laws.specs.Shown.{HasRoom};
+ghost use Rattle.sk_oblig.specs.Formulas.{IsAskable};
+ghost use Rattle.sk_min.specs.Least.{IsAnswer, Meeting};
+ghost use Rattle.sk_min.specs.Search.{IsCostly, IsState, IsTop, IsTurn};
+
+use crate::answer::Least;
+use crate::raise::raise;
+use crate::search::{Raised, State, Turn};
+use sk_base::{Bounds, Budget, List};
+use sk_costs::is_free;
+use sk_loop::{Found, Session};
+use sk_model::{Choice, Expanded, Pair};
+use std::alloc::{AllocError, Global};
+
+// Whether a further pair may be found.
+fn has_room(budget: &Budget, pairs: &List<Pair>) -> bool
+    ensures { IsTrue result → HasRoom budget.now pairs.now }
+{
+    budget.rounds == 0 || (pairs.len() as u64) < budget.rounds
+}
+
+// Looks for a choice that costs less than the best one, whose greatest cost is the value. A search that found a choice has room
+// for a further pair; that it has none would count as want of memory.
+fn lower(
+    expanded: &Expanded,
+    bounds: &Bounds,
+    budget: &Budget,
+    mut session: Session,
+    mut pairs: List<Pair>,
+    best: Choice,
+    value: u64,
+) -> Result<Turn, AllocError>
+    requires askable { IsAskable expanded.now bounds.now }
+    requires costly { IsCostly expanded.now }
+    requires top { IsTop expanded.now bounds.now pairs best value }
+    requires ready { IsReady session expanded.now bounds.now (inputs_of pairs) (Some (value - 1)) }
+    ensures { IfOk result (IsTurn expanded.now bounds.now budget.now) }
+{
+    if value == 0 {
+        return Ok(Turn::Ended(Least::Best {
+            choice: best,
+            value,
+            pairs,
+        }));
+    }
+    if !has_room(budget, &pairs) {
+        return Err(AllocError);
+    }
+    match session.synthesise(expanded, bounds, Some(value - 1), &mut pairs, budget)? {
+        Found::Choice(choice) => Ok(Turn::Lower(State {
+            session,
+            pairs,
+            best: choice,
+        })),
+        Found::Nothing => Ok(Turn::Ended(Least::Best {
+            choice: best,
+            value,
+            pairs,
+        })),
+        Found::Rounds => Ok(Turn::Ended(Least::Rounds {
+            pairs,
+            best: Some(best),
+        })),
+        Found::Conflicts {
+            query,
+            formula,
+            log,
+        } => {
+            Ok(Turn::Ended(Least::Conflicts {
+                pairs,
+                query,
+                formula,
+                log,
+                best: Some(best),
+            }))
+        }
+    }
+}
+
+// The greatest cost of the best choice, and then a search below it.
+fn turn(
+    alloc: Global,
+    expanded: &Expanded,
+    bounds: &Bounds,
+    budget: &Budget,
+    state: State,
+) -> Result<Turn, AllocError>
+    requires askable { IsAskable expanded.now bounds.now }
+    requires costly { IsCostly expanded.now }
+    requires state { IsState expanded.now bounds.now state }
+    ensures { IfOk result (IsTurn expanded.now bounds.now budget.now) }
+{
+    let State {
+        session,
+        pairs,
+        best,
+    } = state;
+    match raise(alloc, expanded, bounds, budget, pairs, best)? {
+        Raised::Top { pairs, best, value } => lower(
+            expanded, bounds, budget, session, pairs, best, value,
+        ),
+        Raised::Ended(answer) => Ok(Turn::Ended(answer)),
+    }
+}
+
+// Turns until one ends.
+fn descend(
+    alloc: Global,
+    expanded: &Expanded,
+    bounds: &Bounds,
+    budget: &Budget,
+    first: State,
+) -> Result<Least, AllocError>
+    requires askable { IsAskable expanded.now bounds.now }
+    requires costly { IsCostly expanded.now }
+    requires state { IsState expanded.now bounds.now first }
+    ensures { IfOk result (IsAnswer expanded.now bounds.now budget.now) }
+{
+    let mut state = first;
+    for _turn in 0..u64::MAX {
+        match turn(alloc, expanded, bounds, budget, state)? {
+            Turn::Lower(next) => state = next,
+            Turn::Ended(answer) => return Ok(answer),
+        }
+    }
+    // so many turns count as want of memory
+    Err(AllocError)
+}
+
+// The first choice that meets every obligation is the best one where nothing costs anything.
+fn from_first(
+    alloc: Global,
+    expanded: &Expanded,
+    bounds: &Bounds,
+    budget: &Budget,
+    session: Session,
+    pairs: List<Pair>,
+    best: Choice,
+) -> Result<Least, AllocError>
+    requires askable { IsAskable expanded.now bounds.now }
+    requires meeting { Meeting expanded.now bounds.now best }
+    requires honest { Honest expanded.now bounds.now pairs }
+    requires stands { StandsFor session expanded.now bounds.now (inputs_of pairs) None }
+    ensures { IfOk result (IsAnswer expanded.now bounds.now budget.now) }
+{
+    if is_free(&expanded.prog) {
+        return Ok(Least::Best {
+            choice: best,
+            value: 0,
+            pairs,
+        });
+    }
+    descend(
+        alloc,
+        expanded,
+        bounds,
+        budget,
+        State {
+            session,
+            pairs,
+            best,
+        },
+    )
+}
+
+/// Looks for a choice that meets every obligation and whose greatest cost is least.
+pub fn least(
+    alloc: Global,
+    expanded: &Expanded,
+    bounds: &Bounds,
+    budget: &Budget,
+) -> Result<Least, AllocError>
+    requires askable { IsAskable expanded.now bounds.now }
+    ensures answer { IfOk result (IsAnswer expanded.now bounds.now budget.now) }
+{
+    let mut session = Session::new(alloc, expanded, bounds)?;
+    let mut pairs = List::new(alloc);
+    match session.synthesise(expanded, bounds, None, &mut pairs, budget)? {
+        Found::Choice(choice) => from_first(
+            alloc, expanded, bounds, budget, session, pairs, choice,
+        ),
+        Found::Nothing => Ok(Least::Nothing { pairs }),
+        Found::Rounds => Ok(Least::Rounds { pairs, best: None }),
+        Found::Conflicts {
+            query,
+            formula,
+            log,
+        } => {
+            Ok(Least::Conflicts {
+                pairs,
+                query,
+                formula,
+                log,
+                best: None,
+            })
+        }
+    }
+}

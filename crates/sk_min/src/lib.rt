@@ -1,0 +1,10 @@
+//! The completion that costs least.
+#![tactic(auto)]
+
+mod answer;
+mod descent;
+mod raise;
+mod search;
+
+pub use answer::Least;
+pub use descent::least;
