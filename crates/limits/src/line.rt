@@ -31,7 +31,7 @@ pub fn tell(alloc: Global, lines: &mut Vec<u8>, line: &str, text: &[u8]) -> Resu
         lines.extend_from_slice(message(alloc, &ending)?.as_bytes())?;
     }
     lines.push(b'\n')?;
-    if ending == Ending::ExecDone {
+    if matches!(&ending, Ending::ExecDone) {
         lines.extend_from_slice(sink.bytes())?;
     }
     Ok(())

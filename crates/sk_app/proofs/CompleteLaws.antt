@@ -1,10 +1,11 @@
 -- What was found of a text, put together.
-use Rattle.std.proofs.Common.{◌≡◌, ℕ, ◌<◌, ◌≤◌, ◌^◌, List, [], ◌∷◌, ◌++◌, Option, Some, length, refl, sym, subst, ◌∙◌, arith}
+use Rattle.std.proofs.Common.{◌≡◌, ℕ, ◌<◌, ◌≤◌, ◌^◌, List, [], ◌∷◌, ◌++◌, Option, Some, None, ◌-◌, length, refl, sym, subst, ◌∙◌, arith}
 use Rattle.std.specs.Prelude.{IsTrue, IfSome, nat_lt, true}
 use Rattle.std.proofs.lemmas.List.{append_assoc}
 use Rattle.std.proofs.lemmas.List.Elements.{All-head, All-tail}
 use Rattle.std.proofs.lemmas.Bool.{lt-ltb, and_from}
 use Rattle.sk_base.specs.declared.bounds.Bounds.{Bounds}
+use Rattle.sk_base.specs.declared.bounds.Budget.{Budget}
 use Rattle.sk_prog.specs.declared.prog.Prog.{Prog}
 use Rattle.sk_prog.specs.Fits.{prog_fits}
 use Rattle.sk_types.specs.WellTyped.{WellTyped}
@@ -15,24 +16,38 @@ use Rattle.sk_print.specs.Shows.{Shows}
 use Rattle.sk_shown.proofs.ProgramShown.{programs_shown}
 use Rattle.sk_model.specs.declared.expanded.Choice.{Choice}
 use Rattle.sk_model.specs.declared.expanded.Expanded.{Expanded}
+use Rattle.sk_model.specs.declared.expanded.Input.{Input}
+use Rattle.sk_model.specs.declared.expanded.Pair.{Pair}
 use Rattle.sk_model.specs.declared.expanded.Site.{Site}
 use Rattle.sk_model.specs.Expand.{expand}
 use Rattle.sk_model.specs.Fill.{InRange, fill}
 use Rattle.sk_model.specs.Limits.{most_nodes}
+use Rattle.sk_model.specs.Meets.{Meets, IsGreatestCost}
 use Rattle.sk_model.specs.Nodes.{nodes}
 use Rattle.sk_sites.specs.Small.{AreSmall}
 use Rattle.sk_sites.specs.Small.{IsSmall as IsSmallSite}
 use Rattle.sk_holes.specs.Needs.{HasItsSites, are_narrow}
-use Rattle.sk_trials.specs.Counts.{IsSmall}
-use Rattle.sk_trials.specs.declared.completion.Completion.{Completion}
-use Rattle.sk_trials.specs.Completing.{IsLeast}
+use Rattle.sk_chosen.specs.Meeting.{IsMetUnder}
+use Rattle.sk_chosen.proofs.Meeting.{choices_meet}
+use Rattle.sk_oblig.specs.Formulas.{IsAskable}
+use Rattle.sk_clause.specs.declared.lit.Lit.{Lit}
+use Rattle.sk_cnf.specs.declared.growing.Encoded.{Encoded}
+use Rattle.sk_query.specs.declared.query.Query.{Query}
+use Rattle.sk_loop_laws.specs.Honest.{Honest}
+use Rattle.sk_loop_laws.specs.Shown.{AreSpent, Learnt}
+use Rattle.sk_min.specs.Least.{IsBest, Meeting, IsKnown, IsKnownOf}
+use Rattle.sk_min.specs.Least as least
 use Rattle.sk_opts.specs.declared.line.Set.{Set}
 use Rattle.sk_front.specs.declared.expansion.Expansion.{Expansion}
 use Rattle.sk_front.specs.Front.{ExpandsWithin}
 use Rattle.sk_front.proofs.FrontLaws.{one_program, one_expansion}
 use Rattle.sk_meaning.proofs.Whole.{texts_keep, texts_fit}
-use Rattle.sk_app.specs.Built.{IsBuilt, IsOnly, IsNotBuilt}
-use Rattle.sk_app.specs.ResultText.{completed_text, IsCompletion}
+use Rattle.sk_app.specs.declared.completion.Completion.{Completion}
+use Rattle.sk_app.specs.Built.{IsBuilt, IsOnly}
+use Rattle.sk_app.specs.Completing.{IsLeast}
+use Rattle.sk_app.specs.ResultText.{completed_text, none_text, IsCompletion, IsNone}
+use Rattle.sk_app.specs.SpentText.{spent_result, OfRounds, OfConflicts}
+use Rattle.sk_app.specs.Spent.{IsMeeting, IsSpentRounds, IsSpentConflicts}
 use Rattle.sk_app.specs.Prepared.{IsReady}
 
 -- Sites
@@ -47,54 +62,63 @@ narrow_sites (s ∷ ss) h =
     let here : nat_lt s.size 4294967297 ≡ true = lt-ltb s.size 4294967297 (omega (arith, All-head IsSmallSite s ss h)) in
     and_from (nat_lt s.size 4294967297) (are_narrow ss) here (narrow_sites ss (All-tail IsSmallSite s ss h))
 
+-- Completions
+
+-- the filling of a choice that is best costs least
+least_of : (bounds : Bounds) (e : Expanded) (c : Completion) → c.filled ≡ fill e c.choice → IsBest e bounds c.choice c.value → IsLeast bounds e c
+least_of bounds e c is best = record {
+  completes = record {
+    in_range = best.meeting.range;
+    is_filling = is;
+    meets = subst (λ p. Meets p bounds) (sym is) best.meeting.meets;
+    costs = subst (λ p. IsGreatestCost p bounds c.value) (sym is) best.costs;
+  };
+  least = λ b range meets v costs. best.least b (record { range = range; meets = meets }) v costs;
+}
+
 -- A text that means a program within the limits, with the options of a line
 
 module _ (set : Set) where
   module _ (text : List ℕ) (x : Expansion) (means : ExpandsWithin set text x) where
-    -- it is taken where its expansion is small
+    -- it is taken
 
-    built_of : IsSmall x.bounds x.expanded → IsBuilt set text x.bounds x.expanded
-    built_of small = record { tree = x.tree; prog = x.prog; sized = means.sized_to; small = small }
+    built_of : IsBuilt set text x.bounds x.expanded
+    built_of = record { tree = x.tree; prog = x.prog; sized = means.sized_to }
 
-    only_of : IsSmall x.bounds x.expanded → IsOnly set text x.bounds x.expanded
-    only_of small = record {
-      built = built_of small;
+    only_of : IsOnly set text x.bounds x.expanded
+    only_of = record {
+      built = built_of;
       only = λ b f is.
           let same = one_program set text is.tree x.tree b x.bounds is.prog x.prog is.sized.typed means.sized_to.typed in
           (same.1, is.sized.is ∙ one_expansion set text is.tree x.tree b x.bounds is.prog x.prog is.sized.typed means.sized_to.typed ∙ sym means.sized_to.is);
     }
 
     -- ready to be searched
-    pub ready_of : IsSmall x.bounds x.expanded → IsReady set text x.bounds x.expanded
-    ready_of small = record { only = only_of small; ranges = means.ranges; narrow = means.narrow }
-
-    pub not_built_of : (IsSmall x.bounds x.expanded → ⊥) → IsNotBuilt set text
-    not_built_of large = record { tree = x.tree; bounds = x.bounds; prog = x.prog; e = x.expanded; sized = means.sized_to; large = large }
+    pub ready_of : IsReady set text x.bounds x.expanded
+    ready_of = record { only = only_of; ranges = means.ranges; narrow = means.narrow }
 
   -- An expansion that is ready to be searched
 
   module _ (text : List ℕ) (bounds : Bounds) (e : Expanded) (ready : IsReady set text bounds e) where
     -- What the search asks for
 
-    pub small : IsSmall bounds e
-    small = ready.only.built.small
-
-    pub its_sites : HasItsSites e
+    its_sites : HasItsSites e
     its_sites = let b = ready.only.built in has_its_sites e b.prog bounds b.sized.is
 
-    pub narrow : IsTrue (are_narrow e.sites)
+    narrow : IsTrue (are_narrow e.sites)
     narrow = narrow_sites e.sites ready.narrow
 
     pub few : length e.sites ≤ 4294967296
     few = let most = ready.only.built.sized.sized.sites_fit in omega (arith, most)
 
-    pub bits_low : 2 ≤ bounds.int_bits
+    bits_low : 2 ≤ bounds.int_bits
     bits_low = ready.ranges.int_bits.0
 
-    pub bits_high : bounds.int_bits ≤ 32
+    bits_high : bounds.int_bits ≤ 32
     bits_high = ready.ranges.int_bits.1
 
-    -- What the completions are
+    inbits : bounds.inbits ≤ bounds.int_bits - 1
+    inbits = ready.ranges.inbits_fit
 
     wide : AreWide bounds
     wide = let fits = ready.ranges.cbits_fit in let low = ready.ranges.int_bits.0 in record { two = low; holes = omega (arith, fits, low) }
@@ -107,6 +131,19 @@ module _ (set : Set) where
         let b = ready.only.built in
         let most : nodes (expand b.prog bounds).prog ≤ 262144 = subst (λ z. nodes z.prog ≤ most_nodes) b.sized.is b.sized.sized.nodes_fit in
         omega (arith, most)
+
+    met : (a : Choice) → InRange e a → IsMetUnder e a bounds
+    met a range =
+        let b = ready.only.built in
+        let typed = texts_keep set text b.tree bounds b.prog b.sized.typed in
+        subst (λ z. InRange z a → IsMetUnder z a bounds) (sym b.sized.is)
+        (λ r. choices_meet bounds b.prog a (record { typed = typed; fits = program_fits; small = few_nodes; range = r }))
+        range
+
+    pub askable : IsAskable e bounds
+    askable = record { sites = its_sites; narrow = narrow; low = bits_low; high = bits_high; inbits = inbits; met = met }
+
+    -- What the completions are
 
     -- each filling keeps the rules and is well-formed
     filled : (a : Choice) → InRange e a → WellTyped (fill e a) bounds × IsTrue (prog_fits (fill e a))
@@ -131,12 +168,50 @@ module _ (set : Set) where
       is = is;
     }
 
-    -- a completion that was found
-    pub completion_found : (oc : Option Completion) (c : Completion) (out : List ℕ) → oc ≡ Some c → IfSome oc (λ d. IsLeast bounds e d) → out ≡ completed_text c → IsCompletion set text out
-    completion_found oc c out ic found is = completion_of c out (subst (λ o. IfSome o (λ d. IsLeast bounds e d)) ic found) is
+    -- What is found of it
+
+    pub best_found : (choice : Choice) (value : ℕ) (out : List ℕ) → IsBest e bounds choice value → out ≡ completed_text (record { choice = choice; filled = fill e choice; value = value }) → IsCompletion set text out
+    best_found choice value out best is =
+        let c : Completion = record { choice = choice; filled = fill e choice; value = value } in
+        completion_of c out (least_of bounds e c refl best) is
+
+    pub none_found : (inputs : List Input) (out : List ℕ) → least.IsNone e bounds inputs → out ≡ none_text → IsNone set text out
+    none_found inputs out none is = record { bounds = bounds; e = e; only = ready.only; none = λ b range meets. none.meets b (record { range = range; meets = meets }); is = is }
+
+    meeting : (a : Choice) → Meeting e bounds a → IsMeeting bounds e a
+    meeting a m = record { in_range = m.range; meets = m.meets; shows = shown a m.range }
+
+    known_meets : (pairs : List Pair) (best : Option Choice) → IsKnown e bounds pairs best → IfSome best (IsMeeting bounds e)
+    known_meets pairs None k = tt
+    known_meets pairs (Some a) k = meeting a k.meeting
+
+    known_of_meets : (pairs : List Pair) (q : Query) (best : Option Choice) → IsKnownOf e bounds pairs q best → IfSome best (IsMeeting bounds e)
+    known_of_meets pairs q None k = tt
+    known_of_meets pairs q (Some a) k = meeting a k.0
+
+    pub rounds_found : (budget : Budget) (pairs : List Pair) (best : Option Choice) (out : List ℕ) → Honest e bounds pairs → AreSpent budget.rounds pairs → IsKnown e bounds pairs best → out ≡ spent_result e best (OfRounds budget.rounds pairs) → IsSpentRounds set budget text pairs best out
+    rounds_found budget pairs best out honest spent known is = record {
+      bounds = bounds;
+      e = e;
+      only = ready.only;
+      spent = spent;
+      honest = honest;
+      known = known;
+      meets = known_meets pairs best known;
+      is = is;
+    }
+
+    pub conflicts_found : (budget : Budget) (pairs : List Pair) (q : Query) (f : Encoded) (log : List (List Lit)) (best : Option Choice) (out : List ℕ) → Learnt e bounds budget.conflicts pairs q f log → IsKnownOf e bounds pairs q best → out ≡ spent_result e best (OfConflicts budget.conflicts) → IsSpentConflicts set budget text pairs q f log best out
+    conflicts_found budget pairs q f log best out learnt known is = record {
+      bounds = bounds;
+      e = e;
+      only = ready.only;
+      learnt = learnt;
+      known = known;
+      meets = known_of_meets pairs q best known;
+      is = is;
+    }
 
 -- the parts of the lines of a completion, one behind the other
 pub lines_join : (o a d b s c : List ℕ) → ((((o ++ a) ++ d) ++ b) ++ s) ++ c ≡ o ++ ((((a ++ d) ++ b) ++ s) ++ c)
 lines_join o a d b s c = simp append_assoc refl
-
-pub ruleset finding = (small, its_sites, narrow, few, bits_low, bits_high)

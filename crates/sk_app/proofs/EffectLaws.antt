@@ -1,5 +1,5 @@
 -- What the clauses of `run` say, from what a call does for the words and the line that they spell.
-use Rattle.std.proofs.Common.{◌≡◌, ℕ, ◌≤◌, ◌<◌, ◌⊎◌, inl, inr, Bool, true, false, List, [], Option, Some, None, length, refl, sym, ap, subst, ◌∙◌, arith}
+use Rattle.std.proofs.Common.{◌≡◌, ℕ, ◌≤◌, ◌<◌, inl, inr, Bool, true, false, List, [], Option, Some, None, length, refl, sym, ap, subst, ◌∙◌, arith}
 use Rattle.std.specs.Prelude.{IsTrue, IfSome}
 use Rattle.std.proofs.lemmas.Bool.{false≢true}
 use Rattle.sk_base.specs.Stream.{Rose}
@@ -7,6 +7,12 @@ use Rattle.sk_base.specs.declared.bounds.Bounds.{Bounds}
 use Rattle.sk_base.specs.declared.bounds.Budget.{Budget}
 use Rattle.sk_base.specs.declared.span.Span.{Span}
 use Rattle.sk_model.specs.declared.expanded.Expanded.{Expanded}
+use Rattle.sk_clause.specs.declared.lit.Lit.{Lit}
+use Rattle.sk_cnf.specs.declared.growing.Encoded.{Encoded}
+use Rattle.sk_query.specs.declared.query.Query.{Query}
+use Rattle.sk_loop_laws.specs.Shown.{AreSpent}
+use Rattle.sk_model.specs.declared.expanded.Choice.{Choice}
+use Rattle.sk_model.specs.declared.expanded.Pair.{Pair}
 use Rattle.sk_model.specs.declared.outcome.Outcome.{Outcome}
 use Rattle.sk_direct.specs.declared.fault.ExecFault.{ExecFault}
 use Rattle.sk_direct.specs.Direct.{IsNotRun, IsRunText}
@@ -24,12 +30,14 @@ use Rattle.sk_front.specs.Front.{IsUntyped, IsTooLarge}
 use Rattle.sk_front.specs.Texts.{most_bytes, byte_of, HasSpan, IsTextFault}
 use Rattle.sk_front.proofs.TextLaws.{byte_within}
 use Rattle.sk_app.specs.Streams.{Appends, AppendsPrefix, TakesFew}
-use Rattle.sk_app.specs.Built.{IsBuilt, IsNotBuilt}
+use Rattle.sk_app.specs.Built.{IsBuilt}
 use Rattle.sk_app.specs.ResultText.{IsCompletion, IsNone}
+use Rattle.sk_app.specs.Spent.{AreLearnt, IsSpentRounds, IsSpentConflicts}
+use Rattle.sk_app.specs.Results.{IsResult}
 use Rattle.sk_app.specs.Help.{help_text, version_text}
-use Rattle.sk_app.specs.Lines.{IsNoLine, IsSynth, ForSynth, IsExec, ForExec, TakesText, ForText, is_unbuilt, IsUnbuiltLine}
-use Rattle.sk_app.specs.Ends.{delivered, cut, no_room, Writes, WritesPart, writes_nothing, IsToldOf, EndsBuilt, EndsFaulty, EndsUntyped, EndsLarge, EndsLong, EndsUnbuilt, EndsRun, EndsNotRun, EndsNoLine, EndsUnbuiltLine, EndsHelp, EndsVersion}
-use Rattle.sk_app.specs.Effects.{Effect, IsRefused, IsShown, is_of_synth, IsResult, Synthesises, is_of_expansion, IsRunResult, IsRunOutput, Executes, Serves, Answers, no_line, served, no_memory, IsOutput}
+use Rattle.sk_app.specs.Lines.{IsNoLine, IsSearch, ForSearch, IsSynth, ForSynth, IsExec, ForExec, TakesText, ForText, is_unbuilt, IsUnbuiltLine}
+use Rattle.sk_app.specs.Ends.{delivered, cut, no_room, Writes, WritesPart, writes_nothing, IsToldOf, EndsBuilt, EndsFaulty, EndsUntyped, EndsLarge, EndsLong, EndsRun, EndsNotRun, EndsNoLine, EndsUnbuiltLine, EndsHelp, EndsVersion}
+use Rattle.sk_app.specs.Effects.{Effect, IsRefused, IsShown, is_of_synth, Synthesises, is_of_expansion, IsRunResult, IsRunOutput, Executes, Serves, Answers, no_line, served, no_memory, IsOutput}
 use Rattle.sk_app.specs.Effects as output
 use Rattle.sk_app.proofs.StreamLemmas.{front-nil}
 use Rattle.sk_app.proofs.ToldLaws as by
@@ -67,6 +75,8 @@ is_of_text _ = false
 abbrev is_synth_alone : Ending → Bool
 is_synth_alone ending.Completed = true
 is_synth_alone ending.NoCompletion = true
+is_synth_alone (ending.SpentRounds pairs best) = true
+is_synth_alone (ending.SpentConflicts pairs q f log best) = true
 is_synth_alone _ = false
 
 module _ (words : List (List ℕ)) (r : Ending) (f : Effect) where
@@ -75,7 +85,7 @@ module _ (words : List (List ℕ)) (r : Ending) (f : Effect) where
   data Kind : Type 0 where
     of_none : IsNoLine words → IsRefused ending.NotALine r f → Kind
     of_unbuilt : IsUnbuiltLine words → IsRefused ending.NotBuilt r f → Kind
-    of_synth : (set : Set) → IsSynth words set → Synthesises set r f → Kind
+    of_synth : (set : Set) (budget : Budget) → IsSearch words set budget → Synthesises set budget r f → Kind
     of_exec : (set : Set) (name : List ℕ) (values : List (List ℕ)) → IsExec words set name values → Executes set name values r f → Kind
     of_help : IsLine words line.Help → IsShown help_text ending.HelpShown r f → Kind
     of_version : IsLine words line.Version → IsShown version_text ending.VersionShown r f → Kind
@@ -83,7 +93,7 @@ module _ (words : List (List ℕ)) (r : Ending) (f : Effect) where
 
   line_kind : (l : Line) → IsLine words l → Serves l r f → Kind
   line_kind (line.Synth set budget true) h s = of_unbuilt (record { line = line.Synth set budget true; is = h; unbuilt = refl }) s
-  line_kind (line.Synth set budget false) h s = of_synth set (record { budget = budget; is = h }) s
+  line_kind (line.Synth set budget false) h s = of_synth set budget h s
   line_kind (line.Exec set name values) h s = of_exec set name values h s
   line_kind (line.Check set) h s = of_unbuilt (record { line = line.Check set; is = h; unbuilt = refl }) s
   line_kind (line.Itself n) h s = of_unbuilt (record { line = line.Itself n; is = h; unbuilt = refl }) s
@@ -112,6 +122,8 @@ module _ (words : List (List ℕ)) (r : Ending) (f : Effect) where
   synth_alone_not_exec : (x : Ending) → is_synth_alone x ≡ true → by_exec.is_of_exec x ≡ false
   synth_alone_not_exec ending.Completed a = refl
   synth_alone_not_exec ending.NoCompletion a = refl
+  synth_alone_not_exec (ending.SpentRounds pairs best) a = refl
+  synth_alone_not_exec (ending.SpentConflicts pairs q g log best) a = refl
   synth_alone_not_exec ending.HelpShown a = refl
   synth_alone_not_exec ending.VersionShown a = refl
   synth_alone_not_exec ending.NotALine a = refl
@@ -129,10 +141,10 @@ module _ (words : List (List ℕ)) (r : Ending) (f : Effect) where
   synth_alone_not_exec ending.Memory a = absurd (false≢true a)
 
   -- the endings of a line `synth` alone come for no other line
-  synth_of : (x : Ending) → is_synth_alone x ≡ true → Kind → r ≡ x → ForSynth words (λ set. Synthesises set r f)
+  synth_of : (x : Ending) → is_synth_alone x ≡ true → Kind → r ≡ x → ForSearch words (λ set budget. Synthesises set budget r f)
   synth_of x a (of_none n s) e = absurd (alone_not ending.NotALine x a refl (sym s.is ∙ e))
   synth_of x a (of_unbuilt u s) e = absurd (alone_not ending.NotBuilt x a refl (sym s.is ∙ e))
-  synth_of x a (of_synth set h s) e = record { set = set; is = h; holds = s }
+  synth_of x a (of_synth set budget h s) e = record { set = set; budget = budget; is = h; holds = s }
   synth_of x a (of_exec set name values h s) e = by_exec.exec_not set name values r f x (synth_alone_not_exec x a) s.runs e
   synth_of x a (of_help h s) e = absurd (shown_not help_text ending.HelpShown s x (alone_not ending.HelpShown x a refl) (alone_not ending.WriteFault x a refl) (alone_not ending.Memory x a refl) e)
   synth_of x a (of_version h s) e = absurd (shown_not version_text ending.VersionShown s x (alone_not ending.VersionShown x a refl) (alone_not ending.WriteFault x a refl) (alone_not ending.Memory x a refl) e)
@@ -142,36 +154,36 @@ module _ (words : List (List ℕ)) (r : Ending) (f : Effect) where
   exec_of : (x : Ending) → is_exec_alone x ≡ true → is_of_synth x ≡ false → Kind → r ≡ x → ForExec words (λ set name values. Executes set name values r f)
   exec_of x a b (of_none n s) e = absurd (exec_alone_not ending.NotALine x a refl (sym s.is ∙ e))
   exec_of x a b (of_unbuilt u s) e = absurd (exec_alone_not ending.NotBuilt x a refl (sym s.is ∙ e))
-  exec_of x a b (of_synth set h s) e = absurd (false≢true (sym b ∙ ap is_of_synth (sym e) ∙ s.ends))
+  exec_of x a b (of_synth set budget h s) e = absurd (false≢true (sym b ∙ ap is_of_synth (sym e) ∙ s.ends))
   exec_of x a b (of_exec set name values h s) e = record { set = set; name = name; values = values; is = h; holds = s }
   exec_of x a b (of_help h s) e = absurd (shown_not help_text ending.HelpShown s x (exec_alone_not ending.HelpShown x a refl) (exec_alone_not ending.WriteFault x a refl) (exec_alone_not ending.Memory x a refl) e)
   exec_of x a b (of_version h s) e = absurd (shown_not version_text ending.VersionShown s x (exec_alone_not ending.VersionShown x a refl) (exec_alone_not ending.WriteFault x a refl) (exec_alone_not ending.Memory x a refl) e)
   exec_of x a b (of_memory s) e = absurd (exec_alone_not ending.Memory x a refl (sym s.is ∙ e))
 
   -- what follows for a line that takes a text from an ending of such lines alone
-  text_of : (x : Ending) → is_of_text x ≡ true → (P : Set → Type 0) → ((set : Set) → Synthesises set r f → P set) → ((set : Set) (name : List ℕ) (values : List (List ℕ)) → Executes set name values r f → P set) → Kind → r ≡ x → ForText words P
+  text_of : (x : Ending) → is_of_text x ≡ true → (P : Set → Type 0) → ((set : Set) (budget : Budget) → Synthesises set budget r f → P set) → ((set : Set) (name : List ℕ) (values : List (List ℕ)) → Executes set name values r f → P set) → Kind → r ≡ x → ForText words P
   text_of x a P k l (of_none n s) e = absurd (text_not ending.NotALine x a refl (sym s.is ∙ e))
   text_of x a P k l (of_unbuilt u s) e = absurd (text_not ending.NotBuilt x a refl (sym s.is ∙ e))
-  text_of x a P k l (of_synth set h s) e = record { set = set; takes = inl h; holds = k set s }
+  text_of x a P k l (of_synth set budget h s) e = record { set = set; takes = inl (record { budget = budget; is = h }); holds = k set budget s }
   text_of x a P k l (of_exec set name values h s) e = record { set = set; takes = inr (name, values, h); holds = l set name values s }
   text_of x a P k l (of_help h s) e = absurd (shown_not help_text ending.HelpShown s x (text_not ending.HelpShown x a refl) (text_not ending.WriteFault x a refl) (text_not ending.Memory x a refl) e)
   text_of x a P k l (of_version h s) e = absurd (shown_not version_text ending.VersionShown s x (text_not ending.VersionShown x a refl) (text_not ending.WriteFault x a refl) (text_not ending.Memory x a refl) e)
   text_of x a P k l (of_memory s) e = absurd (text_not ending.Memory x a refl (sym s.is ∙ e))
 
   -- a line `synth` has none of the endings of other lines
-  synth_not : (set : Set) (x : Ending) → Synthesises set r f → is_of_synth x ≡ false → r ≡ x → ⊥
-  synth_not set x s b e = false≢true (sym b ∙ ap is_of_synth (sym e) ∙ s.ends)
+  synth_not : (set : Set) (budget : Budget) (x : Ending) → Synthesises set budget r f → is_of_synth x ≡ false → r ≡ x → ⊥
+  synth_not set budget x s b e = false≢true (sym b ∙ ap is_of_synth (sym e) ∙ s.ends)
 
   -- what is told of the text with this ending
-  told_as : (set : Set) → Synthesises set r f → (x : Ending) (P : List ℕ → Type 0) → ((text : List ℕ) → IsToldOf set text x f.read_faults_old f.read_faults_new f.write_faults_old f.write_faults_new → P text) → r ≡ x → IfSome f.left_old P
-  told_as set s x P k e = mapped f.left_old (λ text. IsToldOf set text r f.read_faults_old f.read_faults_new f.write_faults_old f.write_faults_new) P (λ text h. k text (subst (λ y. IsToldOf set text y f.read_faults_old f.read_faults_new f.write_faults_old f.write_faults_new) e h)) s.told
+  told_as : (set : Set) (budget : Budget) → Synthesises set budget r f → (x : Ending) (P : List ℕ → Type 0) → ((text : List ℕ) → IsToldOf set text x f.read_faults_old f.read_faults_new f.write_faults_old f.write_faults_new → P text) → r ≡ x → IfSome f.left_old P
+  told_as set budget s x P k e = mapped f.left_old (λ text. IsToldOf set text r f.read_faults_old f.read_faults_new f.write_faults_old f.write_faults_new) P (λ text h. k text (subst (λ y. IsToldOf set text y f.read_faults_old f.read_faults_new f.write_faults_old f.write_faults_new) e h)) s.told
 
   -- Clauses that follow from the ending
 
   not_a_line_of : Kind → r ≡ ending.NotALine → IsNoLine words
   not_a_line_of (of_none n s) e = n
   not_a_line_of (of_unbuilt u s) e = let q = sym s.is ∙ e in cc
-  not_a_line_of (of_synth set h s) e = absurd (synth_not set ending.NotALine s refl e)
+  not_a_line_of (of_synth set budget h s) e = absurd (synth_not set budget ending.NotALine s refl e)
   not_a_line_of (of_exec set name values h s) e = by_exec.exec_not set name values r f ending.NotALine refl s.runs e
   not_a_line_of (of_help h s) e = absurd (shown_not help_text ending.HelpShown s ending.NotALine (λ q. cc) (λ q. cc) (λ q. cc) e)
   not_a_line_of (of_version h s) e = absurd (shown_not version_text ending.VersionShown s ending.NotALine (λ q. cc) (λ q. cc) (λ q. cc) e)
@@ -198,7 +210,7 @@ module _ (words : List (List ℕ)) (r : Ending) (f : Effect) where
   help_of : Kind → r ≡ ending.HelpShown → IsLine words line.Help × Appends help_text f.held_old f.held_new
   help_of (of_none n s) e = let q = sym s.is ∙ e in cc
   help_of (of_unbuilt u s) e = let q = sym s.is ∙ e in cc
-  help_of (of_synth set h s) e = absurd (synth_not set ending.HelpShown s refl e)
+  help_of (of_synth set budget h s) e = absurd (synth_not set budget ending.HelpShown s refl e)
   help_of (of_exec set name values h s) e = by_exec.exec_not set name values r f ending.HelpShown refl s.runs e
   help_of (of_help h s) e = (h, shown_whole help_text ending.HelpShown s (λ q. cc) (λ q. cc) e)
   help_of (of_version h s) e = absurd (shown_not version_text ending.VersionShown s ending.HelpShown (λ q. cc) (λ q. cc) (λ q. cc) e)
@@ -207,16 +219,16 @@ module _ (words : List (List ℕ)) (r : Ending) (f : Effect) where
   version_of : Kind → r ≡ ending.VersionShown → IsLine words line.Version × Appends version_text f.held_old f.held_new
   version_of (of_none n s) e = let q = sym s.is ∙ e in cc
   version_of (of_unbuilt u s) e = let q = sym s.is ∙ e in cc
-  version_of (of_synth set h s) e = absurd (synth_not set ending.VersionShown s refl e)
+  version_of (of_synth set budget h s) e = absurd (synth_not set budget ending.VersionShown s refl e)
   version_of (of_exec set name values h s) e = by_exec.exec_not set name values r f ending.VersionShown refl s.runs e
   version_of (of_help h s) e = absurd (shown_not help_text ending.HelpShown s ending.VersionShown (λ q. cc) (λ q. cc) (λ q. cc) e)
   version_of (of_version h s) e = (h, shown_whole version_text ending.VersionShown s (λ q. cc) (λ q. cc) e)
   version_of (of_memory s) e = let q = sym s.is ∙ e in cc
 
-  not_built_of : Kind → r ≡ ending.NotBuilt → IsUnbuiltLine words ⊎ ForSynth words (λ set. IfSome f.left_old (IsNotBuilt set))
+  not_built_of : Kind → r ≡ ending.NotBuilt → IsUnbuiltLine words
   not_built_of (of_none n s) e = let q = sym s.is ∙ e in cc
-  not_built_of (of_unbuilt u s) e = inl u
-  not_built_of (of_synth set h s) e = inr (record { set = set; is = h; holds = told_as set s ending.NotBuilt (IsNotBuilt set) (λ text h. h) e })
+  not_built_of (of_unbuilt u s) e = u
+  not_built_of (of_synth set budget h s) e = absurd (synth_not set budget ending.NotBuilt s refl e)
   not_built_of (of_exec set name values h s) e = by_exec.exec_not set name values r f ending.NotBuilt refl s.runs e
   not_built_of (of_help h s) e = absurd (shown_not help_text ending.HelpShown s ending.NotBuilt (λ q. cc) (λ q. cc) (λ q. cc) e)
   not_built_of (of_version h s) e = absurd (shown_not version_text ending.VersionShown s ending.NotBuilt (λ q. cc) (λ q. cc) (λ q. cc) e)
@@ -225,7 +237,7 @@ module _ (words : List (List ℕ)) (r : Ending) (f : Effect) where
   write_fault_of : Kind → r ≡ ending.WriteFault → Rose f.write_faults_old f.write_faults_new
   write_fault_of (of_none n s) e = let q = sym s.is ∙ e in cc
   write_fault_of (of_unbuilt u s) e = let q = sym s.is ∙ e in cc
-  write_fault_of (of_synth set h s) e = s.write_fault e
+  write_fault_of (of_synth set budget h s) e = s.write_fault e
   write_fault_of (of_exec set name values h s) e = by_exec.write_fault_by set name values r f s.runs e
   write_fault_of (of_help h s) e = shown_rose help_text ending.HelpShown s (λ q. cc) (λ q. cc) e
   write_fault_of (of_version h s) e = shown_rose version_text ending.VersionShown s (λ q. cc) (λ q. cc) e
@@ -237,7 +249,7 @@ module _ (words : List (List ℕ)) (r : Ending) (f : Effect) where
   prefix_of : Kind → r ≡ ending.WriteFault → IfSome f.left_old Cut
   prefix_of (of_none n s) e = let q = sym s.is ∙ e in cc
   prefix_of (of_unbuilt u s) e = let q = sym s.is ∙ e in cc
-  prefix_of (of_synth set h s) e = mapped f.left_old (λ text. WritesPart (IsResult set text) f.held_old f.held_new) Cut (λ text w. record { out = w.out; is = output.result (record { set = set; is = h; holds = w.is }); appends = w.appends }) (s.prefix e)
+  prefix_of (of_synth set budget h s) e = mapped f.left_old (λ text. WritesPart (IsResult set budget text) f.held_old f.held_new) Cut (λ text w. record { out = w.out; is = output.result (record { set = set; budget = budget; is = h; holds = w.is }); appends = w.appends }) (s.prefix e)
   prefix_of (of_exec set name values h s) e = mapped f.left_old (λ text. WritesPart (IsRunOutput set name values text) f.held_old f.held_new) Cut (λ text w. record { out = w.out; is = output.run (record { set = set; name = name; values = values; is = h; holds = w.is }); appends = w.appends }) (by_exec.told_by set name values r f (λ text. WritesPart (IsRunOutput set name values text) f.held_old f.held_new) (λ text w. by_exec.prefix_by set name values r f e text w) s.runs)
   prefix_of (of_help h s) e = every f.left_old Cut (λ text. record { out = help_text; is = output.help h refl; appends = shown_cut help_text ending.HelpShown s (λ q. cc) (λ q. cc) e })
   prefix_of (of_version h s) e = every f.left_old Cut (λ text. record { out = version_text; is = output.version h refl; appends = shown_cut version_text ending.VersionShown s (λ q. cc) (λ q. cc) e })
@@ -246,7 +258,7 @@ module _ (words : List (List ℕ)) (r : Ending) (f : Effect) where
   kept_of : Kind → IsTrue (writes_nothing r) → f.held_new ≡ f.held_old
   kept_of (of_none n s) k = s.nothing.unwritten
   kept_of (of_unbuilt u s) k = s.nothing.unwritten
-  kept_of (of_synth set h s) k = s.kept k
+  kept_of (of_synth set budget h s) k = s.kept k
   kept_of (of_exec set name values h s) k = by_exec.kept_by set name values r f s.runs k
   kept_of (of_help h s) k = shown_kept help_text ending.HelpShown s refl k
   kept_of (of_version h s) k = shown_kept version_text ending.VersionShown s refl k
@@ -255,7 +267,7 @@ module _ (words : List (List ℕ)) (r : Ending) (f : Effect) where
   few_of : Kind → TakesFew f.left_old f.left_new
   few_of (of_none n s) = nothing_taken f.left_old f.left_new s.nothing.unread.left
   few_of (of_unbuilt u s) = nothing_taken f.left_old f.left_new s.nothing.unread.left
-  few_of (of_synth set h s) = s.few
+  few_of (of_synth set budget h s) = s.few
   few_of (of_exec set name values h s) = s.few
   few_of (of_help h s) = nothing_taken f.left_old f.left_new s.unread.left
   few_of (of_version h s) = nothing_taken f.left_old f.left_new s.unread.left
@@ -264,7 +276,7 @@ module _ (words : List (List ℕ)) (r : Ending) (f : Effect) where
   unread_of : Kind → ((set : Set) → TakesText words set → ⊥) → f.left_new ≡ f.left_old
   unread_of (of_none n s) spells = s.nothing.unread.left
   unread_of (of_unbuilt u s) spells = s.nothing.unread.left
-  unread_of (of_synth set h s) spells = absurd (spells set (inl h))
+  unread_of (of_synth set budget h s) spells = absurd (spells set (inl (record { budget = budget; is = h })))
   unread_of (of_exec set name values h s) spells = absurd (spells set (inr (name, values, h)))
   unread_of (of_help h s) spells = s.unread.left
   unread_of (of_version h s) spells = s.unread.left
@@ -284,7 +296,7 @@ module _ (words : List (List ℕ)) (r : Ending) (f : Effect) where
   ends_no_line_of : Kind → IsNoLine words → EndsNoLine r
   ends_no_line_of (of_none n s) spells = subst EndsNoLine (sym s.is) tt
   ends_no_line_of (of_unbuilt u s) spells = absurd (spells u.line u.is)
-  ends_no_line_of (of_synth set h s) spells = absurd (spells (line.Synth set h.budget false) h.is)
+  ends_no_line_of (of_synth set budget h s) spells = absurd (spells (line.Synth set budget false) h)
   ends_no_line_of (of_exec set name values h s) spells = absurd (spells (line.Exec set name values) h)
   ends_no_line_of (of_help h s) spells = absurd (spells line.Help h)
   ends_no_line_of (of_version h s) spells = absurd (spells line.Version h)
@@ -293,7 +305,7 @@ module _ (words : List (List ℕ)) (r : Ending) (f : Effect) where
   ends_unbuilt_line_of : Kind → IsUnbuiltLine words → EndsUnbuiltLine r
   ends_unbuilt_line_of (of_none n s) u = absurd (n u.line u.is)
   ends_unbuilt_line_of (of_unbuilt v s) u = subst EndsUnbuiltLine (sym s.is) tt
-  ends_unbuilt_line_of (of_synth set h s) u = unbuilt_not (line.Synth set h.budget false) refl u h.is
+  ends_unbuilt_line_of (of_synth set budget h s) u = unbuilt_not (line.Synth set budget false) refl u h
   ends_unbuilt_line_of (of_exec set name values h s) u = unbuilt_not (line.Exec set name values) refl u h
   ends_unbuilt_line_of (of_help h s) u = unbuilt_not line.Help refl u h
   ends_unbuilt_line_of (of_version h s) u = unbuilt_not line.Version refl u h
@@ -306,7 +318,7 @@ module _ (words : List (List ℕ)) (r : Ending) (f : Effect) where
   ends_help_of : Kind → IsLine words line.Help → EndsHelp r f.write_faults_old f.write_faults_new
   ends_help_of (of_none n s) h = absurd (n line.Help h)
   ends_help_of (of_unbuilt u s) h = not_unbuilt line.Help refl h u
-  ends_help_of (of_synth set g s) h = let q = one (line.Synth set g.budget false) line.Help g.is h in cc
+  ends_help_of (of_synth set budget g s) h = let q = one (line.Synth set budget false) line.Help g h in cc
   ends_help_of (of_exec set name values g s) h = let q = one (line.Exec set name values) line.Help g h in cc
   ends_help_of (of_help g s) h = shown_ends help_text ending.HelpShown (λ x. EndsHelp x f.write_faults_old f.write_faults_new) s tt (λ w. w) tt
   ends_help_of (of_version g s) h = let q = one line.Version line.Help g h in cc
@@ -315,7 +327,7 @@ module _ (words : List (List ℕ)) (r : Ending) (f : Effect) where
   ends_version_of : Kind → IsLine words line.Version → EndsVersion r f.write_faults_old f.write_faults_new
   ends_version_of (of_none n s) h = absurd (n line.Version h)
   ends_version_of (of_unbuilt u s) h = not_unbuilt line.Version refl h u
-  ends_version_of (of_synth set g s) h = let q = one (line.Synth set g.budget false) line.Version g.is h in cc
+  ends_version_of (of_synth set budget g s) h = let q = one (line.Synth set budget false) line.Version g h in cc
   ends_version_of (of_exec set name values g s) h = let q = one (line.Exec set name values) line.Version g h in cc
   ends_version_of (of_help g s) h = let q = one line.Help line.Version g h in cc
   ends_version_of (of_version g s) h = shown_ends version_text ending.VersionShown (λ x. EndsVersion x f.write_faults_old f.write_faults_new) s tt (λ w. w) tt
@@ -324,7 +336,7 @@ module _ (words : List (List ℕ)) (r : Ending) (f : Effect) where
   prefix_help_of : Kind → IsLine words line.Help → r ≡ ending.WriteFault → AppendsPrefix help_text f.held_old f.held_new
   prefix_help_of (of_none n s) h e = absurd (n line.Help h)
   prefix_help_of (of_unbuilt u s) h e = not_unbuilt line.Help refl h u
-  prefix_help_of (of_synth set g s) h e = let q = one (line.Synth set g.budget false) line.Help g.is h in cc
+  prefix_help_of (of_synth set budget g s) h e = let q = one (line.Synth set budget false) line.Help g h in cc
   prefix_help_of (of_exec set name values g s) h e = let q = one (line.Exec set name values) line.Help g h in cc
   prefix_help_of (of_help g s) h e = shown_cut help_text ending.HelpShown s (λ q. cc) (λ q. cc) e
   prefix_help_of (of_version g s) h e = let q = one line.Version line.Help g h in cc
@@ -333,30 +345,31 @@ module _ (words : List (List ℕ)) (r : Ending) (f : Effect) where
   prefix_version_of : Kind → IsLine words line.Version → r ≡ ending.WriteFault → AppendsPrefix version_text f.held_old f.held_new
   prefix_version_of (of_none n s) h e = absurd (n line.Version h)
   prefix_version_of (of_unbuilt u s) h e = not_unbuilt line.Version refl h u
-  prefix_version_of (of_synth set g s) h e = let q = one (line.Synth set g.budget false) line.Version g.is h in cc
+  prefix_version_of (of_synth set budget g s) h e = let q = one (line.Synth set budget false) line.Version g h in cc
   prefix_version_of (of_exec set name values g s) h e = let q = one (line.Exec set name values) line.Version g h in cc
   prefix_version_of (of_help g s) h e = let q = one line.Help line.Version g h in cc
   prefix_version_of (of_version g s) h e = shown_cut version_text ending.VersionShown s (λ q. cc) (λ q. cc) e
   prefix_version_of (of_memory s) h e = let q = sym s.is ∙ e in cc
 
   -- what follows for a line `synth` from its own call, or from want of memory
-  for_synth : (P : Set → Type 0) → ((set : Set) → Synthesises set r f → P set) → ((set : Set) → r ≡ ending.Memory → P set) → Kind → (set : Set) → IsSynth words set → P set
-  for_synth P a m (of_none n s) set h = absurd (n (line.Synth set h.budget false) h.is)
-  for_synth P a m (of_unbuilt u s) set h = not_unbuilt (line.Synth set h.budget false) refl h.is u
-  for_synth P a m (of_synth t g s) set h =
-      let q = one (line.Synth t g.budget false) (line.Synth set h.budget false) g.is h.is in
-      let same : t ≡ set = cc in
-      subst P same (a t s)
-  for_synth P a m (of_exec other name values g s) set h = let q = one (line.Exec other name values) (line.Synth set h.budget false) g h.is in cc
-  for_synth P a m (of_help g s) set h = let q = one line.Help (line.Synth set h.budget false) g h.is in cc
-  for_synth P a m (of_version g s) set h = let q = one line.Version (line.Synth set h.budget false) g h.is in cc
-  for_synth P a m (of_memory s) set h = m set s.is
+  for_synth : (P : Set → Budget → Type 0) → ((set : Set) (budget : Budget) → Synthesises set budget r f → P set budget) → ((set : Set) (budget : Budget) → r ≡ ending.Memory → P set budget) → Kind → (set : Set) (budget : Budget) → IsSearch words set budget → P set budget
+  for_synth P a m (of_none n s) set budget h = absurd (n (line.Synth set budget false) h)
+  for_synth P a m (of_unbuilt u s) set budget h = not_unbuilt (line.Synth set budget false) refl h u
+  for_synth P a m (of_synth t other g s) set budget h =
+      let q = one (line.Synth t other false) (line.Synth set budget false) g h in
+      let sets : t ≡ set = cc in
+      let budgets : other ≡ budget = cc in
+      subst (λ x. P x budget) sets (subst (P t) budgets (a t other s))
+  for_synth P a m (of_exec other name values g s) set budget h = let q = one (line.Exec other name values) (line.Synth set budget false) g h in cc
+  for_synth P a m (of_help g s) set budget h = let q = one line.Help (line.Synth set budget false) g h in cc
+  for_synth P a m (of_version g s) set budget h = let q = one line.Version (line.Synth set budget false) g h in cc
+  for_synth P a m (of_memory s) set budget h = m set budget s.is
 
   -- what follows for a line `exec` from its own call, or from want of memory
   for_exec : (P : Set → List ℕ → List (List ℕ) → Type 0) → ((set : Set) (name : List ℕ) (values : List (List ℕ)) → Executes set name values r f → P set name values) → ((set : Set) (name : List ℕ) (values : List (List ℕ)) → r ≡ ending.Memory → P set name values) → Kind → (set : Set) (name : List ℕ) (values : List (List ℕ)) → IsExec words set name values → P set name values
   for_exec P a m (of_none n s) set name values h = absurd (n (line.Exec set name values) h)
   for_exec P a m (of_unbuilt u s) set name values h = not_unbuilt (line.Exec set name values) refl h u
-  for_exec P a m (of_synth t g s) set name values h = let q = one (line.Synth t g.budget false) (line.Exec set name values) g.is h in cc
+  for_exec P a m (of_synth t budget g s) set name values h = let q = one (line.Synth t budget false) (line.Exec set name values) g h in cc
   for_exec P a m (of_exec t n v g s) set name values h =
       let q = one (line.Exec t n v) (line.Exec set name values) g h in
       let sets : t ≡ set = cc in
@@ -377,10 +390,16 @@ module _ {words : List (List ℕ)} {r : Ending} {f : Effect} (a : Answers words 
   not_a_line = not_a_line_of words r f the
 
   pub completed : r ≡ ending.Completed → ForSynth words (λ set. IfSome f.left_old (λ text. Writes (IsCompletion set text) f.held_old f.held_new))
-  completed e = let s = synth_of words r f ending.Completed refl the e in record { set = s.set; is = s.is; holds = (s.holds).completed e }
+  completed e = let s = synth_of words r f ending.Completed refl the e in record { set = s.set; is = record { budget = s.budget; is = s.is }; holds = (s.holds).completed e }
 
   pub none : r ≡ ending.NoCompletion → ForSynth words (λ set. IfSome f.left_old (λ text. Writes (IsNone set text) f.held_old f.held_new))
-  none e = let s = synth_of words r f ending.NoCompletion refl the e in record { set = s.set; is = s.is; holds = (s.holds).none e }
+  none e = let s = synth_of words r f ending.NoCompletion refl the e in record { set = s.set; is = record { budget = s.budget; is = s.is }; holds = (s.holds).none e }
+
+  pub spent_rounds : (pairs : List Pair) (best : Option Choice) → r ≡ ending.SpentRounds pairs best → ForSearch words (λ set budget. AreSpent budget.rounds pairs × IfSome f.left_old (λ text. Writes (IsSpentRounds set budget text pairs best) f.held_old f.held_new))
+  spent_rounds pairs best e = let s = synth_of words r f (ending.SpentRounds pairs best) refl the e in record { set = s.set; budget = s.budget; is = s.is; holds = (s.holds).rounds pairs best e }
+
+  pub spent_conflicts : (pairs : List Pair) (q : Query) (formula : Encoded) (log : List (List Lit)) (best : Option Choice) → r ≡ ending.SpentConflicts pairs q formula log best → ForSearch words (λ set budget. AreLearnt budget.conflicts log × IfSome f.left_old (λ text. Writes (IsSpentConflicts set budget text pairs q formula log best) f.held_old f.held_new))
+  spent_conflicts pairs q formula log best e = let s = synth_of words r f (ending.SpentConflicts pairs q formula log best) refl the e in record { set = s.set; budget = s.budget; is = s.is; holds = (s.holds).conflicts pairs q formula log best e }
 
   pub help : r ≡ ending.HelpShown → IsLine words line.Help × Appends help_text f.held_old f.held_new
   help = help_of words r f the
@@ -409,44 +428,44 @@ module _ {words : List (List ℕ)} {r : Ending} {f : Effect} (a : Answers words 
       record { set = s.set; name = s.name; values = s.values; is = s.is; holds = by_exec.told_by s.set s.name s.values r f (λ text. IsNotRun s.set s.name s.values text reason) (λ text w. by_exec.not_run_by s.set s.name s.values r f reason e text w) (s.holds).runs }
 
   -- what is told of the text by an ending of lines that take one
-  told_of : (x : Ending) → is_of_text x ≡ true → (P : Set → List ℕ → Type 0) → ((set : Set) → Synthesises set r f → IfSome f.left_old (P set)) → ((set : Set) (name : List ℕ) (values : List (List ℕ)) → Executes set name values r f → IfSome f.left_old (P set)) → r ≡ x → ForText words (λ set. IfSome f.left_old (P set))
+  told_of : (x : Ending) → is_of_text x ≡ true → (P : Set → List ℕ → Type 0) → ((set : Set) (budget : Budget) → Synthesises set budget r f → IfSome f.left_old (P set)) → ((set : Set) (name : List ℕ) (values : List (List ℕ)) → Executes set name values r f → IfSome f.left_old (P set)) → r ≡ x → ForText words (λ set. IfSome f.left_old (P set))
   told_of x a P k l e = text_of words r f x a (λ set. IfSome f.left_old (P set)) k l the e
 
   pub not_text : (fault : TextFault) → r ≡ ending.NotText fault → IfSome f.left_old (IsTextFault fault)
   not_text fault e =
       (told_of (ending.NotText fault) refl (λ set text. IsTextFault fault text)
-      (λ set s. told_as words r f set s (ending.NotText fault) (IsTextFault fault) (λ text h. h.1) e)
+      (λ set budget s. told_as words r f set budget s (ending.NotText fault) (IsTextFault fault) (λ text h. h.1) e)
       (λ set name values s. by_exec.told_by set name values r f (IsTextFault fault) (λ text w. by_exec.not_text_by set name values r f fault e text w) s.runs) e).holds
 
   pub not_typed : (fault : TypeFault) → r ≡ ending.NotTyped fault → ForText words (λ set. IfSome f.left_old (IsUntyped set))
   not_typed fault e =
       told_of (ending.NotTyped fault) refl IsUntyped
-      (λ set s. told_as words r f set s (ending.NotTyped fault) (IsUntyped set) (λ text h. h.1) e)
+      (λ set budget s. told_as words r f set budget s (ending.NotTyped fault) (IsUntyped set) (λ text h. h.1) e)
       (λ set name values s. by_exec.told_by set name values r f (IsUntyped set) (λ text w. by_exec.not_typed_by set name values r f fault e text w) s.runs) e
 
   pub text_place : (fault : TextFault) → r ≡ ending.NotText fault → IfSome f.left_old (λ text. byte_of fault ≤ length text)
   text_place fault e = mapped f.left_old (IsTextFault fault) (λ text. byte_of fault ≤ length text) (λ text h. byte_within text fault h) (not_text fault e)
 
   pub type_place : (fault : TypeFault) → r ≡ ending.NotTyped fault → IfSome f.left_old (λ text. HasSpan text fault.span)
-  type_place fault e = (text_of words r f (ending.NotTyped fault) refl (λ set. IfSome f.left_old (λ text. HasSpan text fault.span)) (λ set s. s.place fault e) (λ set name values s. s.place fault e) the e).holds
+  type_place fault e = (text_of words r f (ending.NotTyped fault) refl (λ set. IfSome f.left_old (λ text. HasSpan text fault.span)) (λ set budget s. s.place fault e) (λ set name values s. s.place fault e) the e).holds
 
   pub too_large : (reason : SizeFault) → r ≡ ending.TooLarge reason → ForText words (λ set. IfSome f.left_old (λ text. IsTooLarge set text reason))
   too_large reason e =
       told_of (ending.TooLarge reason) refl (λ set text. IsTooLarge set text reason)
-      (λ set s. told_as words r f set s (ending.TooLarge reason) (λ text. IsTooLarge set text reason) (λ text h. h) e)
+      (λ set budget s. told_as words r f set budget s (ending.TooLarge reason) (λ text. IsTooLarge set text reason) (λ text h. h) e)
       (λ set name values s. by_exec.told_by set name values r f (λ text. IsTooLarge set text reason) (λ text w. by_exec.too_large_by set name values r f reason e text w) s.runs) e
 
-  pub not_built : r ≡ ending.NotBuilt → IsUnbuiltLine words ⊎ ForSynth words (λ set. IfSome f.left_old (IsNotBuilt set))
+  pub not_built : r ≡ ending.NotBuilt → IsUnbuiltLine words
   not_built = not_built_of words r f the
 
   pub too_long : r ≡ ending.TooLong → IfSome f.left_old (λ text. most_bytes < length text)
   too_long e =
       (told_of ending.TooLong refl (λ set text. most_bytes < length text)
-      (λ set s. told_as words r f set s ending.TooLong (λ text. most_bytes < length text) (λ text h. h) e)
+      (λ set budget s. told_as words r f set budget s ending.TooLong (λ text. most_bytes < length text) (λ text h. h) e)
       (λ set name values s. by_exec.told_by set name values r f (λ text. most_bytes < length text) (λ text w. by_exec.too_long_by set name values r f e text w) s.runs) e).holds
 
   pub read_fault : r ≡ ending.ReadFault → Rose f.read_faults_old f.read_faults_new
-  read_fault e = (text_of words r f ending.ReadFault refl (λ set. Rose f.read_faults_old f.read_faults_new) (λ set s. s.read_fault e) (λ set name values s. by_exec.read_fault_by set name values r f s.runs e) the e).holds
+  read_fault e = (text_of words r f ending.ReadFault refl (λ set. Rose f.read_faults_old f.read_faults_new) (λ set budget s. s.read_fault e) (λ set name values s. by_exec.read_fault_by set name values r f s.runs e) the e).holds
 
   pub write_fault : r ≡ ending.WriteFault → Rose f.write_faults_old f.write_faults_new
   write_fault = write_fault_of words r f the
@@ -482,8 +501,12 @@ module _ {words : List (List ℕ)} {r : Ending} {f : Effect} (a : Answers words 
   ends_version = ends_version_of words r f the
 
   -- what follows for a line `synth` from what is told of its text; of want of memory that is nothing
+  for_search : (P : Set → Budget → List ℕ → Type 0) → ((set : Set) (budget : Budget) → Synthesises set budget r f → (text : List ℕ) → IsToldOf set text r f.read_faults_old f.read_faults_new f.write_faults_old f.write_faults_new → P set budget text) → ((set : Set) (budget : Budget) (text : List ℕ) → r ≡ ending.Memory → P set budget text) → (set : Set) (budget : Budget) → IsSearch words set budget → IfSome f.left_old (P set budget)
+  for_search P k m = for_synth words r f (λ set budget. IfSome f.left_old (P set budget)) (λ set budget s. mapped f.left_old (λ text. IsToldOf set text r f.read_faults_old f.read_faults_new f.write_faults_old f.write_faults_new) (P set budget) (k set budget s) s.told) (λ set budget e. every f.left_old (P set budget) (λ text. m set budget text e)) the
+
+  -- whatever its budgets are
   for_text : (P : Set → List ℕ → Type 0) → ((set : Set) (text : List ℕ) → IsToldOf set text r f.read_faults_old f.read_faults_new f.write_faults_old f.write_faults_new → P set text) → (set : Set) → IsSynth words set → IfSome f.left_old (P set)
-  for_text P k = for_synth words r f (λ set. IfSome f.left_old (P set)) (λ set s. mapped f.left_old (λ text. IsToldOf set text r f.read_faults_old f.read_faults_new f.write_faults_old f.write_faults_new) (P set) (k set) s.told) (λ set m. every f.left_old (P set) (λ text. k set text (subst (λ x. IsToldOf set text x f.read_faults_old f.read_faults_new f.write_faults_old f.write_faults_new) (sym m) tt))) the
+  for_text P k set h = for_search (λ s budget text. P s text) (λ s budget called text told. k s text told) (λ s budget text m. k s text (subst (λ x. IsToldOf s text x f.read_faults_old f.read_faults_new f.write_faults_old f.write_faults_new) (sym m) tt)) set h.budget h.is
 
   -- the same for a line `exec`
   for_exec_text : (P : Set → List ℕ → List (List ℕ) → List ℕ → Type 0) → ((set : Set) (name : List ℕ) (values : List (List ℕ)) (text : List ℕ) → by_exec.Came set name values r f text → P set name values text) → (set : Set) (name : List ℕ) (values : List (List ℕ)) → IsExec words set name values → IfSome f.left_old (P set name values)
@@ -494,8 +517,36 @@ module _ {words : List (List ℕ)} {r : Ending} {f : Effect} (a : Answers words 
   for_either P k l set (inl h) = k set h
   for_either P k l set (inr h) = l set h.0 h.1 h.2
 
-  pub ends_built : (set : Set) → IsSynth words set → IfSome f.left_old (λ text. (bounds : Bounds) (e : Expanded) → IsBuilt set text bounds e → EndsBuilt r f.read_faults_old f.read_faults_new f.write_faults_old f.write_faults_new)
-  ends_built = for_text (λ set text. (bounds : Bounds) (e : Expanded) → IsBuilt set text bounds e → EndsBuilt r f.read_faults_old f.read_faults_new f.write_faults_old f.write_faults_new) (λ set text. by.ends_built set text f.read_faults_old f.read_faults_new f.write_faults_old f.write_faults_new r)
+  -- a budget that is spent is not 0
+  allowed : (set : Set) (budget : Budget) → Synthesises set budget r f → (x : Ending) → r ≡ x → by.IsAllowed budget x
+  allowed set budget s (ending.SpentRounds pairs best) e = (s.rounds pairs best e).0.some
+  allowed set budget s (ending.SpentConflicts pairs q formula log best) e = (s.conflicts pairs q formula log best e).0.some
+  allowed set budget s ending.Completed e = tt
+  allowed set budget s ending.NoCompletion e = tt
+  allowed set budget s ending.HelpShown e = tt
+  allowed set budget s ending.VersionShown e = tt
+  allowed set budget s ending.NotALine e = tt
+  allowed set budget s ending.NotBuilt e = tt
+  allowed set budget s ending.ExecDone e = tt
+  allowed set budget s (ending.ExecFailed span) e = tt
+  allowed set budget s (ending.ExecSkipped span) e = tt
+  allowed set budget s (ending.NotText fault) e = tt
+  allowed set budget s (ending.NotTyped fault) e = tt
+  allowed set budget s (ending.TooLarge reason) e = tt
+  allowed set budget s (ending.NotRun reason) e = tt
+  allowed set budget s ending.ReadFault e = tt
+  allowed set budget s ending.WriteFault e = tt
+  allowed set budget s ending.TooLong e = tt
+  allowed set budget s ending.Memory e = tt
+
+  abbrev Built : Set → Budget → List ℕ → Type 0
+  Built set budget text = (bounds : Bounds) (e : Expanded) → IsBuilt set text bounds e → EndsBuilt budget r f.read_faults_old f.read_faults_new f.write_faults_old f.write_faults_new
+
+  pub ends_built : (set : Set) (budget : Budget) → IsSearch words set budget → IfSome f.left_old (λ text. (bounds : Bounds) (e : Expanded) → IsBuilt set text bounds e → EndsBuilt budget r f.read_faults_old f.read_faults_new f.write_faults_old f.write_faults_new)
+  ends_built =
+      for_search Built
+      (λ set budget s text told. by.ends_built set text f.read_faults_old f.read_faults_new f.write_faults_old f.write_faults_new budget r (allowed set budget s r refl) told)
+      (λ set budget text m bounds e is. subst (λ x. EndsBuilt budget x f.read_faults_old f.read_faults_new f.write_faults_old f.write_faults_new) (sym m) tt)
 
   pub ends_faulty : (set : Set) → TakesText words set → IfSome f.left_old (λ text. length text ≤ most_bytes → (fault : TextFault) → IsTextFault fault text → EndsFaulty fault r f.read_faults_old f.read_faults_new)
   ends_faulty =
@@ -524,9 +575,6 @@ module _ {words : List (List ℕ)} {r : Ending} {f : Effect} (a : Answers words 
   pub ends_not_run : (set : Set) (name : List ℕ) (values : List (List ℕ)) → IsExec words set name values → IfSome f.left_old (λ text. (reason : ExecFault) → IsNotRun set name values text reason → EndsNotRun reason r f.read_faults_old f.read_faults_new)
   ends_not_run = for_exec_text (λ set name values text. (reason : ExecFault) → IsNotRun set name values text reason → EndsNotRun reason r f.read_faults_old f.read_faults_new) (λ set name values text w. by_exec.ends_not_run_by set name values r f text w)
 
-  pub ends_unbuilt : (set : Set) → IsSynth words set → IfSome f.left_old (λ text. IsNotBuilt set text → EndsUnbuilt r f.read_faults_old f.read_faults_new)
-  ends_unbuilt = for_text (λ set text. IsNotBuilt set text → EndsUnbuilt r f.read_faults_old f.read_faults_new) (λ set text. by.ends_unbuilt set text f.read_faults_old f.read_faults_new f.write_faults_old f.write_faults_new r)
-
   pub ends_long : (set : Set) → TakesText words set → IfSome f.left_old (λ text. most_bytes < length text → EndsLong r f.read_faults_old f.read_faults_new)
   ends_long =
       for_either (λ set text. most_bytes < length text → EndsLong r f.read_faults_old f.read_faults_new)
@@ -534,7 +582,7 @@ module _ {words : List (List ℕ)} {r : Ending} {f : Effect} (a : Answers words 
       (for_exec_text (λ set name values text. most_bytes < length text → EndsLong r f.read_faults_old f.read_faults_new) (λ set name values text w. by_exec.ends_long_by set name values r f text w))
 
 -- a call for a line `synth` without a certificate
-pub serves_synth : (l : Line) (set : Set) (budget : Budget) (r : Ending) (f : Effect) → l ≡ line.Synth set budget false → Synthesises set r f → Serves l r f
+pub serves_synth : (l : Line) (set : Set) (budget : Budget) (r : Ending) (f : Effect) → l ≡ line.Synth set budget false → Synthesises set budget r f → Serves l r f
 serves_synth l set budget r f is s = subst (λ x. Serves x r f) (sym is) s
 
 -- a call for a line `exec`

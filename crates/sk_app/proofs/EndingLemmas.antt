@@ -1,9 +1,8 @@
 -- What the endings of a line `synth` tell of its text.
-use Rattle.std.proofs.Common.{ℕ, List, Option, Some, None, ◌≤◌, ◌≡◌, length, inl, inr, sym, subst, ap, ◌∙◌}
+use Rattle.std.proofs.Common.{ℕ, List, Option, Some, None, ◌≤◌, ◌≡◌, length, sym, subst, ap, ◌∙◌}
 use Rattle.std.specs.Prelude.{IfSome}
-use Rattle.std.specs.declared.alloc.Global.{Global}
-use Rattle.std.specs.declared.vec.Vec.{Vec}
 use Rattle.sk_base.specs.Stream.{Rose}
+use Rattle.sk_base.specs.declared.bounds.Budget.{Budget}
 use Rattle.sk_check.specs.declared.fault.TypeFault.{TypeFault}
 use Rattle.sk_sizes.specs.declared.fault.SizeFault.{SizeFault}
 use Rattle.sk_model.specs.declared.outcome.Outcome.{Outcome}
@@ -20,52 +19,34 @@ use Rattle.sk_app.specs.declared.prepare.Prepared.{Prepared}
 use Rattle.sk_app.specs.declared.prepare.Prepared.TheVariants as prepared
 use Rattle.sk_app.specs.declared.ending.Ending.{Ending}
 use Rattle.sk_app.specs.declared.ending.Ending.TheVariants as ending
-use Rattle.sk_app.specs.Built.{IsTaken, IsNotBuilt}
-use Rattle.sk_app.specs.Prepared.{Finds, IsPrepared}
-use Rattle.sk_app.specs.Streams.{IsWhole, AppendsPrefix}
-use Rattle.sk_app.specs.Ends.{IsDelivered, delivered, cut, no_room, WritesPart, IsToldOf, ending_of}
-use Rattle.sk_app.specs.Effects.{IsResult, refusal}
+use Rattle.sk_app.specs.Prepared.{Finds, IsPossible, IsPrepared}
+use Rattle.sk_app.specs.Streams.{IsWhole}
+use Rattle.sk_app.specs.Ends.{IsDelivered, delivered, cut, no_room, IsToldOf, ending_of}
+use Rattle.sk_app.specs.Effects.{refusal}
 
-module _ (set : Set) where
+module _ (set : Set) (budget : Budget) where
   -- what was found of the text is what the ending tells of it
 
-  pub told_not_text : (left : Option (List ℕ)) (fault : TextFault) → IfSome left (Finds set (found.NotText fault)) → IfSome left (λ text. (length text ≤ most_bytes) × IsTextFault fault text)
+  pub told_not_text : (left : Option (List ℕ)) (fault : TextFault) → IfSome left (Finds set budget (found.NotText fault)) → IfSome left (λ text. (length text ≤ most_bytes) × IsTextFault fault text)
   told_not_text None fault h = tt
   told_not_text (Some text) fault h = (h.short, h.found)
 
-  pub told_not_typed : (left : Option (List ℕ)) (fault : TypeFault) → IfSome left (Finds set (found.NotTyped fault)) → IfSome left (λ text. (length text ≤ most_bytes) × IsUntyped set text)
+  pub told_not_typed : (left : Option (List ℕ)) (fault : TypeFault) → IfSome left (Finds set budget (found.NotTyped fault)) → IfSome left (λ text. (length text ≤ most_bytes) × IsUntyped set text)
   told_not_typed None fault h = tt
   told_not_typed (Some text) fault h = (h.short, h.found.0)
 
-  pub placed_not_typed : (left : Option (List ℕ)) (a b : TypeFault) → IfSome left (Finds set (found.NotTyped a)) → ending.NotTyped a ≡ ending.NotTyped b → IfSome left (λ text. HasSpan text b.span)
+  pub placed_not_typed : (left : Option (List ℕ)) (a b : TypeFault) → IfSome left (Finds set budget (found.NotTyped a)) → ending.NotTyped a ≡ ending.NotTyped b → IfSome left (λ text. HasSpan text b.span)
   placed_not_typed None a b h e = tt
   placed_not_typed (Some text) a b h e = let same : a ≡ b = cc in subst (λ x. HasSpan text x.span) same h.found.1
 
-  pub told_too_large : (left : Option (List ℕ)) (reason : SizeFault) → IfSome left (Finds set (found.TooLarge reason)) → IfSome left (λ text. IsTooLarge set text reason)
+  pub told_too_large : (left : Option (List ℕ)) (reason : SizeFault) → IfSome left (Finds set budget (found.TooLarge reason)) → IfSome left (λ text. IsTooLarge set text reason)
   told_too_large None reason h = tt
   told_too_large (Some text) reason h = h.found
 
-  pub told_not_built : (left : Option (List ℕ)) → IfSome left (Finds set found.NotBuilt) → IfSome left (IsNotBuilt set)
-  told_not_built None h = tt
-  told_not_built (Some text) h = h.found
-
-  -- a prefix of a result text that was cut off
-
-  cut_off : (r done : Ending) (out : List ℕ) (c d : ℕ) (old new : Option (List ℕ)) → (done ≡ ending.WriteFault → ⊥) → (ending.Memory ≡ ending.WriteFault → ⊥) → IsDelivered r done out c d old new → r ≡ ending.WriteFault → AppendsPrefix out old new
-  cut_off r done out c d old new x y h e = elim h [ delivered is w ↦ absurd (x (sym is ∙ e)) | cut is w ↦ w.appends | no_room is same ↦ absurd (y (sym is ∙ e)) ]
-
-  pub part_of_nothing : (left : Option (List ℕ)) (out : Vec ℕ Global) (bytes : List ℕ) (r : Ending) (c d : ℕ) (old new : Option (List ℕ)) → bytes ≡ out.items → IfSome left (Finds set (found.Nothing out)) → IsDelivered r ending.NoCompletion bytes c d old new → r ≡ ending.WriteFault → IfSome left (λ text. WritesPart (IsResult set text) old new)
-  part_of_nothing None out bytes r c d old new same h by e = tt
-  part_of_nothing (Some text) out bytes r c d old new same h by e = record { out = bytes; is = subst (IsResult set text) (sym same) (inr h.found); appends = cut_off r ending.NoCompletion bytes c d old new (λ q. cc) (λ q. cc) by e }
-
-  pub part_of_completion : (left : Option (List ℕ)) (out : Vec ℕ Global) (bytes : List ℕ) (r : Ending) (c d : ℕ) (old new : Option (List ℕ)) → bytes ≡ out.items → IfSome left (Finds set (found.Completion out)) → IsDelivered r ending.Completed bytes c d old new → r ≡ ending.WriteFault → IfSome left (λ text. WritesPart (IsResult set text) old new)
-  part_of_completion None out bytes r c d old new same h by e = tt
-  part_of_completion (Some text) out bytes r c d old new same h by e = record { out = bytes; is = subst (IsResult set text) (sym same) (inl h.found); appends = cut_off r ending.Completed bytes c d old new (λ q. cc) (λ q. cc) by e }
-
-module _ (set : Set) (a b : ℕ) where
+module _ (set : Set) (budget : Budget) (a b : ℕ) where
   -- what was found of a text that was read
-  pub found_of : (p : Prepared) (f g : Found) (left : Option (List ℕ)) → p ≡ prepared.Found f → f ≡ g → IsPrepared set p a b left → IfSome left (Finds set g)
-  found_of p f g left is same h = subst (λ x. IsPrepared set x a b left) (is ∙ ap prepared.Found same) h
+  pub found_of : (p : Prepared) (f g : Found) (left : Option (List ℕ)) → p ≡ prepared.Found f → f ≡ g → IsPrepared set budget p a b left → IsPossible budget g × IfSome left (Finds set budget g)
+  found_of p f g left is same h = subst (λ x. IsPrepared set budget x a b left) (is ∙ ap prepared.Found same) h
 
 module _ (set : Set) (a b c d : ℕ) where
   abbrev Told : Ending → List ℕ → Type 0
@@ -78,26 +59,6 @@ module _ (set : Set) (a b c d : ℕ) where
   pub told_read_fault : (left : Option (List ℕ)) → Rose a b → IfSome left (λ text. IsToldOf set text ending.ReadFault a b c d)
   told_read_fault None h = tt
   told_read_fault (Some text) h = h
-
-  -- a result text that was delivered, cut off, or had no room
-  told_done : (text : List ℕ) (r done : Ending) (out : List ℕ) (old new : Option (List ℕ)) → Told done text → IsTaken set text → IsDelivered r done out c d old new → Told r text
-  told_done text r done out old new whole taken h = elim h [
-    | delivered is w ↦ subst (λ x. Told x text) (sym is) whole
-    | cut is w ↦ subst (λ x. Told x text) (sym is) (w.rose, taken)
-    | no_room is same ↦ subst (λ x. Told x text) (sym is) tt
-  ]
-
-  pub told_nothing : (left : Option (List ℕ)) (out : Vec ℕ Global) (r : Ending) (bytes : List ℕ) (old new : Option (List ℕ)) → IfSome left (Finds set (found.Nothing out)) → IsDelivered r ending.NoCompletion bytes c d old new → IfSome left (λ text. IsToldOf set text r a b c d)
-  told_nothing None out r bytes old new h by = tt
-  told_nothing (Some text) out r bytes old new h by =
-      let taken : IsTaken set text = record { bounds = h.found.bounds; e = h.found.e; built = h.found.only.built } in
-      told_done text r ending.NoCompletion bytes old new taken taken by
-
-  pub told_completion : (left : Option (List ℕ)) (out : Vec ℕ Global) (r : Ending) (bytes : List ℕ) (old new : Option (List ℕ)) → IfSome left (Finds set (found.Completion out)) → IsDelivered r ending.Completed bytes c d old new → IfSome left (λ text. IsToldOf set text r a b c d)
-  told_completion None out r bytes old new h by = tt
-  told_completion (Some text) out r bytes old new h by =
-      let taken : IsTaken set text = record { bounds = h.found.bounds; e = h.found.e; built = h.found.only.built } in
-      told_done text r ending.Completed bytes old new taken taken by
 
 -- Places of faults of types
 

@@ -43,6 +43,8 @@ is_run _ = false
 abbrev pub is_of_exec : Ending → Bool
 is_of_exec ending.Completed = false
 is_of_exec ending.NoCompletion = false
+is_of_exec (ending.SpentRounds pairs best) = false
+is_of_exec (ending.SpentConflicts pairs q f log best) = false
 is_of_exec ending.NotALine = false
 is_of_exec ending.HelpShown = false
 is_of_exec ending.VersionShown = false

@@ -1,6 +1,8 @@
 mod StreamLemmas
 mod EndingLemmas
+mod EndedLaws
 mod ToldLaws
 mod ExecLaws
 mod EffectLaws
+pub mod SpentLaws
 pub mod CompleteLaws

@@ -1,6 +1,7 @@
 -- What is told of a text is all that can be told of it: which endings there are for a text, by its cause.
-use Rattle.std.proofs.Common.{ℕ, List, ◌≤◌, ◌<◌, ◌≡◌, length, sym, subst, ◌∙◌, arith}
+use Rattle.std.proofs.Common.{ℕ, List, ◌≤◌, ◌<◌, length, arith}
 use Rattle.sk_base.specs.declared.bounds.Bounds.{Bounds}
+use Rattle.sk_base.specs.declared.bounds.Budget.{Budget}
 use Rattle.sk_check.specs.declared.fault.TypeFault.{TypeFault}
 use Rattle.sk_check.specs.declared.fault.Rule.TheVariants as rule
 use Rattle.sk_sizes.specs.declared.fault.SizeFault.{SizeFault}
@@ -11,32 +12,27 @@ use Rattle.sk_front.specs.declared.fault.SketchFault.{SketchFault}
 use Rattle.sk_front.specs.declared.fault.SketchFault.TheVariants as fault
 use Rattle.sk_front.specs.Texts.{most_bytes, IsTextFault}
 use Rattle.sk_front.specs.Front.{IsUntyped, IsTooLarge, IsCause, IsSame, IsFaultOfSizes}
-use Rattle.sk_front.proofs.FrontLaws.{one_program, one_expansion, one_cause, sizes_or_cause}
+use Rattle.sk_front.proofs.FrontLaws.{one_cause, sizes_or_cause}
 use Rattle.sk_app.specs.declared.ending.Ending.{Ending}
 use Rattle.sk_app.specs.declared.ending.Ending.TheVariants as ending
-use Rattle.sk_trials.specs.Counts.{IsSmall}
-use Rattle.sk_app.specs.Built.{IsBuilt, IsTaken, IsNotBuilt}
-use Rattle.sk_app.specs.Ends.{IsToldOf, EndsBuilt, EndsFaulty, EndsUntyped, EndsLarge, EndsUnbuilt, EndsLong}
+use Rattle.sk_app.specs.Built.{IsBuilt, IsTaken}
+use Rattle.sk_app.specs.Ends.{IsToldOf, EndsBuilt, EndsFaulty, EndsUntyped, EndsLarge, EndsLong}
 
 -- a fault of types: of a text that has one, no definition says which is told
 pub some_fault : TypeFault
 some_fault = record { rule = rule.Mismatch; span = record { from = 0; to = 0 } }
 
+-- an ending for a spent budget comes only where that budget is not 0
+abbrev pub IsAllowed : Budget → Ending → Type 0
+IsAllowed budget (ending.SpentRounds pairs best) = 0 < budget.rounds
+IsAllowed budget (ending.SpentConflicts pairs q f log best) = 0 < budget.conflicts
+IsAllowed budget _ = Unit {0}
+
 module _ (set : Set) (text : List ℕ) where
-  -- a text that is taken has no cause, and is not one that is not taken
+  -- a text that is taken has no cause
 
   taken_or_cause : {A : Type 0} (f : SketchFault) → IsTaken set text → IsCause (IsFaultOfSizes set text) f → A
   taken_or_cause f t cause = let b = t.built in absurd (sizes_or_cause set text b.tree t.bounds b.prog t.e f b.sized cause)
-
-  unbuilt_or_cause : {A : Type 0} (f : SketchFault) → IsNotBuilt set text → IsCause (IsFaultOfSizes set text) f → A
-  unbuilt_or_cause f n cause = absurd (sizes_or_cause set text n.tree n.bounds n.prog n.e f n.sized cause)
-
-  taken_or_unbuilt : {A : Type 0} → IsTaken set text → IsNotBuilt set text → A
-  taken_or_unbuilt t n =
-      let b = t.built in
-      let same = one_program set text b.tree n.tree t.bounds n.bounds b.prog n.prog b.sized.typed n.sized.typed in
-      let once : t.e ≡ n.e = b.sized.is ∙ one_expansion set text b.tree n.tree t.bounds n.bounds b.prog n.prog b.sized.typed n.sized.typed ∙ sym n.sized.is in
-      absurd (n.large (subst (λ c. IsSmall c n.e) same.1 (subst (λ z. IsSmall t.bounds z) once b.small)))
 
   -- two causes are one
   one : {A : Type 0} (f g : SketchFault) → IsCause (IsFaultOfSizes set text) f → IsCause (IsFaultOfSizes set text) g → (IsSame f g → A) → A
@@ -49,35 +45,39 @@ module _ (set : Set) (text : List ℕ) where
   short_of t = t.built.sized.typed.short
 
   module _ (a b c d : ℕ) where
-    pub ends_built : (r : Ending) → IsToldOf set text r a b c d → (bounds : Bounds) (e : Expanded) → IsBuilt set text bounds e → EndsBuilt r a b c d
-    ends_built ending.Completed h bounds e is = tt
-    ends_built ending.NoCompletion h bounds e is = tt
-    ends_built ending.Memory h bounds e is = tt
-    ends_built ending.ReadFault h bounds e is = h
-    ends_built ending.WriteFault h bounds e is = h.0
-    ends_built (ending.NotText f) h bounds e is = taken_or_cause (fault.NotText f) (record { bounds = bounds; e = e; built = is }) h.1
-    ends_built (ending.NotTyped f) h bounds e is = taken_or_cause (fault.NotTyped f) (record { bounds = bounds; e = e; built = is }) h.1
-    ends_built (ending.TooLarge s) h bounds e is = taken_or_cause (fault.TooLarge s) (record { bounds = bounds; e = e; built = is }) h
-    ends_built ending.NotBuilt h bounds e is = taken_or_unbuilt (record { bounds = bounds; e = e; built = is }) h
-    ends_built ending.TooLong h bounds e is = too_long is.sized.typed.short h
-    ends_built ending.NotALine h bounds e is = absurd h
-    ends_built ending.HelpShown h bounds e is = absurd h
-    ends_built ending.VersionShown h bounds e is = absurd h
-    ends_built ending.ExecDone h bounds e is = absurd h
-    ends_built (ending.ExecFailed span) h bounds e is = absurd h
-    ends_built (ending.ExecSkipped span) h bounds e is = absurd h
-    ends_built (ending.NotRun reason) h bounds e is = absurd h
+    pub ends_built : (budget : Budget) (r : Ending) → IsAllowed budget r → IsToldOf set text r a b c d → (bounds : Bounds) (e : Expanded) → IsBuilt set text bounds e → EndsBuilt budget r a b c d
+    ends_built budget ending.Completed some h bounds e is = tt
+    ends_built budget ending.NoCompletion some h bounds e is = tt
+    ends_built budget (ending.SpentRounds pairs best) some h bounds e is = some
+    ends_built budget (ending.SpentConflicts pairs q formula log best) some h bounds e is = some
+    ends_built budget ending.Memory some h bounds e is = tt
+    ends_built budget ending.ReadFault some h bounds e is = h
+    ends_built budget ending.WriteFault some h bounds e is = h.0
+    ends_built budget (ending.NotText f) some h bounds e is = taken_or_cause (fault.NotText f) (record { bounds = bounds; e = e; built = is }) h.1
+    ends_built budget (ending.NotTyped f) some h bounds e is = taken_or_cause (fault.NotTyped f) (record { bounds = bounds; e = e; built = is }) h.1
+    ends_built budget (ending.TooLarge s) some h bounds e is = taken_or_cause (fault.TooLarge s) (record { bounds = bounds; e = e; built = is }) h
+    ends_built budget ending.NotBuilt some h bounds e is = absurd h
+    ends_built budget ending.TooLong some h bounds e is = too_long is.sized.typed.short h
+    ends_built budget ending.NotALine some h bounds e is = absurd h
+    ends_built budget ending.HelpShown some h bounds e is = absurd h
+    ends_built budget ending.VersionShown some h bounds e is = absurd h
+    ends_built budget ending.ExecDone some h bounds e is = absurd h
+    ends_built budget (ending.ExecFailed span) some h bounds e is = absurd h
+    ends_built budget (ending.ExecSkipped span) some h bounds e is = absurd h
+    ends_built budget (ending.NotRun reason) some h bounds e is = absurd h
 
     pub ends_faulty : (r : Ending) → IsToldOf set text r a b c d → length text ≤ most_bytes → (f : TextFault) → IsTextFault f text → EndsFaulty f r a b
     ends_faulty ending.Completed h short f is = taken_or_cause (fault.NotText f) h is
     ends_faulty ending.NoCompletion h short f is = taken_or_cause (fault.NotText f) h is
+    ends_faulty (ending.SpentRounds pairs best) h short f is = taken_or_cause (fault.NotText f) h is
+    ends_faulty (ending.SpentConflicts pairs q formula log best) h short f is = taken_or_cause (fault.NotText f) h is
     ends_faulty ending.Memory h short f is = tt
     ends_faulty ending.ReadFault h short f is = h
     ends_faulty ending.WriteFault h short f is = taken_or_cause (fault.NotText f) h.1 is
     ends_faulty (ending.NotText g) h short f is = one (fault.NotText f) (fault.NotText g) is h.1 (λ same. same)
     ends_faulty (ending.NotTyped g) h short f is = one (fault.NotText f) (fault.NotTyped g) is h.1 (λ same. absurd same)
     ends_faulty (ending.TooLarge s) h short f is = one (fault.NotText f) (fault.TooLarge s) is h (λ same. absurd same)
-    ends_faulty ending.NotBuilt h short f is = unbuilt_or_cause (fault.NotText f) h is
+    ends_faulty ending.NotBuilt h short f is = absurd h
     ends_faulty ending.TooLong h short f is = too_long short h
     ends_faulty ending.NotALine h short f is = absurd h
     ends_faulty ending.HelpShown h short f is = absurd h
@@ -90,13 +90,15 @@ module _ (set : Set) (text : List ℕ) where
     pub ends_untyped : (r : Ending) → IsToldOf set text r a b c d → length text ≤ most_bytes → IsUntyped set text → EndsUntyped r a b
     ends_untyped ending.Completed h short n = taken_or_cause (fault.NotTyped some_fault) h n
     ends_untyped ending.NoCompletion h short n = taken_or_cause (fault.NotTyped some_fault) h n
+    ends_untyped (ending.SpentRounds pairs best) h short n = taken_or_cause (fault.NotTyped some_fault) h n
+    ends_untyped (ending.SpentConflicts pairs q formula log best) h short n = taken_or_cause (fault.NotTyped some_fault) h n
     ends_untyped ending.Memory h short n = tt
     ends_untyped ending.ReadFault h short n = h
     ends_untyped ending.WriteFault h short n = taken_or_cause (fault.NotTyped some_fault) h.1 n
     ends_untyped (ending.NotText g) h short n = one (fault.NotTyped some_fault) (fault.NotText g) n h.1 (λ same. absurd same)
     ends_untyped (ending.NotTyped g) h short n = tt
     ends_untyped (ending.TooLarge s) h short n = one (fault.NotTyped some_fault) (fault.TooLarge s) n h (λ same. absurd same)
-    ends_untyped ending.NotBuilt h short n = unbuilt_or_cause (fault.NotTyped some_fault) h n
+    ends_untyped ending.NotBuilt h short n = absurd h
     ends_untyped ending.TooLong h short n = too_long short h
     ends_untyped ending.NotALine h short n = absurd h
     ends_untyped ending.HelpShown h short n = absurd h
@@ -109,13 +111,15 @@ module _ (set : Set) (text : List ℕ) where
     pub ends_large : (r : Ending) → IsToldOf set text r a b c d → (s : SizeFault) → IsTooLarge set text s → EndsLarge s r a b
     ends_large ending.Completed h s is = taken_or_cause (fault.TooLarge s) h is
     ends_large ending.NoCompletion h s is = taken_or_cause (fault.TooLarge s) h is
+    ends_large (ending.SpentRounds pairs best) h s is = taken_or_cause (fault.TooLarge s) h is
+    ends_large (ending.SpentConflicts pairs q formula log best) h s is = taken_or_cause (fault.TooLarge s) h is
     ends_large ending.Memory h s is = tt
     ends_large ending.ReadFault h s is = h
     ends_large ending.WriteFault h s is = taken_or_cause (fault.TooLarge s) h.1 is
     ends_large (ending.NotText g) h s is = one (fault.TooLarge s) (fault.NotText g) is h.1 (λ same. absurd same)
     ends_large (ending.NotTyped g) h s is = one (fault.TooLarge s) (fault.NotTyped g) is h.1 (λ same. absurd same)
     ends_large (ending.TooLarge t) h s is = one (fault.TooLarge s) (fault.TooLarge t) is h (λ same. same)
-    ends_large ending.NotBuilt h s is = unbuilt_or_cause (fault.TooLarge s) h is
+    ends_large ending.NotBuilt h s is = absurd h
     ends_large ending.TooLong h s is = too_long is.typed.short h
     ends_large ending.NotALine h s is = absurd h
     ends_large ending.HelpShown h s is = absurd h
@@ -125,35 +129,18 @@ module _ (set : Set) (text : List ℕ) where
     ends_large (ending.ExecSkipped span) h s is = absurd h
     ends_large (ending.NotRun reason) h s is = absurd h
 
-    pub ends_unbuilt : (r : Ending) → IsToldOf set text r a b c d → IsNotBuilt set text → EndsUnbuilt r a b
-    ends_unbuilt ending.Completed h n = taken_or_unbuilt h n
-    ends_unbuilt ending.NoCompletion h n = taken_or_unbuilt h n
-    ends_unbuilt ending.Memory h n = tt
-    ends_unbuilt ending.ReadFault h n = h
-    ends_unbuilt ending.WriteFault h n = taken_or_unbuilt h.1 n
-    ends_unbuilt (ending.NotText g) h n = unbuilt_or_cause (fault.NotText g) n h.1
-    ends_unbuilt (ending.NotTyped g) h n = unbuilt_or_cause (fault.NotTyped g) n h.1
-    ends_unbuilt (ending.TooLarge t) h n = unbuilt_or_cause (fault.TooLarge t) n h
-    ends_unbuilt ending.NotBuilt h n = tt
-    ends_unbuilt ending.TooLong h n = too_long n.sized.typed.short h
-    ends_unbuilt ending.NotALine h n = absurd h
-    ends_unbuilt ending.HelpShown h n = absurd h
-    ends_unbuilt ending.VersionShown h n = absurd h
-    ends_unbuilt ending.ExecDone h n = absurd h
-    ends_unbuilt (ending.ExecFailed span) h n = absurd h
-    ends_unbuilt (ending.ExecSkipped span) h n = absurd h
-    ends_unbuilt (ending.NotRun reason) h n = absurd h
-
     pub ends_long : (r : Ending) → IsToldOf set text r a b c d → most_bytes < length text → EndsLong r a b
     ends_long ending.Completed h long = too_long (short_of h) long
     ends_long ending.NoCompletion h long = too_long (short_of h) long
+    ends_long (ending.SpentRounds pairs best) h long = too_long (short_of h) long
+    ends_long (ending.SpentConflicts pairs q formula log best) h long = too_long (short_of h) long
     ends_long ending.Memory h long = tt
     ends_long ending.ReadFault h long = h
     ends_long ending.WriteFault h long = too_long (short_of h.1) long
     ends_long (ending.NotText g) h long = too_long h.0 long
     ends_long (ending.NotTyped g) h long = too_long h.0 long
     ends_long (ending.TooLarge t) h long = too_long h.typed.short long
-    ends_long ending.NotBuilt h long = too_long h.sized.typed.short long
+    ends_long ending.NotBuilt h long = absurd h
     ends_long ending.TooLong h long = tt
     ends_long ending.NotALine h long = absurd h
     ends_long ending.HelpShown h long = absurd h

@@ -6,15 +6,13 @@ use Rattle.sk_prog.specs.declared.prog.Prog.{Prog}
 use Rattle.sk_model.specs.declared.expanded.Expanded.{Expanded}
 use Rattle.sk_opts.specs.declared.line.Set.{Set}
 use Rattle.sk_front.specs.Front.{IsSizedTo}
-use Rattle.sk_trials.specs.Counts.{IsSmall}
 
--- With these options the text is one that the program takes: it means this program under these bounds, with e as
--- its expansion, within the limits; and e is small enough to try every choice on every input.
+-- With these options the text is one that the program takes: it means a program under these bounds, with e as its
+-- expansion, within the limits.
 pub record IsBuilt (set : Set) (text : List ℕ) (bounds : Bounds) (e : Expanded) : Type 0 where
   pub tree : Tree
   pub prog : Prog
   pub sized : IsSizedTo set text tree bounds prog e
-  pub small : IsSmall bounds e
 
 -- the bounds and the expansion of a text that is taken; with these options the text has no others
 pub record IsOnly (set : Set) (text : List ℕ) (bounds : Bounds) (e : Expanded) : Type 0 where
@@ -26,12 +24,3 @@ pub record IsTaken (set : Set) (text : List ℕ) : Type 0 where
   pub bounds : Bounds
   pub e : Expanded
   pub built : IsBuilt set text bounds e
-
--- With these options the text means a program within the limits, and is not taken: its expansion is not small.
-pub record IsNotBuilt (set : Set) (text : List ℕ) : Type 0 where
-  pub tree : Tree
-  pub bounds : Bounds
-  pub prog : Prog
-  pub e : Expanded
-  pub sized : IsSizedTo set text tree bounds prog e
-  pub large : IsSmall bounds e → ⊥

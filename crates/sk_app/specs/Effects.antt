@@ -1,11 +1,18 @@
 -- What a call does for a line: how it ends, and what it does to its source and its sink.
-use Rattle.std.specs.Prelude.{ℕ, ◌≡◌, ◌⊎◌, Bool, true, false, IsTrue, List, Option, IfSome}
+use Rattle.std.specs.Prelude.{ℕ, ◌≡◌, Bool, true, false, IsTrue, List, Option, IfSome}
 use Rattle.sk_base.specs.Stream.{Rose}
+use Rattle.sk_base.specs.declared.bounds.Budget.{Budget}
+use Rattle.sk_clause.specs.declared.lit.Lit.{Lit}
+use Rattle.sk_cnf.specs.declared.growing.Encoded.{Encoded}
 use Rattle.sk_opts.specs.declared.line.Set.{Set}
 use Rattle.sk_opts.specs.declared.line.Line.{Line}
 use Rattle.sk_opts.specs.declared.line.Line.TheVariants as line
 use Rattle.sk_opts.specs.CommandLine.{IsLine}
+use Rattle.sk_model.specs.declared.expanded.Choice.{Choice}
+use Rattle.sk_model.specs.declared.expanded.Pair.{Pair}
 use Rattle.sk_model.specs.declared.outcome.Outcome.{Outcome}
+use Rattle.sk_query.specs.declared.query.Query.{Query}
+use Rattle.sk_loop_laws.specs.Shown.{AreSpent}
 use Rattle.sk_front.specs.declared.fault.SketchFault.{SketchFault}
 use Rattle.sk_front.specs.declared.fault.SketchFault.TheVariants as fault
 use Rattle.sk_front.specs.Front.{IsFaultOfExpansion}
@@ -16,11 +23,13 @@ use Rattle.sk_sizes.specs.declared.fault.SizeFault.TheVariants as size
 use Rattle.sk_direct.specs.declared.fault.ExecFault.{ExecFault}
 use Rattle.sk_direct.specs.Direct.{IsNotRun, IsRunText}
 use Rattle.sk_app.specs.declared.ending.Ending.{Ending}
-use Rattle.sk_app.specs.declared.ending.Ending.TheVariants.{Completed, NoCompletion, HelpShown, VersionShown, NotALine, NotText, NotTyped, TooLarge, NotRun, ReadFault, WriteFault, TooLong, Memory, NotBuilt, ExecDone, ExecFailed, ExecSkipped}
+use Rattle.sk_app.specs.declared.ending.Ending.TheVariants.{Completed, NoCompletion, SpentRounds, SpentConflicts, HelpShown, VersionShown, NotALine, NotText, NotTyped, TooLarge, NotRun, ReadFault, WriteFault, TooLong, Memory, NotBuilt, ExecDone, ExecFailed, ExecSkipped}
 use Rattle.sk_app.specs.Streams.{IsWhole, IsLong, TakesFew}
 use Rattle.sk_app.specs.ResultText.{IsCompletion, IsNone}
+use Rattle.sk_app.specs.Spent.{AreLearnt, IsSpentRounds, IsSpentConflicts}
+use Rattle.sk_app.specs.Results.{IsResult}
 use Rattle.sk_app.specs.Help.{help_text, version_text}
-use Rattle.sk_app.specs.Lines.{IsNoLine, ForSynth, ForExec}
+use Rattle.sk_app.specs.Lines.{IsNoLine, ForSearch, ForExec}
 use Rattle.sk_app.specs.Ends.{IsDelivered, Writes, WritesPart, writes_nothing, IsToldOf, ending_of}
 
 -- what is left of the source before and after a call, what the sink holds, where they tell it, and the counts of
@@ -58,6 +67,7 @@ pub record IsShown (text : List ℕ) (shown result : Ending) (f : Effect) : Type
 -- the endings of a line `synth`
 abbrev pub is_of_synth : Ending → Bool
 is_of_synth NotALine = false
+is_of_synth NotBuilt = false
 is_of_synth HelpShown = false
 is_of_synth VersionShown = false
 is_of_synth ExecDone = false
@@ -66,24 +76,22 @@ is_of_synth (ExecSkipped span) = false
 is_of_synth (NotRun reason) = false
 is_of_synth _ = true
 
--- a text that a line `synth` writes
-abbrev pub IsResult : Set → List ℕ → List ℕ → Type 0
-IsResult set text out = IsCompletion set text out ⊎ IsNone set text out
-
 -- a fault of types is told at a span of the text
 abbrev pub TellsSpan : Ending → Option (List ℕ) → Type 0
 TellsSpan result left = (fault : TypeFault) → result ≡ NotTyped fault → IfSome left (λ text. HasSpan text fault.span)
 
--- a call for a line `synth` with these options
-pub record Synthesises (set : Set) (result : Ending) (f : Effect) : Type 0 where
+-- a call for a line `synth` with these options and budgets
+pub record Synthesises (set : Set) (budget : Budget) (result : Ending) (f : Effect) : Type 0 where
   pub ends : IsTrue (is_of_synth result)
   pub completed : result ≡ Completed → IfSome f.left_old (λ text. Writes (IsCompletion set text) f.held_old f.held_new)
   pub none : result ≡ NoCompletion → IfSome f.left_old (λ text. Writes (IsNone set text) f.held_old f.held_new)
+  pub rounds : (pairs : List Pair) (best : Option Choice) → result ≡ SpentRounds pairs best → AreSpent budget.rounds pairs × IfSome f.left_old (λ text. Writes (IsSpentRounds set budget text pairs best) f.held_old f.held_new)
+  pub conflicts : (pairs : List Pair) (q : Query) (formula : Encoded) (log : List (List Lit)) (best : Option Choice) → result ≡ SpentConflicts pairs q formula log best → AreLearnt budget.conflicts log × IfSome f.left_old (λ text. Writes (IsSpentConflicts set budget text pairs q formula log best) f.held_old f.held_new)
   pub told : IfSome f.left_old (λ text. IsToldOf set text result f.read_faults_old f.read_faults_new f.write_faults_old f.write_faults_new)
   pub place : TellsSpan result f.left_old
   pub read_fault : result ≡ ReadFault → Rose f.read_faults_old f.read_faults_new
   pub write_fault : result ≡ WriteFault → Rose f.write_faults_old f.write_faults_new
-  pub prefix : result ≡ WriteFault → IfSome f.left_old (λ text. WritesPart (IsResult set text) f.held_old f.held_new)
+  pub prefix : result ≡ WriteFault → IfSome f.left_old (λ text. WritesPart (IsResult set budget text) f.held_old f.held_new)
   pub kept : IsTrue (writes_nothing result) → f.held_new ≡ f.held_old
   pub few : TakesFew f.left_old f.left_new
 
@@ -133,7 +141,7 @@ pub record Executes (set : Set) (name : List ℕ) (values : List (List ℕ)) (re
 -- what a call does for a line
 abbrev pub Serves : Line → Ending → Effect → Type 0
 Serves (line.Synth set budget true) result f = IsRefused NotBuilt result f
-Serves (line.Synth set budget false) result f = Synthesises set result f
+Serves (line.Synth set budget false) result f = Synthesises set budget result f
 Serves (line.Exec set name values) result f = Executes set name values result f
 Serves (line.Check set) result f = IsRefused NotBuilt result f
 Serves (line.Itself n) result f = IsRefused NotBuilt result f
@@ -148,7 +156,7 @@ pub data Answers (words : List (List ℕ)) (result : Ending) (f : Effect) : Type
 
 -- a text that a line writes for this text of its source
 pub data IsOutput (words : List (List ℕ)) (text out : List ℕ) : Type 0 where
-  result : ForSynth words (λ set. IsResult set text out) → IsOutput words text out
+  result : ForSearch words (λ set budget. IsResult set budget text out) → IsOutput words text out
   run : ForExec words (λ set name values. IsRunOutput set name values text out) → IsOutput words text out
   help : IsLine words line.Help → out ≡ help_text → IsOutput words text out
   version : IsLine words line.Version → out ≡ version_text → IsOutput words text out

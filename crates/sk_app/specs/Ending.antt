@@ -1,10 +1,11 @@
 -- The status and the message of each ending.
-use Rattle.std.specs.Prelude.{ℕ, List, [], codes}
+use Rattle.std.specs.Prelude.{ℕ, List, [], Option, None, Some, codes}
 use Rattle.sk_lexer.specs.declared.fault.LexFault.TheVariants as lex
 use Rattle.sk_parser.specs.declared.fault.ParseFault.TheVariants as parse
 use Rattle.sk_check.specs.declared.fault.Rule.{Rule}
 use Rattle.sk_check.specs.declared.fault.Rule.TheVariants as rule
 use Rattle.sk_check.specs.declared.fault.TypeFault.{TypeFault}
+use Rattle.sk_model.specs.declared.expanded.Choice.{Choice}
 use Rattle.sk_sizes.specs.declared.fault.SizeFault.{SizeFault}
 use Rattle.sk_sizes.specs.declared.fault.SizeFault.TheVariants as size
 use Rattle.sk_texts.specs.Messages.{Refusal, refusal_status, refusal_message}
@@ -14,7 +15,7 @@ use Rattle.sk_front.specs.declared.fault.TextFault.TheVariants.{Lex, Parse}
 use Rattle.sk_direct.specs.declared.fault.ExecFault.{ExecFault}
 use Rattle.sk_direct.specs.declared.fault.ExecFault.TheVariants as exec
 use Rattle.sk_app.specs.declared.ending.Ending.{Ending}
-use Rattle.sk_app.specs.declared.ending.Ending.TheVariants.{Completed, NoCompletion, HelpShown, VersionShown, ExecDone, ExecFailed, ExecSkipped, NotALine, NotText, NotTyped, TooLarge, NotRun, ReadFault, WriteFault, TooLong, Memory, NotBuilt}
+use Rattle.sk_app.specs.declared.ending.Ending.TheVariants.{Completed, NoCompletion, SpentRounds, SpentConflicts, HelpShown, VersionShown, ExecDone, ExecFailed, ExecSkipped, NotALine, NotText, NotTyped, TooLarge, NotRun, ReadFault, WriteFault, TooLong, Memory, NotBuilt}
 
 -- The refusal for a fault of a text. Want of memory, which `run` answers as `Memory`, is no fault of it.
 abbrev pub text_refusal : TextFault → Refusal
@@ -62,9 +63,16 @@ exec_refusal exec.References = said.NotRun said.References
 exec_refusal exec.Count = said.NotRun said.Count
 exec_refusal (exec.Value index) = said.NotRun said.Value
 
+-- where a budget is spent: whether a choice is known that meets every obligation
+abbrev pub spent_status : Option Choice → ℕ
+spent_status None = 2
+spent_status (Some best) = 3
+
 abbrev pub status_of : Ending → ℕ
 status_of Completed = 0
 status_of NoCompletion = 1
+status_of (SpentRounds pairs best) = spent_status best
+status_of (SpentConflicts pairs q f log best) = spent_status best
 status_of HelpShown = 0
 status_of VersionShown = 0
 status_of ExecDone = 0
@@ -84,6 +92,8 @@ status_of NotBuilt = 20
 abbrev pub message_of : Ending → List ℕ
 message_of Completed = []
 message_of NoCompletion = []
+message_of (SpentRounds pairs best) = []
+message_of (SpentConflicts pairs q f log best) = []
 message_of HelpShown = []
 message_of VersionShown = []
 message_of ExecDone = []

@@ -1,16 +1,17 @@
 -- What the sink holds after an ending, and which endings there are for a text.
 use Rattle.std.specs.Prelude.{ℕ, ◌≡◌, ◌<◌, ◌≤◌, length, Bool, true, false, List, Option}
 use Rattle.sk_base.specs.Stream.{Rose}
+use Rattle.sk_base.specs.declared.bounds.Budget.{Budget}
 use Rattle.sk_model.specs.declared.outcome.Outcome.{Outcome}
 use Rattle.sk_model.specs.declared.outcome.Outcome.TheVariants as outcome
 use Rattle.sk_app.specs.declared.ending.Ending.{Ending}
-use Rattle.sk_app.specs.declared.ending.Ending.TheVariants.{Completed, NoCompletion, HelpShown, VersionShown, ExecDone, ExecFailed, ExecSkipped, NotALine, NotText, NotTyped, TooLarge, NotRun, ReadFault, WriteFault, TooLong, Memory, NotBuilt}
+use Rattle.sk_app.specs.declared.ending.Ending.TheVariants.{Completed, NoCompletion, SpentRounds, SpentConflicts, HelpShown, VersionShown, ExecDone, ExecFailed, ExecSkipped, NotALine, NotText, NotTyped, TooLarge, NotRun, ReadFault, WriteFault, TooLong, Memory, NotBuilt}
 use Rattle.sk_front.specs.declared.fault.TextFault.{TextFault}
 use Rattle.sk_front.specs.Texts.{most_bytes, IsTextFault, IsSameFault}
 use Rattle.sk_front.specs.Front.{IsUntyped, IsTooLarge}
 use Rattle.sk_opts.specs.declared.line.Set.{Set}
 use Rattle.sk_direct.specs.declared.fault.ExecFault.{ExecFault}
-use Rattle.sk_app.specs.Built.{IsTaken, IsNotBuilt}
+use Rattle.sk_app.specs.Built.{IsTaken}
 use Rattle.sk_sizes.specs.declared.fault.SizeFault.{SizeFault}
 use Rattle.sk_app.specs.Streams.{Appends, AppendsPrefix}
 
@@ -30,6 +31,8 @@ pub record WritesPart (P : List ℕ → Type 0) (old new : Option (List ℕ)) : 
 abbrev pub writes_nothing : Ending → Bool
 writes_nothing Completed = false
 writes_nothing NoCompletion = false
+writes_nothing (SpentRounds pairs best) = false
+writes_nothing (SpentConflicts pairs q f log best) = false
 writes_nothing HelpShown = false
 writes_nothing VersionShown = false
 writes_nothing ExecDone = false
@@ -58,25 +61,28 @@ pub data IsDelivered (result done : Ending) (out : List ℕ) (faults_old faults_
 abbrev pub IsToldOf : Set → List ℕ → Ending → ℕ → ℕ → ℕ → ℕ → Type 0
 IsToldOf set text Completed source_old source_new sink_old sink_new = IsTaken set text
 IsToldOf set text NoCompletion source_old source_new sink_old sink_new = IsTaken set text
+IsToldOf set text (SpentRounds pairs best) source_old source_new sink_old sink_new = IsTaken set text
+IsToldOf set text (SpentConflicts pairs q f log best) source_old source_new sink_old sink_new = IsTaken set text
 IsToldOf set text (NotText fault) source_old source_new sink_old sink_new = (length text ≤ most_bytes) × IsTextFault fault text
 IsToldOf set text (NotTyped fault) source_old source_new sink_old sink_new = (length text ≤ most_bytes) × IsUntyped set text
 IsToldOf set text (TooLarge reason) source_old source_new sink_old sink_new = IsTooLarge set text reason
-IsToldOf set text NotBuilt source_old source_new sink_old sink_new = IsNotBuilt set text
 IsToldOf set text TooLong source_old source_new sink_old sink_new = most_bytes < length text
 IsToldOf set text ReadFault source_old source_new sink_old sink_new = Rose source_old source_new
 IsToldOf set text WriteFault source_old source_new sink_old sink_new = Rose sink_old sink_new × IsTaken set text
 IsToldOf set text Memory source_old source_new sink_old sink_new = Unit {0}
 IsToldOf set text _ source_old source_new sink_old sink_new = ⊥
 
--- A text that is taken is completed, or has no completion; else a source or a sink failed, or memory was
--- wanting.
-abbrev pub EndsBuilt : Ending → ℕ → ℕ → ℕ → ℕ → Type 0
-EndsBuilt Completed source_old source_new sink_old sink_new = Unit {0}
-EndsBuilt NoCompletion source_old source_new sink_old sink_new = Unit {0}
-EndsBuilt Memory source_old source_new sink_old sink_new = Unit {0}
-EndsBuilt ReadFault source_old source_new sink_old sink_new = Rose source_old source_new
-EndsBuilt WriteFault source_old source_new sink_old sink_new = Rose sink_old sink_new
-EndsBuilt _ source_old source_new sink_old sink_new = ⊥
+-- A text that is taken is completed, or has no completion, or a budget that is not 0 is spent; else a source or a sink
+-- failed, or memory was wanting.
+abbrev pub EndsBuilt : Budget → Ending → ℕ → ℕ → ℕ → ℕ → Type 0
+EndsBuilt budget Completed source_old source_new sink_old sink_new = Unit {0}
+EndsBuilt budget NoCompletion source_old source_new sink_old sink_new = Unit {0}
+EndsBuilt budget (SpentRounds pairs best) source_old source_new sink_old sink_new = 0 < budget.rounds
+EndsBuilt budget (SpentConflicts pairs q f log best) source_old source_new sink_old sink_new = 0 < budget.conflicts
+EndsBuilt budget Memory source_old source_new sink_old sink_new = Unit {0}
+EndsBuilt budget ReadFault source_old source_new sink_old sink_new = Rose source_old source_new
+EndsBuilt budget WriteFault source_old source_new sink_old sink_new = Rose sink_old sink_new
+EndsBuilt budget _ source_old source_new sink_old sink_new = ⊥
 
 -- A text with this fault is refused for it, unless the source failed or memory was wanting.
 abbrev pub EndsFaulty : TextFault → Ending → ℕ → ℕ → Type 0
@@ -98,13 +104,6 @@ EndsLarge reason (TooLarge told) source_old source_new = reason ≡ told
 EndsLarge reason Memory source_old source_new = Unit {0}
 EndsLarge reason ReadFault source_old source_new = Rose source_old source_new
 EndsLarge reason _ source_old source_new = ⊥
-
--- A text that means a program within the limits and is not taken is refused, unless the source failed or memory was wanting.
-abbrev pub EndsUnbuilt : Ending → ℕ → ℕ → Type 0
-EndsUnbuilt NotBuilt source_old source_new = Unit {0}
-EndsUnbuilt Memory source_old source_new = Unit {0}
-EndsUnbuilt ReadFault source_old source_new = Rose source_old source_new
-EndsUnbuilt _ source_old source_new = ⊥
 
 -- A text that is too long is refused as such, unless the source failed or memory was wanting.
 abbrev pub EndsLong : Ending → ℕ → ℕ → Type 0

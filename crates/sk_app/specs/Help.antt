@@ -11,9 +11,6 @@ usage_text =
     ++ codes "sketch --help                                  writes this help\n"
     ++ codes "sketch --version                               writes the version\n"
     ++ codes "\n"
-    ++ codes "A sketch may use the whole language, and is to be small: synth tries every choice of hole values on\n"
-    ++ codes "every input, at most 32768 choices and as many pairs of a choice and an input.\n"
-    ++ codes "\n"
     ++ codes "An option is --name N or --name=N, and stands once.\n"
     ++ codes "\n"
     ++ codes "  --bnd-cbits        1 to 16, else 5          bits of a hole ??\n"
@@ -21,8 +18,8 @@ usage_text =
     ++ codes "  --bnd-unroll-amnt  0 to 64, else 8          turns of a loop\n"
     ++ codes "  --bnd-inline-amnt  1 to 16, else 5          active calls of one function\n"
     ++ codes "  --int-bits         6 to 32, else 16         bits of int\n"
-    ++ codes "  --rounds           0 to 1000000, else 0     without effect\n"
-    ++ codes "  --conflicts        0 to 1000000000, else 0  without effect\n"
+    ++ codes "  --rounds           0 to 1000000, else 0     inputs that speak against choices; 0 is no limit\n"
+    ++ codes "  --conflicts        0 to 1000000000, else 0  clauses learnt in one call; 0 is no limit\n"
 
 -- the statuses with which it ends
 abbrev pub statuses_text : List ℕ
@@ -32,6 +29,8 @@ statuses_text =
     ++ codes "\n"
     ++ codes "   0  completed, or the run is done\n"
     ++ codes "   1  no completion meets the harnesses and references on every input\n"
+    ++ codes "   2  a budget is spent, and no completion is known\n"
+    ++ codes "   3  a budget is spent; the completion may not cost least\n"
     ++ codes "   4  the run failed\n"
     ++ codes "   5  the run was skipped\n"
     ++ codes "  10  the words are no command line\n"
@@ -43,7 +42,7 @@ statuses_text =
     ++ codes "  16  the text has more than 1048576 bytes\n"
     ++ codes "  17  out of memory\n"
     ++ codes "  18  the function cannot be run\n"
-    ++ codes "  20  not built: a sketch that is not small, or a line with check, self or --cert\n"
+    ++ codes "  20  not built: a line with check, self or --cert\n"
 
 abbrev pub help_text : List ℕ
 help_text = usage_text ++ statuses_text

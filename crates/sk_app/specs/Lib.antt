@@ -2,8 +2,11 @@ pub mod Ending
 pub mod Streams
 pub mod ReadStep
 pub mod Built
+pub mod Completing
 pub mod ResultText
 pub mod SpentText
+pub mod Spent
+pub mod Results
 pub mod Within
 pub mod Prepared
 pub mod Ends

@@ -10,11 +10,21 @@ use Rattle.sk_opts.specs.CommandLine.{IsLine}
 abbrev pub IsNoLine : List (List ℕ) → Type 0
 IsNoLine words = (l : Line) → IsLine words l → ⊥
 
--- The words are a line `synth` with these options and without a certificate. Its budgets may be any: to try every
--- filling spends none.
+-- The words are a line `synth` with these options and budgets, and without a certificate.
+abbrev pub IsSearch : List (List ℕ) → Set → Budget → Type 0
+IsSearch words set budget = IsLine words (line.Synth set budget false)
+
+-- they are such a line, and this holds of it
+pub record ForSearch (words : List (List ℕ)) (Holds : Set → Budget → Type 0) : Type 0 where
+  pub set : Set
+  pub budget : Budget
+  pub is : IsSearch words set budget
+  pub holds : Holds set budget
+
+-- The words are such a line with these options, whatever its budgets are.
 pub record IsSynth (words : List (List ℕ)) (set : Set) : Type 0 where
   pub budget : Budget
-  pub is : IsLine words (line.Synth set budget false)
+  pub is : IsSearch words set budget
 
 -- they are such a line, and this holds of its options
 pub record ForSynth (words : List (List ℕ)) (Holds : Set → Type 0) : Type 0 where

@@ -2,6 +2,7 @@
 use Rattle.std.specs.Prelude.{ℕ, ◌≤◌, List, length, Option, IfSome}
 use Rattle.sk_base.specs.Stream.{Rose}
 use Rattle.sk_base.specs.declared.bounds.Bounds.{Bounds}
+use Rattle.sk_base.specs.declared.bounds.Budget.{Budget}
 use Rattle.sk_model.specs.declared.expanded.Expanded.{Expanded}
 use Rattle.sk_opts.specs.declared.line.Set.{Set}
 use Rattle.sk_opts.specs.Ranges.{AreInRanges}
@@ -15,8 +16,8 @@ use Rattle.sk_app.specs.declared.prepare.Found.TheVariants as found
 use Rattle.sk_app.specs.declared.prepare.Prepared.{Prepared}
 use Rattle.sk_app.specs.declared.prepare.Prepared.TheVariants as prepared
 use Rattle.sk_app.specs.Streams.{IsLong}
-use Rattle.sk_app.specs.Built.{IsOnly, IsNotBuilt}
-use Rattle.sk_app.specs.ResultText.{IsCompletion, IsNone}
+use Rattle.sk_app.specs.Built.{IsOnly}
+use Rattle.sk_app.specs.Results.{HasResult, IsResultOf}
 
 -- the bounds and the expansion of a text that is taken, as the search for a completion asks for them
 pub record IsReady (set : Set) (text : List ℕ) (bounds : Bounds) (e : Expanded) : Type 0 where
@@ -29,23 +30,25 @@ abbrev pub IsBuilding : Set → Building → List ℕ → Type 0
 IsBuilding set (built.NotText fault) text = IsTextFault fault text
 IsBuilding set (built.NotTyped fault) text = IsUntyped set text × HasSpan text fault.span
 IsBuilding set (built.TooLarge reason) text = IsTooLarge set text reason
-IsBuilding set built.NotBuilt text = IsNotBuilt set text
 IsBuilding set (built.Whole bounds e) text = IsReady set text bounds e
 
-abbrev pub IsFound : Set → Found → List ℕ → Type 0
-IsFound set (found.NotText fault) text = IsTextFault fault text
-IsFound set (found.NotTyped fault) text = IsUntyped set text × HasSpan text fault.span
-IsFound set (found.TooLarge reason) text = IsTooLarge set text reason
-IsFound set found.NotBuilt text = IsNotBuilt set text
-IsFound set (found.Nothing out) text = IsNone set text out.items
-IsFound set (found.Completion out) text = IsCompletion set text out.items
+abbrev pub IsFound : Set → Budget → Found → List ℕ → Type 0
+IsFound set budget (found.NotText fault) text = IsTextFault fault text
+IsFound set budget (found.NotTyped fault) text = IsUntyped set text × HasSpan text fault.span
+IsFound set budget (found.TooLarge reason) text = IsTooLarge set text reason
+IsFound set budget (found.Ended out ending) text = IsResultOf set budget text ending out.items
 
--- a text that is not too long, and what it comes to with these options
-pub record Finds (set : Set) (f : Found) (text : List ℕ) : Type 0 where
+-- what is found ends a line with these budgets, whatever the text is
+abbrev pub IsPossible : Budget → Found → Type 0
+IsPossible budget (found.Ended out ending) = HasResult budget ending
+IsPossible budget _ = Unit {0}
+
+-- a text that is not too long, and what it comes to with these options and budgets
+pub record Finds (set : Set) (budget : Budget) (f : Found) (text : List ℕ) : Type 0 where
   pub short : length text ≤ most_bytes
-  pub found : IsFound set f text
+  pub found : IsFound set budget f text
 
-abbrev pub IsPrepared : Set → Prepared → ℕ → ℕ → Option (List ℕ) → Type 0
-IsPrepared set prepared.ReadFault faults_old faults_new left = Rose faults_old faults_new
-IsPrepared set prepared.TooLong faults_old faults_new left = IsLong left
-IsPrepared set (prepared.Found f) faults_old faults_new left = IfSome left (Finds set f)
+abbrev pub IsPrepared : Set → Budget → Prepared → ℕ → ℕ → Option (List ℕ) → Type 0
+IsPrepared set budget prepared.ReadFault faults_old faults_new left = Rose faults_old faults_new
+IsPrepared set budget prepared.TooLong faults_old faults_new left = IsLong left
+IsPrepared set budget (prepared.Found f) faults_old faults_new left = IsPossible budget f × IfSome left (Finds set budget f)

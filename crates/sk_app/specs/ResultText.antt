@@ -9,9 +9,9 @@ use Rattle.sk_model.specs.Meets.{Meets}
 use Rattle.sk_print.specs.Layout.{layout}
 use Rattle.sk_print.specs.Shows.{Shows}
 use Rattle.sk_opts.specs.declared.line.Set.{Set}
-use Rattle.sk_trials.specs.declared.completion.Completion.{Completion}
-use Rattle.sk_trials.specs.Completing.{IsLeast}
+use Rattle.sk_app.specs.declared.completion.Completion.{Completion}
 use Rattle.sk_app.specs.Built.{IsOnly}
+use Rattle.sk_app.specs.Completing.{IsLeast}
 
 -- each number with a space before it
 abbrev pub spaced : List ℕ → List ℕ

@@ -1,15 +1,24 @@
 //! The call that does all that the program does.
 
-ghost use Rattle.std.specs.Prelude.{List, ℕ, ◌≡◌, ◌≤◌, ◌<◌, ◌⊎◌, length, map, string_bytes, IsTrue, IfSome};
+ghost use Rattle.std.specs.Prelude.{List, ℕ, Option, ◌≡◌, ◌≤◌, ◌<◌, length, map, string_bytes, IsTrue, IfSome};
 ghost use Rattle.sk_base.specs.Stream.{Rose};
 ghost use Rattle.sk_base.specs.declared.bounds.Bounds.{Bounds};
+ghost use Rattle.sk_base.specs.declared.bounds.Budget.{Budget};
+ghost use Rattle.sk_clause.specs.declared.lit.Lit.{Lit};
+ghost use Rattle.sk_cnf.specs.declared.growing.Encoded.{Encoded};
+ghost use Rattle.sk_model.specs.declared.expanded.Choice.{Choice};
+ghost use Rattle.sk_model.specs.declared.expanded.Pair.{Pair};
+ghost use Rattle.sk_query.specs.declared.query.Query.{Query};
+ghost use Rattle.sk_loop_laws.specs.Shown.{AreSpent};
 ghost use Rattle.sk_model.specs.declared.expanded.Expanded.{Expanded};
 ghost use Rattle.sk_opts.specs.declared.line.Set.{Set};
 ghost use Rattle.sk_opts.specs.declared.line.Line.TheVariants as line;
 ghost use Rattle.sk_opts.specs.CommandLine.{IsLine};
 ghost use Rattle.sk_opts.specs.Ranges.{IsInRanges, LineIsInRanges};
-ghost use Rattle.sk_app.specs.Built.{IsBuilt, IsNotBuilt};
+ghost use Rattle.sk_app.specs.Built.{IsBuilt};
 ghost use Rattle.sk_app.specs.ResultText.{IsCompletion, IsNone};
+ghost use Rattle.sk_app.specs.Spent.{AreLearnt, IsSpentRounds, IsSpentConflicts};
+ghost use Rattle.sk_app.specs.Results.{IsResult};
 ghost use Rattle.sk_app.specs.Streams.{Appends, AppendsPrefix, TakesFew};
 ghost use Rattle.sk_front.specs.Texts.{most_bytes, byte_of, HasSpan, IsTextFault};
 ghost use Rattle.sk_front.specs.Front.{IsUntyped, IsTooLarge};
@@ -21,16 +30,16 @@ ghost use Rattle.sk_model.specs.declared.outcome.Outcome.{Outcome};
 ghost use Rattle.sk_direct.specs.declared.fault.ExecFault.{ExecFault};
 ghost use Rattle.sk_direct.specs.Direct.{IsNotRun, IsRunText};
 ghost use Rattle.sk_app.specs.Help.{help_text, version_text};
-ghost use Rattle.sk_app.specs.Lines.{IsNoLine, IsSynth, ForSynth, IsExec, ForExec, TakesText, ForText, IsUnbuiltLine};
-ghost use Rattle.sk_app.specs.Ends.{IsDelivered, Writes, WritesPart, writes_nothing, IsToldOf, EndsBuilt, EndsFaulty, EndsUntyped, EndsLarge, EndsLong, EndsUnbuilt, EndsRun, EndsNotRun, EndsNoLine, EndsUnbuiltLine, EndsHelp, EndsVersion};
-ghost use Rattle.sk_app.specs.Effects.{is_of_synth, is_of_expansion, IsResult, TellsSpan, IsRunResult, IsOutput, Serves, Answers};
+ghost use Rattle.sk_app.specs.Lines.{IsNoLine, IsSearch, ForSearch, IsSynth, ForSynth, IsExec, ForExec, TakesText, ForText, IsUnbuiltLine};
+ghost use Rattle.sk_app.specs.Ends.{IsDelivered, Writes, WritesPart, writes_nothing, IsToldOf, EndsBuilt, EndsFaulty, EndsUntyped, EndsLarge, EndsLong, EndsRun, EndsNotRun, EndsNoLine, EndsUnbuiltLine, EndsHelp, EndsVersion};
+ghost use Rattle.sk_app.specs.Effects.{is_of_synth, is_of_expansion, TellsSpan, IsRunResult, IsOutput, Serves, Answers};
 
 use crate::direct::run_source;
 use crate::ending::Ending;
 use crate::help::{help, version};
 use crate::output::deliver;
 use crate::prepare::{Found, Prepared, prepare};
-use sk_base::{Sink, Source};
+use sk_base::{Budget, Sink, Source};
 use sk_opts::{Line, Set, Usage, options};
 use std::alloc::Global;
 
@@ -44,34 +53,36 @@ fn show_help<K: Sink>(alloc: Global, sink: &mut K) -> Ending
     }
 }
 
-/// Completes the text of the source with the options of a line, and writes the result to the sink.
-fn synth<S: Source, K: Sink>(alloc: Global, set: &Set, source: &mut S, sink: &mut K) -> Ending
+/// Completes the text of the source with the options and budgets of a line, and writes the result to the sink.
+fn synth<S: Source, K: Sink>(
+    alloc: Global,
+    set: &Set,
+    budget: &Budget,
+    source: &mut S,
+    sink: &mut K,
+) -> Ending
     requires { IsInRanges set.now }
     ensures ends { IsTrue (is_of_synth result) }
     ensures completed { result ≡ Ending.Completed → IfSome (S.left source.old) (λ text. Writes (IsCompletion set.now text) (K.held sink.old) (K.held sink.new)) }
     ensures none { result ≡ Ending.NoCompletion → IfSome (S.left source.old) (λ text. Writes (IsNone set.now text) (K.held sink.old) (K.held sink.new)) }
+    ensures rounds { (pairs : List Pair) (best : Option Choice) → result ≡ Ending.SpentRounds pairs best → AreSpent budget.now.rounds pairs × IfSome (S.left source.old) (λ text. Writes (IsSpentRounds set.now budget.now text pairs best) (K.held sink.old) (K.held sink.new)) }
+    ensures conflicts { (pairs : List Pair) (q : Query) (formula : Encoded) (log : List (List Lit)) (best : Option Choice) → result ≡ Ending.SpentConflicts pairs q formula log best → AreLearnt budget.now.conflicts log × IfSome (S.left source.old) (λ text. Writes (IsSpentConflicts set.now budget.now text pairs q formula log best) (K.held sink.old) (K.held sink.new)) }
     ensures told { IfSome (S.left source.old) (λ text. IsToldOf set.now text result (S.faults source.old) (S.faults source.new) (K.faults sink.old) (K.faults sink.new)) }
     ensures place { TellsSpan result (S.left source.old) }
     ensures read_fault { result ≡ Ending.ReadFault → Rose (S.faults source.old) (S.faults source.new) }
     ensures write_fault { result ≡ Ending.WriteFault → Rose (K.faults sink.old) (K.faults sink.new) }
-    ensures prefix { result ≡ Ending.WriteFault → IfSome (S.left source.old) (λ text. WritesPart (IsResult set.now text) (K.held sink.old) (K.held sink.new)) }
+    ensures prefix { result ≡ Ending.WriteFault → IfSome (S.left source.old) (λ text. WritesPart (IsResult set.now budget.now text) (K.held sink.old) (K.held sink.new)) }
     ensures kept { IsTrue (writes_nothing result) → K.held sink.new ≡ K.held sink.old }
     ensures few { TakesFew (S.left source.old) (S.left source.new) }
 {
-    match prepare(alloc, set, source) {
+    match prepare(alloc, set, budget, source) {
         Err(_) => Ending::Memory,
         Ok(Prepared::ReadFault) => Ending::ReadFault,
         Ok(Prepared::TooLong) => Ending::TooLong,
         Ok(Prepared::Found(Found::NotText(fault))) => Ending::NotText(fault),
         Ok(Prepared::Found(Found::NotTyped(fault))) => Ending::NotTyped(fault),
         Ok(Prepared::Found(Found::TooLarge(fault))) => Ending::TooLarge(fault),
-        Ok(Prepared::Found(Found::NotBuilt)) => Ending::NotBuilt,
-        Ok(Prepared::Found(Found::Nothing(out))) => {
-            deliver(sink, out.as_slice(), Ending::NoCompletion)
-        }
-        Ok(Prepared::Found(Found::Completion(out))) => {
-            deliver(sink, out.as_slice(), Ending::Completed)
-        }
+        Ok(Prepared::Found(Found::Ended { out, ending })) => deliver(sink, out.as_slice(), ending),
     }
 }
 
@@ -97,9 +108,9 @@ fn serve<S: Source, K: Sink>(alloc: Global, line: &Line, source: &mut S, sink: &
         } => Ending::NotBuilt,
         Line::Synth {
             set,
-            budget: _,
+            budget,
             cert: false,
-        } => synth(alloc, set, source, sink),
+        } => synth(alloc, set, budget, source, sink),
         Line::Exec { set, name, values } => {
             run_source(alloc, set, name, values.as_slice(), source, sink)
         }
@@ -154,6 +165,11 @@ pub fn run<S: Source, K: Sink>(
     ensures completed { result ≡ Ending.Completed → ForSynth (map string_bytes words.now) (λ set. IfSome (S.left source.old) (λ text. Writes (IsCompletion set text) (K.held sink.old) (K.held sink.new))) }
     // None: no filling meets it.
     ensures none { result ≡ Ending.NoCompletion → ForSynth (map string_bytes words.now) (λ set. IfSome (S.left source.old) (λ text. Writes (IsNone set text) (K.held sink.old) (K.held sink.new))) }
+    // The line's budget of rounds is spent, which is not 0: the pairs are as many. What the sink got tells them, and a
+    // choice whose filling meets the harness, where one is known.
+    ensures spent_rounds { (pairs : List Pair) (best : Option Choice) → result ≡ Ending.SpentRounds pairs best → ForSearch (map string_bytes words.now) (λ set budget. AreSpent budget.rounds pairs × IfSome (S.left source.old) (λ text. Writes (IsSpentRounds set budget text pairs best) (K.held sink.old) (K.held sink.new))) }
+    // The line's budget of conflicts is spent, which is not 0: as many clauses were learnt from the formula of the query.
+    ensures spent_conflicts { (pairs : List Pair) (q : Query) (formula : Encoded) (log : List (List Lit)) (best : Option Choice) → result ≡ Ending.SpentConflicts pairs q formula log best → ForSearch (map string_bytes words.now) (λ set budget. AreLearnt budget.conflicts log × IfSome (S.left source.old) (λ text. Writes (IsSpentConflicts set budget text pairs q formula log best) (K.held sink.old) (K.held sink.new))) }
     // The help and the version come for their lines alone.
     ensures help { result ≡ Ending.HelpShown → IsLine (map string_bytes words.now) line.Help × Appends help_text (K.held sink.old) (K.held sink.new) }
     ensures version { result ≡ Ending.VersionShown → IsLine (map string_bytes words.now) line.Version × Appends version_text (K.held sink.old) (K.held sink.new) }
@@ -175,9 +191,8 @@ pub fn run<S: Source, K: Sink>(
     ensures type_place { (fault : TypeFault) → result ≡ Ending.NotTyped fault → IfSome (S.left source.old) (λ text. HasSpan text fault.span) }
     // The expansion of its program passes this limit, and none before it.
     ensures too_large { (reason : SizeFault) → result ≡ Ending.TooLarge reason → ForText (map string_bytes words.now) (λ set. IfSome (S.left source.old) (λ text. IsTooLarge set text reason)) }
-    // The line is one for which the program does nothing: `check`, `self`, or one that asks for a certificate; or the text
-    // means a program within the limits, whose expansion is not small enough to try every choice on every input.
-    ensures not_built { result ≡ Ending.NotBuilt → IsUnbuiltLine (map string_bytes words.now) ⊎ ForSynth (map string_bytes words.now) (λ set. IfSome (S.left source.old) (IsNotBuilt set)) }
+    // The line is one for which the program does nothing: `check`, `self`, or one that asks for a certificate.
+    ensures not_built { result ≡ Ending.NotBuilt → IsUnbuiltLine (map string_bytes words.now) }
     ensures too_long { result ≡ Ending.TooLong → IfSome (S.left source.old) (λ text. most_bytes < length text) }
     ensures read_fault { result ≡ Ending.ReadFault → Rose (S.faults source.old) (S.faults source.new) }
     ensures write_fault { result ≡ Ending.WriteFault → Rose (K.faults sink.old) (K.faults sink.new) }
@@ -197,14 +212,13 @@ pub fn run<S: Source, K: Sink>(
     ensures ends_unbuilt_line { IsUnbuiltLine (map string_bytes words.now) → EndsUnbuiltLine result }
     ensures ends_help { IsLine (map string_bytes words.now) line.Help → EndsHelp result (K.faults sink.old) (K.faults sink.new) }
     ensures ends_version { IsLine (map string_bytes words.now) line.Version → EndsVersion result (K.faults sink.old) (K.faults sink.new) }
-    ensures ends_built { (set : Set) → IsSynth (map string_bytes words.now) set → IfSome (S.left source.old) (λ text. (bounds : Bounds) (e : Expanded) → IsBuilt set text bounds e → EndsBuilt result (S.faults source.old) (S.faults source.new) (K.faults sink.old) (K.faults sink.new)) }
+    ensures ends_built { (set : Set) (budget : Budget) → IsSearch (map string_bytes words.now) set budget → IfSome (S.left source.old) (λ text. (bounds : Bounds) (e : Expanded) → IsBuilt set text bounds e → EndsBuilt budget result (S.faults source.old) (S.faults source.new) (K.faults sink.old) (K.faults sink.new)) }
     ensures ends_faulty { (set : Set) → TakesText (map string_bytes words.now) set → IfSome (S.left source.old) (λ text. length text ≤ most_bytes → (fault : TextFault) → IsTextFault fault text → EndsFaulty fault result (S.faults source.old) (S.faults source.new)) }
     ensures ends_untyped { (set : Set) → TakesText (map string_bytes words.now) set → IfSome (S.left source.old) (λ text. length text ≤ most_bytes → IsUntyped set text → EndsUntyped result (S.faults source.old) (S.faults source.new)) }
     ensures ends_large { (set : Set) → IsSynth (map string_bytes words.now) set → IfSome (S.left source.old) (λ text. (reason : SizeFault) → IsTooLarge set text reason → EndsLarge reason result (S.faults source.old) (S.faults source.new)) }
     ensures ends_copies { (set : Set) → TakesText (map string_bytes words.now) set → IfSome (S.left source.old) (λ text. (reason : SizeFault) → IsTrue (is_of_expansion reason) → IsTooLarge set text reason → EndsLarge reason result (S.faults source.old) (S.faults source.new)) }
     ensures ends_run { (set : Set) (name : List ℕ) (values : List (List ℕ)) → IsExec (map string_bytes words.now) set name values → IfSome (S.left source.old) (λ text. (outcome : Outcome) (out : List ℕ) → IsRunText set name values text outcome out → EndsRun outcome result (S.faults source.old) (S.faults source.new) (K.faults sink.old) (K.faults sink.new)) }
     ensures ends_not_run { (set : Set) (name : List ℕ) (values : List (List ℕ)) → IsExec (map string_bytes words.now) set name values → IfSome (S.left source.old) (λ text. (reason : ExecFault) → IsNotRun set name values text reason → EndsNotRun reason result (S.faults source.old) (S.faults source.new)) }
-    ensures ends_unbuilt { (set : Set) → IsSynth (map string_bytes words.now) set → IfSome (S.left source.old) (λ text. IsNotBuilt set text → EndsUnbuilt result (S.faults source.old) (S.faults source.new)) }
     ensures ends_long { (set : Set) → TakesText (map string_bytes words.now) set → IfSome (S.left source.old) (λ text. most_bytes < length text → EndsLong result (S.faults source.old) (S.faults source.new)) }
 {
     let ending = answer(alloc, words, source, sink);

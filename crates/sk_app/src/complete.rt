@@ -1,20 +1,22 @@
 //! The completion of a text.
 
-ghost use Rattle.std.specs.Prelude.{◌≡◌, ◌≤◌, ◌++◌, length, IfOk, OnOk};
+ghost use Rattle.std.specs.Prelude.{ℕ, List, ◌≡◌, ◌≤◌, length, IfOk};
 ghost use Rattle.sk_opts.specs.Ranges.{IsInRanges};
 ghost use Rattle.sk_front.specs.Texts.{most_bytes};
-ghost use Rattle.sk_app.specs.ResultText.{spaced, completion_lines, completed_text};
-ghost use Rattle.sk_app.specs.Prepared.{IsBuilding, IsFound};
+ghost use Rattle.sk_opts.specs.declared.line.Set.{Set};
+ghost use Rattle.sk_oblig.specs.Formulas.{IsAskable};
+ghost use Rattle.sk_app.specs.Prepared.{IsBuilding, IsFound, IsPossible, IsReady};
 
+use crate::ending::Ending;
 use crate::prepare::Found;
-use sk_base::{Bounds, push_number};
+use crate::result_text::{completed, spent_conflicts, spent_rounds};
+use sk_base::{Bounds, Budget};
 use sk_check::TypeFault;
 use sk_front::{SketchFault, TextFault, sized_expansion_of};
-use sk_model::{Choice, Expanded};
+use sk_min::{Least, least};
+use sk_model::Expanded;
 use sk_opts::Set;
-use sk_print::print;
 use sk_sizes::SizeFault;
-use sk_trials::{Completion, is_small};
 use std::alloc::{AllocError, Global};
 
 /// What is built of a text.
@@ -26,8 +28,6 @@ pub enum Building {
     NotTyped(TypeFault),
     /// The program that it means is too large.
     TooLarge(SizeFault),
-    /// Its expansion is not small enough to try every choice on every input.
-    NotBuilt,
     /// The bounds and the expansion.
     Whole { bounds: Bounds, expanded: Expanded },
 }
@@ -45,72 +45,86 @@ fn built(alloc: Global, set: &Set, text: &[u8]) -> Result<Building, AllocError>
         Err(SketchFault::TooLarge(fault)) => return Ok(Building::TooLarge(fault)),
         Err(SketchFault::Memory) => return Err(AllocError),
     };
-    if !is_small(&expansion.expanded, &expansion.bounds) {
-        return Ok(Building::NotBuilt);
-    }
     Ok(Building::Whole {
         bounds: expansion.bounds,
         expanded: expansion.expanded,
     })
 }
 
-/// Appends each number with a space before it.
-fn push_spaced(out: &mut Vec<u8>, numbers: &[u64]) -> Result<(), AllocError>
-    ensures { OnOk result (out.new.items ≡ out.old.items ++ spaced numbers.now) }
+/// Searches for a completion that costs least, and makes the result text.
+fn search(
+    alloc: Global,
+    expanded: &Expanded,
+    bounds: &Bounds,
+    budget: &Budget,
+) -> Result<Found, AllocError>
+    requires askable { IsAskable expanded.now bounds.now }
+    requires few { length expanded.now.sites ≤ 4294967296 }
+    ensures found { (set : Set) (text : List ℕ) → IsReady set text bounds.now expanded.now → IfOk result (λ found. IsFound set budget.now found text) }
+    ensures possible { IfOk result (IsPossible budget.now) }
 {
-    let mut rest = numbers;
-    while let [number, after @ ..] = rest {
-        out.push(b' ')?;
-        push_number(out, *number)?;
-        rest = after;
+    match least(alloc, expanded, bounds, budget)? {
+        Least::Best {
+            choice,
+            value,
+            pairs: _,
+        } => {
+            let out = completed(alloc, expanded, choice, value)?;
+            Ok(Found::Ended {
+                out,
+                ending: Ending::Completed,
+            })
+        }
+        Least::Nothing { pairs: _ } => {
+            let out = Vec::from_slice(alloc, b"//@ none\n")?;
+            Ok(Found::Ended {
+                out,
+                ending: Ending::NoCompletion,
+            })
+        }
+        Least::Rounds { pairs, best } => {
+            let out = spent_rounds(alloc, expanded, &best, budget.rounds, pairs.as_slice())?;
+            Ok(Found::Ended {
+                out,
+                ending: Ending::SpentRounds { pairs, best },
+            })
+        }
+        Least::Conflicts {
+            pairs,
+            query,
+            formula,
+            log,
+            best,
+        } => {
+            let out = spent_conflicts(alloc, expanded, &best, budget.conflicts)?;
+            Ok(Found::Ended {
+                out,
+                ending: Ending::SpentConflicts {
+                    pairs,
+                    query,
+                    formula,
+                    log,
+                    best,
+                },
+            })
+        }
     }
-    Ok(())
 }
 
-/// Appends the lines of a completion.
-fn push_completion(out: &mut Vec<u8>, choice: &Choice, value: u64) -> Result<(), AllocError>
-    ensures { OnOk result (out.new.items ≡ out.old.items ++ completion_lines choice.now value) }
-{
-    out.extend_from_slice(b"//@ completion\n//@ value ")?;
-    push_number(out, value)?;
-    out.extend_from_slice(b"\n//@ holes")?;
-    push_spaced(out, choice.values.as_slice())?;
-    out.push(b'\n')?;
-    Ok(())
-}
-
-/// The result text of a completion: the filled program and the lines of the completion.
-fn completed(alloc: Global, completion: &Completion) -> Result<Vec<u8>, AllocError>
-    ensures { IfOk result (λ out. out.items ≡ completed_text completion.now) }
-{
-    let mut out = print(alloc, &completion.filled)?;
-    push_completion(&mut out, &completion.choice, completion.value)?;
-    Ok(out)
-}
-
-/// Completes a text with the options of a line, by trying every choice on every input.
-#[tactic(auto, using(crate::proofs::CompleteLaws::finding))]
-pub fn complete(alloc: Global, set: &Set, text: &[u8]) -> Result<Found, AllocError>
+/// Completes a text with the options and budgets of a line.
+pub fn complete(alloc: Global, set: &Set, budget: &Budget, text: &[u8]) -> Result<Found, AllocError>
     requires short { length text.now ≤ most_bytes }
     requires set { IsInRanges set.now }
-    ensures { IfOk result (λ found. IsFound set.now found text.now) }
+    ensures found { IfOk result (λ found. IsFound set.now budget.now found text.now) }
+    ensures possible { IfOk result (IsPossible budget.now) }
 {
     match built(alloc, set, text)? {
         Building::NotText(fault) => Ok(Found::NotText(fault)),
         Building::NotTyped(fault) => Ok(Found::NotTyped(fault)),
         Building::TooLarge(fault) => Ok(Found::TooLarge(fault)),
-        Building::NotBuilt => Ok(Found::NotBuilt),
         Building::Whole { bounds, expanded } => {
-            match sk_trials::complete(alloc, &expanded, &bounds)? {
-                Some(completion) => {
-                    let out = completed(alloc, &completion)?;
-                    Ok(Found::Completion(out))
-                }
-                None => {
-                    let out = Vec::from_slice(alloc, b"//@ none\n")?;
-                    Ok(Found::Nothing(out))
-                }
-            }
+            let found = search(alloc, &expanded, &bounds, budget)?;
+            Ok(found)
         }
     }
 }

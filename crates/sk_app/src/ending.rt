@@ -4,24 +4,43 @@ ghost use Rattle.std.specs.Prelude.{◌≡◌, ◌++◌, codes, IfOk, OnOk};
 ghost use Rattle.std.specs.Fmt.{decimal};
 ghost use Rattle.sk_texts.specs.Messages.{rule_number, refusal_status, refusal_message};
 ghost use Rattle.sk_front.specs.declared.fault.TextFault.TheVariants.{Lex, Parse};
-ghost use Rattle.sk_app.specs.Ending.{text_refusal, rule_of, type_refusal, size_refusal, exec_refusal, status_of, message_of};
+ghost use Rattle.sk_app.specs.Ending.{text_refusal, rule_of, type_refusal, size_refusal, exec_refusal, spent_status, status_of, message_of};
 
-use sk_base::{Name, Span, push_number};
+use sk_base::{List, Name, Span, push_number};
 use sk_check::{Rule, TypeFault};
+use sk_clause::Log;
+use sk_cnf::Encoded;
 use sk_direct::ExecFault;
 use sk_front::TextFault;
 use sk_lexer::LexFault;
+use sk_model::{Choice, Pair};
 use sk_parser::ParseFault;
+use sk_query::Query;
 use sk_sizes::SizeFault;
 use std::alloc::{AllocError, Global};
 
 /// How `run` ends.
-#[derive(Debug, Drop, Clone, Copy, PartialEq, Eq)]
+#[derive(Debug, Drop)]
 pub enum Ending {
     /// The sink got the completed sketch.
     Completed,
     /// No filling meets the harness on every input in range. The sink got a line that says so.
     NoCompletion,
+    /// As many pairs of a choice and an input that speaks against it were found as the line's budget says, and the last
+    /// choice that is known to meet every obligation. The sink got a text that says so.
+    SpentRounds {
+        pairs: List<Pair>,
+        best: Option<Choice>,
+    },
+    /// One call of the solver has learnt as many clauses as the line's budget says: the pairs, the query, its formula and
+    /// the clauses, and the last choice that is known to meet every obligation. The sink got a text that says so.
+    SpentConflicts {
+        pairs: List<Pair>,
+        query: Query,
+        formula: Encoded,
+        log: Log,
+        best: Option<Choice>,
+    },
     /// The sink got the help.
     HelpShown,
     /// The sink got the version.
@@ -29,9 +48,13 @@ pub enum Ending {
     /// The run of a function is done. The sink got its text, as it did of the next two.
     ExecDone,
     /// The run failed at the statement with this span.
-    ExecFailed { span: Span },
+    ExecFailed {
+        span: Span,
+    },
     /// The run was skipped at the statement with this span.
-    ExecSkipped { span: Span },
+    ExecSkipped {
+        span: Span,
+    },
     /// The words are no command line.
     NotALine,
     /// The text has no tokens, or these read as no tree.
@@ -50,8 +73,7 @@ pub enum Ending {
     TooLong,
     /// Memory was wanting.
     Memory,
-    /// The line is one for which the program does nothing: `check`, `self`, or one that asks for a certificate; or the text
-    /// means a program within the limits whose expansion is not small enough to try every choice on every input.
+    /// The line is one for which the program does nothing: `check`, `self`, or one that asks for a certificate.
     NotBuilt,
 }
 
@@ -64,6 +86,14 @@ pub fn status(ending: &Ending) -> u8
         Ending::ExecFailed { span: _ } => 4,
         Ending::ExecSkipped { span: _ } => 5,
         Ending::NoCompletion => 1,
+        Ending::SpentRounds { pairs: _, best } => spent_status(best),
+        Ending::SpentConflicts {
+            pairs: _,
+            query: _,
+            formula: _,
+            log: _,
+            best,
+        } => spent_status(best),
         Ending::NotALine => 10,
         Ending::NotText(fault) => text_status(fault),
         Ending::NotTyped(_) => 12,
@@ -88,6 +118,14 @@ pub fn message(alloc: Global, ending: &Ending) -> Result<Name, AllocError>
         Ending::ExecDone | Ending::ExecFailed { span: _ } | Ending::ExecSkipped { span: _ } => {
             said(alloc, b"")
         }
+        Ending::SpentRounds { pairs: _, best: _ } => said(alloc, b""),
+        Ending::SpentConflicts {
+            pairs: _,
+            query: _,
+            formula: _,
+            log: _,
+            best: _,
+        } => said(alloc, b""),
         Ending::NotALine => said(alloc, b"usage"),
         Ending::NotText(fault) => text_message(alloc, fault),
         Ending::NotTyped(fault) => type_message(alloc, fault),
@@ -98,6 +136,16 @@ pub fn message(alloc: Global, ending: &Ending) -> Result<Name, AllocError>
         Ending::TooLong => said(alloc, b"too long"),
         Ending::Memory => said(alloc, b"no memory"),
         Ending::NotBuilt => said(alloc, b"not built"),
+    }
+}
+
+// The status where a budget is spent: whether a choice is known that meets every obligation.
+fn spent_status(best: &Option<Choice>) -> u8
+    ensures { result ≡ spent_status best.now }
+{
+    match best {
+        None => 2,
+        Some(_) => 3,
     }
 }
 

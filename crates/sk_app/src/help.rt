@@ -16,9 +16,6 @@ sketch exec [OPTION].. NAME VALUE.. < PROGRAM  writes what the function NAME giv
 sketch --help                                  writes this help
 sketch --version                               writes the version
 
-A sketch may use the whole language, and is to be small: synth tries every choice of hole values on
-every input, at most 32768 choices and as many pairs of a choice and an input.
-
 An option is --name N or --name=N, and stands once.
 
   --bnd-cbits        1 to 16, else 5          bits of a hole ??
@@ -26,8 +23,8 @@ An option is --name N or --name=N, and stands once.
   --bnd-unroll-amnt  0 to 64, else 8          turns of a loop
   --bnd-inline-amnt  1 to 16, else 5          active calls of one function
   --int-bits         6 to 32, else 16         bits of int
-  --rounds           0 to 1000000, else 0     without effect
-  --conflicts        0 to 1000000000, else 0  without effect
+  --rounds           0 to 1000000, else 0     inputs that speak against choices; 0 is no limit
+  --conflicts        0 to 1000000000, else 0  clauses learnt in one call; 0 is no limit
 "
 }
 
@@ -40,6 +37,8 @@ It ends with one of these, and from 10 on says more on standard error.
 
    0  completed, or the run is done
    1  no completion meets the harnesses and references on every input
+   2  a budget is spent, and no completion is known
+   3  a budget is spent; the completion may not cost least
    4  the run failed
    5  the run was skipped
   10  the words are no command line
@@ -51,7 +50,7 @@ It ends with one of these, and from 10 on says more on standard error.
   16  the text has more than 1048576 bytes
   17  out of memory
   18  the function cannot be run
-  20  not built: a sketch that is not small, or a line with check, self or --cert
+  20  not built: a line with check, self or --cert
 "
 }
 

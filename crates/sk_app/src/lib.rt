@@ -3,11 +3,14 @@
 
 mod command;
 mod complete;
+mod completion;
 mod direct;
 mod ending;
 mod help;
 mod output;
 mod prepare;
+mod result_text;
+mod spent;
 mod std_streams;
 mod text;
 

@@ -6,8 +6,9 @@ ghost use Rattle.sk_app.specs.Streams.{TakesFew};
 ghost use Rattle.sk_app.specs.Prepared.{IsPrepared};
 
 use crate::complete::complete;
+use crate::ending::Ending;
 use crate::text::{Reading, read_text};
-use sk_base::Source;
+use sk_base::{Budget, Source};
 use sk_check::TypeFault;
 use sk_front::TextFault;
 use sk_opts::Set;
@@ -23,12 +24,8 @@ pub enum Found {
     NotTyped(TypeFault),
     /// The program that it means is too large.
     TooLarge(SizeFault),
-    /// Its expansion is not small enough to try every choice on every input.
-    NotBuilt,
-    /// There is no completion: the result text that says so.
-    Nothing(Vec<u8>),
-    /// The result text of a completion.
-    Completion(Vec<u8>),
+    /// The search ended so: its result text, and how the line ends where that is written.
+    Ended { out: Vec<u8>, ending: Ending },
 }
 
 /// What a source comes to.
@@ -39,17 +36,22 @@ pub enum Prepared {
     Found(Found),
 }
 
-/// Reads the text, and completes it with the options of a line.
-pub fn prepare<S: Source>(alloc: Global, set: &Set, source: &mut S) -> Result<Prepared, AllocError>
+/// Reads the text, and completes it with the options and budgets of a line.
+pub fn prepare<S: Source>(
+    alloc: Global,
+    set: &Set,
+    budget: &Budget,
+    source: &mut S,
+) -> Result<Prepared, AllocError>
     requires { IsInRanges set.now }
-    ensures cause { IfOk result (λ prepared. IsPrepared set.now prepared (S.faults source.old) (S.faults source.new) (S.left source.old)) }
+    ensures cause { IfOk result (λ prepared. IsPrepared set.now budget.now prepared (S.faults source.old) (S.faults source.new) (S.left source.old)) }
     ensures few { TakesFew (S.left source.old) (S.left source.new) }
 {
     match read_text(alloc, source)? {
         Reading::Failed => Ok(Prepared::ReadFault),
         Reading::Long => Ok(Prepared::TooLong),
         Reading::Whole(text) => {
-            let found = complete(alloc, set, text.as_slice())?;
+            let found = complete(alloc, set, budget, text.as_slice())?;
             Ok(Prepared::Found(found))
         }
     }

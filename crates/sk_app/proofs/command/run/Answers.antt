@@ -10,6 +10,12 @@ returns-clause-completed g c = laws.completed c.answer-ending.ensures
 pub returns-clause-none : goal.returns-clause-none
 returns-clause-none g c = laws.none c.answer-ending.ensures
 
+pub returns-clause-spent_rounds : goal.returns-clause-spent_rounds
+returns-clause-spent_rounds g c = laws.spent_rounds c.answer-ending.ensures
+
+pub returns-clause-spent_conflicts : goal.returns-clause-spent_conflicts
+returns-clause-spent_conflicts g c = laws.spent_conflicts c.answer-ending.ensures
+
 pub returns-clause-help : goal.returns-clause-help
 returns-clause-help g c = laws.help c.answer-ending.ensures
 
@@ -84,9 +90,6 @@ returns-clause-ends_untyped g c = laws.ends_untyped c.answer-ending.ensures
 
 pub returns-clause-ends_large : goal.returns-clause-ends_large
 returns-clause-ends_large g c = laws.ends_large c.answer-ending.ensures
-
-pub returns-clause-ends_unbuilt : goal.returns-clause-ends_unbuilt
-returns-clause-ends_unbuilt g c = laws.ends_unbuilt c.answer-ending.ensures
 
 pub returns-clause-ends_long : goal.returns-clause-ends_long
 returns-clause-ends_long g c = laws.ends_long c.answer-ending.ensures

@@ -1,6 +1,6 @@
 use Rattle.std.proofs.Common.{◌≡◌, ◌++◌, length}
 use Rattle.sk_app.specs.ResultText.{spaced}
-use Rattle.sk_app.proofs.complete.push_spaced.Given as goal
+use Rattle.sk_app.proofs.spent.push_spaced.Given as goal
 
 abbrev pub invariant-loop-rest : goal.invariant-loop-rest
 invariant-loop-rest l = l.out.items ++ spaced l.rest ≡ l.fn.out.items ++ spaced l.numbers

@@ -1,0 +1,20 @@
+-- Completions of a sketch, and which costs least.
+use Rattle.std.specs.Prelude.{ℕ, ◌≡◌, ◌≤◌}
+use Rattle.sk_base.specs.declared.bounds.Bounds.{Bounds}
+use Rattle.sk_model.specs.declared.expanded.Choice.{Choice}
+use Rattle.sk_model.specs.declared.expanded.Expanded.{Expanded}
+use Rattle.sk_model.specs.Fill.{InRange, fill}
+use Rattle.sk_model.specs.Meets.{Meets, IsGreatestCost}
+use Rattle.sk_app.specs.declared.completion.Completion.{Completion}
+
+-- The filling of a choice in range, which meets its obligations, and its greatest cost.
+pub record IsCompletion (bounds : Bounds) (e : Expanded) (c : Completion) : Type 0 where
+  pub in_range : InRange e c.choice
+  pub is_filling : c.filled ≡ fill e c.choice
+  pub meets : Meets c.filled bounds
+  pub costs : IsGreatestCost c.filled bounds c.value
+
+-- A completion, and none costs less.
+pub record IsLeast (bounds : Bounds) (e : Expanded) (c : Completion) : Type 0 where
+  pub completes : IsCompletion bounds e c
+  pub least : (b : Choice) → InRange e b → Meets (fill e b) bounds → (v : ℕ) → IsGreatestCost (fill e b) bounds v → c.value ≤ v

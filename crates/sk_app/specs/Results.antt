@@ -1,0 +1,30 @@
+-- Which endings of a line `synth` have a result text, and which text it is.
+use Rattle.std.specs.Prelude.{ℕ, List}
+use Rattle.sk_base.specs.declared.bounds.Budget.{Budget}
+use Rattle.sk_loop_laws.specs.Shown.{AreSpent}
+use Rattle.sk_opts.specs.declared.line.Set.{Set}
+use Rattle.sk_app.specs.declared.ending.Ending.{Ending}
+use Rattle.sk_app.specs.declared.ending.Ending.TheVariants.{Completed, NoCompletion, SpentRounds, SpentConflicts}
+use Rattle.sk_app.specs.ResultText.{IsCompletion, IsNone}
+use Rattle.sk_app.specs.Spent.{AreLearnt, IsSpentRounds, IsSpentConflicts}
+
+-- the result text of an ending, with these options and budgets
+abbrev pub IsResultOf : Set → Budget → List ℕ → Ending → List ℕ → Type 0
+IsResultOf set budget text Completed out = IsCompletion set text out
+IsResultOf set budget text NoCompletion out = IsNone set text out
+IsResultOf set budget text (SpentRounds pairs best) out = IsSpentRounds set budget text pairs best out
+IsResultOf set budget text (SpentConflicts pairs q f log best) out = IsSpentConflicts set budget text pairs q f log best out
+IsResultOf set budget text _ out = ⊥
+
+-- Whatever the text is, an ending has a result text only where no budget is spent, or where one is that is not 0.
+abbrev pub HasResult : Budget → Ending → Type 0
+HasResult budget Completed = Unit {0}
+HasResult budget NoCompletion = Unit {0}
+HasResult budget (SpentRounds pairs best) = AreSpent budget.rounds pairs
+HasResult budget (SpentConflicts pairs q f log best) = AreLearnt budget.conflicts log
+HasResult budget _ = ⊥
+
+-- a text that a line `synth` writes
+pub record IsResult (set : Set) (budget : Budget) (text out : List ℕ) : Type 0 where
+  pub ending : Ending
+  pub is : IsResultOf set budget text ending out
