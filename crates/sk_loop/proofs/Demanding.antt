@@ -14,8 +14,8 @@ use Rattle.sk_model.specs.Meets.{Breaks, Passes, cost_on}
 use Rattle.sk_query.specs.declared.query.Query.TheVariants as query
 use Rattle.sk_query.specs.Queries.{AsksFor, IsWanted}
 use Rattle.sk_query.specs.Said.{choice_said}
-use Rattle.sk_oblig.specs.declared.asking.Asking.{Asking}
-use Rattle.sk_oblig.specs.Asking.{Demand, IsAsking, PassesEach}
+use Rattle.sk_asking.specs.declared.asking.Asking.{Asking}
+use Rattle.sk_asking.specs.Asking.{Demand, IsAsking, PassesEach}
 use Rattle.sk_loop_laws.specs.Honest.{inputs_of}
 use Rattle.sk_loop.specs.Session.{AreDemands, Asks, IsAbove, IsFront, IsListed}
 

@@ -18,7 +18,7 @@ use Rattle.sk_query.specs.declared.query.Query.TheVariants as query
 use Rattle.sk_query.specs.Queries.{AsksFor, IsWanted}
 use Rattle.sk_query.specs.Laws.{AreSmall}
 use Rattle.sk_query.proofs.Nothing.{nothing_wanted}
-use Rattle.sk_oblig.specs.declared.asking.Asking.{Asking}
+use Rattle.sk_asking.specs.declared.asking.Asking.{Asking}
 use Rattle.sk_oblig.specs.Formulas.{IsAskable}
 use Rattle.sk_loop_laws.specs.Honest.{Honest, inputs_of}
 use Rattle.sk_loop_laws.specs.Shown.{Learnt, NonePasses, limit_of}
