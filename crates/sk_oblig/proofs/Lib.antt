@@ -3,3 +3,5 @@ pub mod Parameters
 pub mod Speaking
 pub mod Listed
 pub mod Whole
+pub mod Judged
+pub mod Answering

@@ -73,7 +73,7 @@ says_wanted {d0} {d1} {d2} {x} {bounds} {inputs} {limit} sites fine range r same
 -- What is said of runs under a choice is said of its filling
 
 module _ {x : Expanded} {bounds : Bounds} {a : Choice} (met : IsMetUnder x a bounds) where
-  bad_filling : (limit : Option ℕ) (input : Input) → BadBy x a bounds limit input ↔ (Breaks (fill x a) bounds input ⊎ IsOver limit (cost_on (fill x a) bounds input))
+  pub bad_filling : (limit : Option ℕ) (input : Input) → BadBy x a bounds limit input ↔ (Breaks (fill x a) bounds input ⊎ IsOver limit (cost_on (fill x a) bounds input))
   bad_filling limit input = (forth, back)
     where
       forth : BreaksUnder x a bounds input ⊎ IsOver limit (cost_under x a bounds input) → Breaks (fill x a) bounds input ⊎ IsOver limit (cost_on (fill x a) bounds input)
@@ -84,7 +84,7 @@ module _ {x : Expanded} {bounds : Bounds} {a : Choice} (met : IsMetUnder x a bou
       back (inl h) = inl ((met.breaks input).0 h)
       back (inr h) = inr (subst (IsOver limit) (met.costs input) h)
 
-passes_of : (x : Expanded) (bounds : Bounds) (a : Choice) (limit : Option ℕ) (inputs : List Input) → IsMetUnder x a bounds → All (λ input. BadBy x a bounds limit input → ⊥) inputs → Passes (fill x a) bounds inputs limit
+pub passes_of : (x : Expanded) (bounds : Bounds) (a : Choice) (limit : Option ℕ) (inputs : List Input) → IsMetUnder x a bounds → All (λ input. BadBy x a bounds limit input → ⊥) inputs → Passes (fill x a) bounds inputs limit
 passes_of x bounds a None inputs met h = record {
   unbroken = λ i d l b. h i d l (inl ((met.breaks (get_or inputs i d)).0 b));
   within = tt;
@@ -102,7 +102,7 @@ passes_of x bounds a (Some most) inputs met h = record {
         by (inr (inl h)) = omega (arith, h)
         by (inr (inr h)) = absurd (none h)
 
-of_passes : (x : Expanded) (bounds : Bounds) (a : Choice) (limit : Option ℕ) (inputs : List Input) → IsMetUnder x a bounds → Passes (fill x a) bounds inputs limit → All (λ input. BadBy x a bounds limit input → ⊥) inputs
+pub of_passes : (x : Expanded) (bounds : Bounds) (a : Choice) (limit : Option ℕ) (inputs : List Input) → IsMetUnder x a bounds → Passes (fill x a) bounds inputs limit → All (λ input. BadBy x a bounds limit input → ⊥) inputs
 of_passes x bounds a None inputs met p i d l (inl h) = p.unbroken i d l ((met.breaks (get_or inputs i d)).1 h)
 of_passes x bounds a None inputs met p i d l (inr h) = h
 of_passes x bounds a (Some most) inputs met p i d l (inl h) = p.unbroken i d l ((met.breaks (get_or inputs i d)).1 h)
@@ -111,11 +111,11 @@ of_passes x bounds a (Some most) inputs met p i d l (inr h) =
     let over : most < cost_on (fill x a) bounds (get_or inputs i d) = subst (λ c. most < c) (sym (met.costs (get_or inputs i d))) h in
     absurd (omega (arith, within, over))
 
-said_length : (ws : List ℕ) (bits : List Bool) → length (numbers_said ws bits) ≡ length ws
+pub said_length : (ws : List ℕ) (bits : List Bool) → length (numbers_said ws bits) ≡ length ws
 said_length [] bits = refl
 said_length (w ∷ ws) bits = ap suc (said_length ws (drop w bits))
 
-widths_length : (sites : List Site) → length (sites_widths sites) ≡ length sites
+pub widths_length : (sites : List Site) → length (sites_widths sites) ≡ length sites
 widths_length [] = refl
 widths_length (s ∷ ss) = ap suc (widths_length ss)
 
@@ -133,7 +133,7 @@ wanted_root {d} {x} {bounds} inputs limit r askable is = record {
 -- An input that is asked for
 
 module _ {x : Expanded} {bounds : Bounds} {a : Choice} {limit : Option ℕ} (askable : IsAskable x bounds) (range : InRange x a) where
-  bad_of : (i : ℕ) (o : Obligation) (ns : List ℕ) → slice_get (obligations x.prog) i ≡ Some o → StartsBelow (params_widths bounds.inbits (params_of x.prog o)) ns → BadOf x a bounds limit o ns ↔ IsBad x bounds a limit (input_said x.prog i ns)
+  pub bad_of : (i : ℕ) (o : Obligation) (ns : List ℕ) → slice_get (obligations x.prog) i ≡ Some o → StartsBelow (params_widths bounds.inbits (params_of x.prog o)) ns → BadOf x a bounds limit o ns ↔ IsBad x bounds a limit (input_said x.prog i ns)
   bad_of i o ns at below = (forth, back)
     where
       args : args_said (params_of x.prog o) ns ≡ args_said (params_at x.prog i) ns
@@ -249,7 +249,7 @@ narrow_obligations inbits prog (o ∷ os) h = All-append (λ w. w ≤ 32) (param
 
 -- Formulas
 
-says_query : (x : Expanded) (bounds : Bounds) (q : Query) (bits : List Bool) → IsAskable x bounds → length bits ≡ length (leaves_of_query x bounds q) → Says (leaves_of_query x bounds q) bits (env_of x bounds q bits)
+pub says_query : (x : Expanded) (bounds : Bounds) (q : Query) (bits : List Bool) → IsAskable x bounds → length bits ≡ length (leaves_of_query x bounds q) → Says (leaves_of_query x bounds q) bits (env_of x bounds q bits)
 says_query x bounds (query.Bad a limit) bits askable long =
     inputs_say (obligations_widths bounds.inbits x.prog (obligations x.prog)) bits (narrow_obligations bounds.inbits x.prog (obligations x.prog) (let h = askable.high in let k = askable.inbits in omega (arith, h, k))) long
 says_query x bounds (query.BadAt a o limit) bits askable long =

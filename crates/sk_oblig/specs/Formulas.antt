@@ -19,7 +19,7 @@ use Rattle.sk_cnf.specs.Leaves.{Says}
 use Rattle.sk_query.specs.declared.query.Query.{Query}
 use Rattle.sk_query.specs.declared.query.Query.TheVariants as query
 use Rattle.sk_query.specs.Numbers.{numbers_said}
-use Rattle.sk_query.specs.Queries.{Holds, bits_of_query, widths_of_query}
+use Rattle.sk_query.specs.Queries.{Holds, IsBad, bits_of_query, widths_of_query}
 use Rattle.sk_query.specs.Widths.{sites_widths}
 use Rattle.sk_sym.specs.Outcome.{choice_of}
 use Rattle.sk_oblig_laws.specs.Laws.{StartsBelow, choice_env, input_env}
@@ -40,6 +40,18 @@ abbrev pub IsAsked : Expanded → Query → Type 0
 IsAsked e (query.Bad choice limit) = InRange e choice
 IsAsked e (query.BadAt choice o limit) = InRange e choice
 IsAsked e (query.Wanted inputs limit) = Unit {0}
+
+-- the query asks for an input
+abbrev pub AsksInput : Query → Type 0
+AsksInput (query.Bad choice limit) = Unit {0}
+AsksInput (query.BadAt choice o limit) = Unit {0}
+AsksInput (query.Wanted inputs limit) = ⊥
+
+-- the input is one that the query asks for
+abbrev pub IsAnswer : Expanded → Bounds → Query → Input → Type 0
+IsAnswer e bounds (query.Bad choice limit) input = IsBad e bounds choice limit input
+IsAnswer e bounds (query.BadAt choice o limit) input = IsBad e bounds choice limit input × (input.obligation ≡ o)
+IsAnswer e bounds (query.Wanted inputs limit) input = ⊥
 
 -- ---- Step by step
 

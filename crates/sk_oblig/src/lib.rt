@@ -3,8 +3,14 @@
 
 mod asked;
 mod formulas;
+mod inputs;
+mod judging;
 mod plain;
 mod range;
 mod wanted;
 
 pub use formulas::formula;
+pub use inputs::input_of;
+pub use judging::{cost_of, speaks_on};
+pub use range::in_range;
+pub use wanted::is_fine;

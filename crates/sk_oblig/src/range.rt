@@ -105,7 +105,7 @@ fn behind(place: u32) -> Result<u32, AllocError>
 
 /// Whether each value of the choice is below the size of its site, where none has more bits than the size asks for.
 #[tactic(auto, using(crate::proofs::Ranges::in_range))]
-pub(crate) fn in_range(dag: &mut Dag, sites: &[Site]) -> Result<BoolId, AllocError>
+pub fn in_range(dag: &mut Dag, sites: &[Site]) -> Result<BoolId, AllocError>
     ensures keeps { Keeps dag.old dag.new }
     ensures range { IfOk result (λ r. SaysInRange dag.new sites.now r) }
 {

@@ -46,9 +46,14 @@ fn spares(
     Ok(r)
 }
 
-// Whether an input does not speak against the choice; one of no obligation never does.
+/// Whether an input does not speak against the choice, where that is in range; one of no obligation never does.
+///
+/// # Errors
+///
+/// Memory is wanting, or what `execute` counts as that; or the input names a record, or has an `int` that is no word of the
+/// width.
 #[tactic(auto, using(crate::proofs::Listed::sparing))]
-fn is_fine(
+pub fn is_fine(
     alloc: Global,
     dag: &mut Dag,
     expanded: &Expanded,

@@ -1,0 +1,7 @@
+//! A formula that asks for a choice and grows by one input after another.
+#![tactic(auto)]
+
+mod asking;
+mod moving;
+
+pub use asking::Asking;
