@@ -1,5 +1,5 @@
 -- What a formula asks after one input more.
-use Rattle.std.proofs.Common.{◌≡◌, ℕ, zero, suc, All, Bool, true, ◌⊎◌, List, [], ◌∷◌, ◌++◌, length, Option, None, ◌↔◌, refl, sym, ap, subst, ◌∙◌, arith}
+use Rattle.std.proofs.Common.{◌≡◌, ℕ, zero, suc, All, Bool, true, List, [], ◌∷◌, ◌++◌, length, Option, None, refl, sym, ap, subst, ◌∙◌, arith}
 use Rattle.std.proofs.lemmas.List.Elements.{All-nil}
 use Rattle.sk_base.specs.declared.bounds.Bounds.{Bounds}
 use Rattle.sk_dag.specs.declared.env.Env.{Env}
@@ -16,20 +16,21 @@ use Rattle.sk_model.specs.Fill.{fill}
 use Rattle.sk_model.specs.Meets.{Passes}
 use Rattle.sk_cnf.specs.declared.leaf.Leaf.{Leaf}
 use Rattle.sk_cnf.specs.declared.growing.Growing.{Growing}
-use Rattle.sk_cnf.specs.Formula.{AreTrue}
+use Rattle.sk_cnf.specs.Formula.{AreTrue, Tight}
 use Rattle.sk_cnf.specs.Leaves.{Says}
 use Rattle.sk_cnf.specs.Standing.{Stands}
 use Rattle.sk_query.specs.declared.query.Query.TheVariants as query
 use Rattle.sk_query.specs.Queries.{bits_of_query, leaves_of_query}
 use Rattle.sk_query.specs.Said.{choice_said}
 use Rattle.sk_query.specs.Widths.{sites_widths}
-use Rattle.sk_sym.specs.Outcome.{choice_of}
 use Rattle.sk_oblig_laws.proofs.Ranges.{starts_said}
 use Rattle.sk_oblig.specs.Nodes.{BadBy, SaysFine, SaysInRange}
 use Rattle.sk_oblig.specs.Formulas.{IsAskable, env_of}
 use Rattle.sk_oblig.proofs.Ranges.{fits_within, within_fits}
 use Rattle.sk_oblig.proofs.Whole.{passes_of, of_passes, says_query, said_length, widths_length}
-use Rattle.sk_asking.specs.Asking.{Demand, PassesEach, AsksForEach, AreRoots}
+use Rattle.sk_oblig.proofs.Speaking.{keeps_width}
+use Rattle.sk_asking.specs.declared.asking.Asking.{Asking}
+use Rattle.sk_asking.specs.Asking.{Demand, PassesEach, AsksForEach, AreRoots, IsAsking}
 
 -- From roots to what is asked
 
@@ -101,3 +102,47 @@ more_roots {d0} {d1} {x} {bounds} {demands} input limit roots r askable keeps th
         let old = (means.value bits).1 (record { range = p.range; passes = all_front (Passing bits) demands (record { input = input; limit = limit }) p.passes }) in
         let none = of_passes x bounds (said bits) limit (input ∷ []) (askable.met (said bits) p.range) (all_last (Passing bits) demands (record { input = input; limit = limit }) p.passes) in
         all_push (λ q. bool_value d1 (env bits) q ≡ true) roots r (λ i d l. bool_value-grows grows (there i d l) (env bits) ∙ old i d l) ((fine.value d1 (env bits) (Grows-refl d1) p.range).1 (none 0 input (omega arith)))
+
+pub added : {x : Expanded} {bounds : Bounds} {demands : List Demand} (old new : Asking) (input : Input) (limit : Option ℕ) (r : BoolId) → IsAskable x bounds → IsAsking old x bounds demands → Keeps old.dag new.dag
+    → SaysFine new.dag x bounds limit input r
+    → ((g : Graph) (roots : List BoolId) → Stands old.growing g roots → Grows g new.dag → Stands new.growing new.dag (roots ++ r ∷ []))
+    → (Tight old.growing.encoded → Tight new.growing.encoded) → new.growing.leaves ≡ old.growing.leaves
+    → IsAsking new x bounds (demands ++ (record { input = input; limit = limit }) ∷ [])
+added {x} {bounds} {demands} old new input limit r askable is keeps fine stand tight same =
+    let stands : Stands new.growing new.dag (is.roots ++ r ∷ []) = stand old.dag is.roots is.stands (keeps.later new.dag (Grows-refl new.dag)) in
+    let means : AreRoots new.dag x bounds (demands ++ (record { input = input; limit = limit }) ∷ []) (is.roots ++ r ∷ []) = more_roots input limit is.roots r askable keeps is.stands.there fine is.means in
+    let leaves : new.growing.leaves.keys ≡ leaves_of_query x bounds (query.Wanted [] None) = rw same is.leaves in
+    record {
+      asks = asks_each new.growing new.dag (is.roots ++ r ∷ []) askable leaves (sym (ap length is.leaves) ∙ sym is.stands.means.encodes.named ∙ is.asks.named) stands means;
+      tight = tight is.tight;
+      width = keeps_width keeps is.width;
+      leaves = leaves;
+      roots = is.roots ++ r ∷ [];
+      stands = stands;
+      means = means;
+    }
+
+-- The beginning
+
+pub grows_empty : (g : Graph) → Grows (record { bits = g.bits; nodes = [] }) g
+grows_empty g = record { bits = refl; nodes = refl }
+
+pub begun : {x : Expanded} {bounds : Bounds} (a : Asking) (start : Growing) (sites : List Site) (inputs : List Input) (all slice : List Leaf) (r : BoolId) → IsAskable x bounds → a.dag.bits ≡ bounds.int_bits
+    → sites ≡ x.sites → SaysInRange a.dag sites r → inputs ≡ [] → all ≡ leaves_of_query x bounds (query.Wanted inputs None) → length all ≡ bits_of_query x bounds (query.Wanted inputs None) → slice ≡ all → start.leaves.keys ≡ slice
+    → Stands a.growing a.dag (r ∷ []) → Tight a.growing.encoded → a.growing.leaves ≡ start.leaves
+    → IsAsking a x bounds []
+begun {x} {bounds} a start sites inputs all slice r askable width are range none is count same keys stands tight kept =
+    let said : all ≡ leaves_of_query x bounds (query.Wanted [] None) = subst (λ (ns : List Input). all ≡ leaves_of_query x bounds (query.Wanted ns None)) none is in
+    let counted : length all ≡ bits_of_query x bounds (query.Wanted [] None) = subst (λ (ns : List Input). length all ≡ bits_of_query x bounds (query.Wanted ns None)) none count in
+    let begins : start.leaves.keys ≡ leaves_of_query x bounds (query.Wanted [] None) = keys ∙ same ∙ said in
+    let leaves : a.growing.leaves.keys ≡ leaves_of_query x bounds (query.Wanted [] None) = rw kept begins in
+    let means : AreRoots a.dag x bounds [] (r ∷ []) = range_roots sites r are range in
+    record {
+      asks = asks_each a.growing a.dag (r ∷ []) askable leaves (sym (ap length said) ∙ counted) stands means;
+      tight = tight;
+      width = width;
+      leaves = leaves;
+      roots = r ∷ [];
+      stands = stands;
+      means = means;
+    }

@@ -1,5 +1,5 @@
 -- What runs on constants say of an input and a choice.
-use Rattle.std.proofs.Common.{◌≡◌, ℕ, Bool, true, false, true≢false, ◌⊎◌, List, slice_get, Option, Some, None, ◌↔◌, refl, sym, ap, subst, ◌∙◌}
+use Rattle.std.proofs.Common.{◌≡◌, ℕ, Bool, true, false, true≢false, ◌⊎◌, List, slice_get, Option, Some, ◌↔◌, sym, ap, subst, ◌∙◌}
 use Rattle.sk_base.specs.declared.bounds.Bounds.{Bounds}
 use Rattle.sk_dag.specs.declared.env.Env.{Env}
 use Rattle.sk_dag.specs.declared.node.BoolId.{BoolId}
@@ -17,7 +17,7 @@ use Rattle.sk_model.specs.declared.outcome.Outcome.{Outcome}
 use Rattle.sk_model.specs.Obligations.{obligations}
 use Rattle.sk_model.specs.Inputs.{IsInput}
 use Rattle.sk_model.specs.Fill.{InRange, fill}
-use Rattle.sk_model.specs.Meets.{Breaks, cost_of, cost_on}
+use Rattle.sk_model.specs.Meets.{cost_of, cost_on}
 use Rattle.sk_model.specs.Open.{run_open}
 use Rattle.sk_chosen.specs.Meeting.{IsBrokenUnder, cost_of_obligation_under}
 use Rattle.sk_query.specs.Queries.{IsOver, IsBad}

@@ -1,5 +1,5 @@
 -- Nodes that hold where no listed input speaks against the choice.
-use Rattle.std.proofs.Common.{◌≡◌, ℕ, ◌+◌, ◌<◌, ◌≤◌, All, Bool, true, false, true≢false, not, ◌&&◌, ◌⊎◌, inl, inr, List, [], ◌∷◌, ◌++◌, length, take, get_or, slice_get, Option, Some, None, ◌↔◌, refl, sym, ap, subst, ◌∙◌, arith}
+use Rattle.std.proofs.Common.{◌≡◌, ℕ, ◌+◌, ◌<◌, ◌≤◌, Bool, true, false, true≢false, not, ◌&&◌, ◌⊎◌, inl, inr, List, [], ◌∷◌, ◌++◌, length, take, get_or, slice_get, Option, Some, None, ◌↔◌, refl, sym, ap, subst, ◌∙◌, arith}
 use Rattle.std.proofs.lemmas.List.{take_more, take_all}
 use Rattle.std.proofs.lemmas.List.Elements.{All-nil}
 use Rattle.sk_base.specs.declared.bounds.Bounds.{Bounds}
@@ -20,7 +20,7 @@ use Rattle.sk_sym.specs.Outcome.{choice_of}
 use Rattle.sk_chosen.specs.Meeting.{IsBrokenUnder, cost_of_obligation_under}
 use Rattle.sk_query.specs.Queries.{IsOver}
 use Rattle.sk_arguments.specs.Constants.{AreConstant}
-use Rattle.sk_checks.specs.Checks.{IsCheck, IsBadUnder}
+use Rattle.sk_checks.specs.Checks.{IsCheck}
 use Rattle.sk_oblig.specs.Nodes.{BadBy, SaysFine, SaysAllFine}
 use Rattle.sk_oblig.proofs.Ranges.{both_true}
 use Rattle.sk_oblig.proofs.Speaking.{keeps_width}

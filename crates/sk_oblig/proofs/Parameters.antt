@@ -1,14 +1,12 @@
 -- Parameters, and which of them say inputs.
-use Rattle.std.proofs.Common.{◌≡◌, ℕ, zero, suc, ◌+◌, ◌<◌, ◌≤◌, Bool, true, false, true≢false, ◌&&◌, not, List, [], ◌∷◌, ◌++◌, length, take, drop, get_or, slice_get, Option, Some, None, ◌↔◌, refl, sym, ap, subst, ◌∙◌, arith, length-append}
+use Rattle.std.proofs.Common.{◌≡◌, ℕ, ◌+◌, ◌<◌, ◌≤◌, true, false, true≢false, ◌&&◌, List, [], ◌∷◌, ◌++◌, length, take, drop, get_or, slice_get, Option, Some, None, ◌↔◌, refl, sym, ap, subst, ◌∙◌, arith, length-append}
 use Rattle.std.proofs.lemmas.List.{take_more, take_all, drop_more, at_drop_all, length-replicate}
 use Rattle.std.proofs.lemmas.Option.{same_Some}
 use Rattle.sk_base.specs.declared.bounds.Bounds.{Bounds}
 use Rattle.sk_prog.specs.declared.prog.ParamDef.{ParamDef}
 use Rattle.sk_prog.specs.declared.prog.Fun.{Fun}
 use Rattle.sk_prog.specs.declared.prog.Prog.{Prog}
-use Rattle.sk_prog.specs.declared.value.Value.{Value}
 use Rattle.sk_model.specs.declared.expanded.Obligation.{Obligation}
-use Rattle.sk_model.specs.declared.expanded.Input.{Input}
 use Rattle.sk_model.specs.Obligations.{obligations}
 use Rattle.sk_model.specs.Inputs.{fun_of, args_in_range, IsInput}
 use Rattle.sk_query.specs.Widths.{elem_width, elem_of, numbers_of, ty_widths, params_widths, params_of, params_of_fun, params_if, params_at}

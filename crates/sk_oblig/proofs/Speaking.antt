@@ -1,5 +1,5 @@
 -- Nodes that hold where the input speaks against a choice.
-use Rattle.std.proofs.Common.{◌≡◌, ℕ, zero, suc, ◌+◌, ◌-◌, ◌<◌, ◌≤◌, Bool, true, false, true≢false, ◌||◌, ◌⊎◌, inl, inr, List, [], ◌∷◌, ◌++◌, length, take, drop, get_or, slice_get, Option, Some, None, ◌↔◌, refl, sym, ap, subst, ◌∙◌, arith, length-append, append_assoc}
+use Rattle.std.proofs.Common.{◌≡◌, ℕ, zero, suc, ◌+◌, ◌-◌, ◌<◌, ◌≤◌, Bool, true, false, true≢false, ◌||◌, ◌⊎◌, inl, inr, List, [], ◌∷◌, ◌++◌, length, take, drop, get_or, slice_get, Option, Some, ◌↔◌, refl, sym, ap, subst, ◌∙◌, arith, length-append, append_assoc}
 use Rattle.std.proofs.lemmas.List.{take_more, take_all, drop-drop, append-nil}
 use Rattle.std.proofs.lemmas.Option.{none-some, same_Some}
 use Rattle.sk_base.specs.declared.bounds.Bounds.{Bounds}
@@ -15,13 +15,12 @@ use Rattle.sk_model.specs.declared.expanded.Expanded.{Expanded}
 use Rattle.sk_model.specs.declared.expanded.Obligation.{Obligation}
 use Rattle.sk_model.specs.Fill.{InRange}
 use Rattle.sk_prog.specs.declared.prog.ParamDef.{ParamDef}
-use Rattle.sk_prog.specs.declared.prog.Prog.{Prog}
 use Rattle.sk_query.specs.Widths.{params_widths, params_of, obligations_widths}
 use Rattle.sk_query.specs.Said.{args_said}
 use Rattle.sk_oblig_laws.specs.Laws.{HasNumbers, StartsBelow}
 use Rattle.sk_oblig_laws.proofs.Ranges.{starts_split, has_later}
 use Rattle.sk_arguments.specs.Arguments.{AreArguments, count_of}
-use Rattle.sk_checks.specs.Checks.{IsCheck, IsBadUnder}
+use Rattle.sk_checks.specs.Checks.{IsCheck}
 use Rattle.sk_oblig.specs.Nodes.{SaysBad, SaysAnyBad, BadOf, AnyBad, has_inputs}
 use Rattle.sk_oblig.proofs.Parameters.{widths_count}
 

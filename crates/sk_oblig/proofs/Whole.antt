@@ -1,7 +1,5 @@
 -- From the nodes of a query to what it asks for.
-use Rattle.std.proofs.Common.{◌≡◌, ℕ, zero, suc, ◌+◌, ◌-◌, ◌<◌, ◌≤◌, ◌^◌, All, Bool, true, false, ◌&&◌, ◌⊎◌, inl, inr, List, [], ◌∷◌, length, map, take, drop, replicate, get_or, slice_get, Option, Some, None, ◌↔◌, refl, sym, ap, subst, ◌∙◌, arith}
-use Rattle.std.specs.Prelude.{nat_lt, slice_index, IfSome}
-use Rattle.std.specs.List.{sum, list_all}
+use Rattle.std.proofs.Common.{◌≡◌, ℕ, zero, suc, ◌<◌, ◌≤◌, All, Bool, true, ◌&&◌, ◌⊎◌, inl, inr, List, [], ◌∷◌, length, drop, replicate, get_or, slice_get, Option, Some, None, ◌↔◌, refl, sym, ap, subst, ◌∙◌, arith}
 use Rattle.std.proofs.lemmas.Bool.{and_parts, ltb-true, cases_order}
 use Rattle.std.proofs.lemmas.List.{append-nil}
 use Rattle.std.proofs.lemmas.Option.{none-some}
@@ -20,7 +18,7 @@ use Rattle.sk_model.specs.declared.expanded.Obligation.{Obligation}
 use Rattle.sk_model.specs.declared.expanded.Site.{Site}
 use Rattle.sk_model.specs.Obligations.{obligations}
 use Rattle.sk_model.specs.Inputs.{IsInput}
-use Rattle.sk_model.specs.Fill.{InRange, Fits, fill}
+use Rattle.sk_model.specs.Fill.{InRange, fill}
 use Rattle.sk_model.specs.Meets.{Breaks, cost_on, Passes}
 use Rattle.sk_holes.specs.Needs.{is_narrow, are_narrow}
 use Rattle.sk_prog.specs.declared.ty.Elem.{Elem}
@@ -29,23 +27,22 @@ use Rattle.sk_prog.specs.declared.prog.ParamDef.{ParamDef}
 use Rattle.sk_prog.specs.declared.prog.Prog.{Prog}
 use Rattle.sk_chosen.specs.Meeting.{IsBrokenUnder, cost_of_obligation_under, BreaksUnder, cost_under, IsMetUnder}
 use Rattle.sk_cnf.specs.declared.leaf.Leaf.{Leaf}
-use Rattle.sk_cnf.specs.declared.leaf.Leaf.TheVariants.{Hole, Input as InputLeaf}
 use Rattle.sk_cnf.specs.declared.growing.Encoded.{Encoded}
-use Rattle.sk_cnf.specs.Formula.{Encodes, Extends, AreTrue, IsEncoding, Tight}
+use Rattle.sk_cnf.specs.Formula.{AreTrue, IsEncoding}
 use Rattle.sk_cnf.specs.Leaves.{Says}
 use Rattle.sk_query.specs.declared.query.Query.{Query}
 use Rattle.sk_query.specs.declared.query.Query.TheVariants as query
-use Rattle.sk_query.specs.Numbers.{bits_of_size, numbers_said, leaves_from}
+use Rattle.sk_query.specs.Numbers.{bits_of_size, numbers_said}
 use Rattle.sk_query.specs.Widths.{elem_width, elem_of, numbers_of, ty_widths, sites_widths, params_widths, params_of, params_if, params_at, obligations_widths, numbers_before}
 use Rattle.sk_query.specs.Said.{args_said, input_said, choice_said}
-use Rattle.sk_query.specs.Queries.{IsOver, IsBad, IsWanted, Holds, AsksFor, bits_of_query, widths_of_query, leaves_of_query}
+use Rattle.sk_query.specs.Queries.{IsOver, IsBad, AsksFor, bits_of_query, leaves_of_query}
 use Rattle.sk_sym.specs.Outcome.{choice_of}
 use Rattle.sk_oblig_laws.specs.Laws.{StartsBelow}
 use Rattle.sk_oblig_laws.proofs.Saying.{holes_say, inputs_say}
 use Rattle.sk_oblig_laws.proofs.Ranges.{starts_said, starts_at, has_all}
 use Rattle.sk_checks.specs.Checks.{IsBadUnder}
-use Rattle.sk_oblig.specs.Nodes.{Within, SaysInRange, BadBy, SaysAllFine, BadOf, AnyBad, SaysAnyBad, has_inputs}
-use Rattle.sk_oblig.specs.Formulas.{IsAskable, IsAsked, IsRoot, Puts, SaysWanted, at_most_one, env_of}
+use Rattle.sk_oblig.specs.Nodes.{SaysInRange, BadBy, SaysAllFine, BadOf, SaysAnyBad, has_inputs}
+use Rattle.sk_oblig.specs.Formulas.{IsAskable, IsRoot, Puts, SaysWanted, at_most_one, env_of}
 use Rattle.sk_oblig.proofs.Ranges.{both_true, fits_within, within_fits, bits_least}
 use Rattle.sk_oblig.proofs.Parameters.{input_is}
 use Rattle.sk_oblig.proofs.Speaking.{any_is}

@@ -19,7 +19,7 @@ use Rattle.sk_cnf.specs.Leaves.{Says}
 use Rattle.sk_query.specs.declared.query.Query.{Query}
 use Rattle.sk_query.specs.declared.query.Query.TheVariants as query
 use Rattle.sk_query.specs.Numbers.{numbers_said}
-use Rattle.sk_query.specs.Queries.{Holds, IsBad, bits_of_query, widths_of_query}
+use Rattle.sk_query.specs.Queries.{Holds, IsBad, widths_of_query}
 use Rattle.sk_query.specs.Widths.{sites_widths}
 use Rattle.sk_sym.specs.Outcome.{choice_of}
 use Rattle.sk_oblig_laws.specs.Laws.{StartsBelow, choice_env, input_env}
