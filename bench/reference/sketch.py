@@ -273,7 +273,7 @@ def has(e,ks):
 def blk(s):
     if s is None: return None
     p=plain(s)
-    if s.k=="block": return p[0]
+    if s.k in ("block","for"): return p[0]
     return N("block",s.span,body=p)
 def plain(s):
     if s.k=="empty": return []
