@@ -7,8 +7,11 @@
 mod solve;
 #[cfg(test)]
 mod tests;
+mod words;
 
 use crate::solve::{Verdict, solve};
+use crate::words::{Asked, Job, asked_of, matches_of};
+use clap::Error;
 use dimacs_text::{Fault, log_text, read_clauses, read_log, value_text};
 use itoa::Buffer;
 use sk_clause::{Clauses, Log};
@@ -68,38 +71,42 @@ fn check(rt: &HostRuntime, clauses: &Clauses, path: &str) -> io::Result<ExitCode
     }
 }
 
-fn usage(rt: &HostRuntime) -> io::Result<ExitCode> {
-    eprintln!(rt; "usage: dimacs FILE [--log LOG | --check LOG]")?;
-    Ok(ExitCode::from(1))
-}
-
-// Does what the words after the program's name ask for.
-fn run(
-    rt: &HostRuntime,
-    path: &str,
-    flag: Option<&str>,
-    log_path: Option<&str>,
-) -> io::Result<ExitCode> {
-    let text = fs::read_to_string(rt, path)?;
+// Does what was asked for.
+fn run(rt: &HostRuntime, asked: Asked<'_>) -> io::Result<ExitCode> {
+    let text = fs::read_to_string(rt, asked.file)?;
     match read_clauses(rt.alloc(), text.as_str()) {
-        Ok(clauses) => match (flag, log_path) {
-            (None, _) => answer(rt, &clauses, None),
-            (Some("--log"), Some(to)) => answer(rt, &clauses, Some(to)),
-            (Some("--check"), Some(from)) => check(rt, &clauses, from),
-            _ => usage(rt),
+        Ok(clauses) => match asked.job {
+            Job::Solve => answer(rt, &clauses, None),
+            Job::Keep(to) => answer(rt, &clauses, Some(to)),
+            Job::Check(from) => check(rt, &clauses, from),
         },
-        Err(fault) => refuse(rt, path, fault),
+        Err(fault) => refuse(rt, asked.file, fault),
     }
 }
 
+// Says what is wrong in the words, or how they are used.
+fn tell(rt: &HostRuntime, error: &Error) -> io::Result<ExitCode> {
+    error.print(rt)?;
+    Ok(ExitCode::from(if error.use_stderr() { 1 } else { 0 }))
+}
+
+// The words of the call, the program's name first.
+fn words_given(rt: &HostRuntime) -> io::Result<Vec<String>> {
+    let mut words = Vec::new(rt.alloc());
+    for word in env::args(rt)? {
+        words.push(word)?;
+    }
+    Ok(words)
+}
+
 fn main(rt: HostRuntime) -> io::Result<ExitCode> {
-    let mut args = env::args(&rt)?;
-    let _ = args.next();
-    let path = args.next();
-    let flag = args.next();
-    let log_path = args.next();
-    match path {
-        Some(path) => run(&rt, path.as_str(), flag.as_deref(), log_path.as_deref()),
-        None => usage(&rt),
+    let words = words_given(&rt)?;
+    match matches_of(rt.alloc(), words.as_slice()) {
+        Ok(matches) => match asked_of(&matches) {
+            Some(asked) => run(&rt, asked),
+            // the file is required, so this is never reached
+            None => Ok(ExitCode::from(1)),
+        },
+        Err(error) => tell(&rt, &error),
     }
 }

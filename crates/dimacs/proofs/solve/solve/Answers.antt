@@ -1,4 +1,4 @@
-use Rattle.std.proofs.Common.{◌≡◌, ◌∙◌, ◌++◌, ◌+◌, ℕ, length, ap, subst, sym, List, [], ◌∷◌}
+use Rattle.std.proofs.Common.{◌∙◌, ◌+◌, length, ap, subst, sym, []}
 use Rattle.std.proofs.lemmas.List.{length_push}
 use Rattle.sk_clause.specs.Meaning.{Refutes}
 use Rattle.dimacs.proofs.solve.solve.Goals as goal
