@@ -1,6 +1,7 @@
 use Rattle.std.proofs.Common.{IsTrue, refl, sym}
 use Rattle.sk_costs.specs.Free.{is_free}
 use Rattle.sk_min.proofs.Bests.{best_at_zero}
+use Rattle.sk_min.proofs.Lowers.{state_first}
 use Rattle.sk_costs.proofs.Runs.{free_is_best}
 use Rattle.sk_min.proofs.descent.from_first.Goals as goal
 
@@ -13,3 +14,6 @@ returns-then-is_free c =
       tt,
       λ _. refl,
     )
+
+pub descend-requires-clause-state : goal.descend-requires-clause-state
+descend-requires-clause-state c = state_first c.args.expanded.now c.args.bounds.now c.args.session c.args.pairs c.args.best c.requires.honest c.requires.meeting c.requires.stands
