@@ -3,6 +3,7 @@
 ghost use Rattle.std.specs.Prelude.{◌≤◌, IfSome};
 
 use crate::ending::ending_text;
+use crate::formulas::clauses_of;
 use crate::runs::{Subject, run_filled, run_over_nodes};
 use crate::sketch::{Sketch, function_named, sketch_of};
 use row_files::{BlockRow, Row, first_line, first_section, words_of};
@@ -109,35 +110,32 @@ fn arguments(
     }
 }
 
-// What a line says. There is nothing where it says no such thing.
-fn case_of<'a>(
-    alloc: Global,
-    subject: &Subject<'_>,
-    line: &'a [u8],
-) -> Result<Option<Case<'a>>, AllocError> {
-    let (before, wanted) = divided(line);
-    let words = words_of(alloc, before)?;
-    match sites_of(alloc, words.as_slice())? {
-        None => Ok(None),
-        Some((values, rest)) => case_with(alloc, subject, values, rest, wanted),
-    }
+/// What a line says of a formula: how many clauses it has at most, and which obligation it asks alone, if it does.
+#[derive(Clone, Copy)]
+struct Most {
+    clauses: usize,
+    obligation: Option<u32>,
 }
 
-// The case of a line with these values of the sites.
-fn case_with<'a>(
-    alloc: Global,
-    subject: &Subject<'_>,
-    values: List<u64>,
-    words: &[String],
-    wanted: Option<&'a [u8]>,
-) -> Result<Option<Case<'a>>, AllocError> {
-    match arguments(alloc, subject, words)? {
-        None => Ok(None),
-        Some(args) => Ok(Some(Case {
-            choice: Choice { values },
-            args,
-            wanted,
-        })),
+// What words say of a formula. There is nothing where they say no such thing.
+fn most_in(words: &[String]) -> Option<Most> {
+    match words {
+        [word, count] if word.as_str() == "clauses" => {
+            let clauses = count.as_str().parse::<usize>().ok()?;
+            Some(Most {
+                clauses,
+                obligation: None,
+            })
+        }
+        [word, count, of, number] if word.as_str() == "clauses" && of.as_str() == "of" => {
+            let clauses = count.as_str().parse::<usize>().ok()?;
+            let number = number.as_str().parse::<u32>().ok()?;
+            Some(Most {
+                clauses,
+                obligation: Some(number),
+            })
+        }
+        _ => None,
     }
 }
 
@@ -283,6 +281,64 @@ fn judge_case(
     }
 }
 
+// Tells where a formula has more clauses than a line says.
+fn judge_formula(
+    alloc: Global,
+    sketch: &Sketch,
+    line: &[u8],
+    choice: Choice,
+    most: Most,
+    out: &mut Vec<u8>,
+) -> Result<(), AllocError> {
+    match clauses_of(alloc, sketch, choice, most.obligation)? {
+        None => tell(out, line, b"choice", b"in range", b"out of range"),
+        Some(count) if count <= most.clauses => Ok(()),
+        Some(_) => tell(out, line, b"formula", b"no more clauses", b"more"),
+    }
+}
+
+// Tells what is wrong with a run under a choice on the arguments that words spell.
+fn judge_run_on(
+    alloc: Global,
+    subject: &Subject<'_>,
+    line: &[u8],
+    choice: Choice,
+    words: &[String],
+    wanted: Option<&[u8]>,
+    out: &mut Vec<u8>,
+) -> Result<(), AllocError> {
+    match arguments(alloc, subject, words)? {
+        None => tell(out, line, b"line", b"values : values", b"none"),
+        Some(args) => judge_case(
+            alloc,
+            subject,
+            line,
+            &Case {
+                choice,
+                args,
+                wanted,
+            },
+            out,
+        ),
+    }
+}
+
+// Tells what is wrong with what words say of a choice.
+fn judge_choice(
+    alloc: Global,
+    subject: &Subject<'_>,
+    line: &[u8],
+    choice: Choice,
+    words: &[String],
+    wanted: Option<&[u8]>,
+    out: &mut Vec<u8>,
+) -> Result<(), AllocError> {
+    match most_in(words) {
+        None => judge_run_on(alloc, subject, line, choice, words, wanted, out),
+        Some(most) => judge_formula(alloc, subject.sketch, line, choice, most, out),
+    }
+}
+
 // Tells what is wrong with a line.
 fn judge_line(
     alloc: Global,
@@ -290,9 +346,19 @@ fn judge_line(
     line: &[u8],
     out: &mut Vec<u8>,
 ) -> Result<(), AllocError> {
-    match case_of(alloc, subject, line)? {
+    let (before, wanted) = divided(line);
+    let words = words_of(alloc, before)?;
+    match sites_of(alloc, words.as_slice())? {
         None => tell(out, line, b"line", b"values : values", b"none"),
-        Some(case) => judge_case(alloc, subject, line, &case, out),
+        Some((values, rest)) => judge_choice(
+            alloc,
+            subject,
+            line,
+            Choice { values },
+            rest,
+            wanted,
+            out,
+        ),
     }
 }
 

@@ -3,6 +3,7 @@
 ghost use Rattle.std.specs.Prelude.{◌≡◌, ◌≤◌, length, IfOk, IsTrue};
 ghost use Rattle.sk_holes.specs.Needs.{are_narrow};
 ghost use Rattle.sk_model.specs.Sites.{sites};
+ghost use Rattle.sk_oblig.specs.Formulas.{IsAskable};
 
 use sk_base::{Bounds, Name};
 use sk_front::expansion_of;
@@ -21,6 +22,7 @@ pub struct Sketch {
     ghost listed: { expanded.sites ≡ sites bounds expanded.prog },
     ghost narrow: { IsTrue (are_narrow expanded.sites) },
     ghost few: { length expanded.sites ≤ 4294967296 },
+    ghost askable: { IsAskable expanded bounds },
 }
 
 /// The longest text of a sketch, in bytes.
