@@ -1,4 +1,4 @@
-//! Stages of expansion: sizes, sites, fillings and completions.
+//! Stages of expansion: sizes, sites and fillings.
 use crate::fault::Fault;
 use crate::front::program_of;
 use crate::reading::push_span;
@@ -10,7 +10,6 @@ use sk_model::{Choice, Expanded};
 use sk_print::print;
 use sk_prog::{PEForm, PExpr, PForm, PStmt, Prog};
 use sk_sizes::{Sizes, sizes};
-use sk_trials::{Completion, complete, is_small};
 use std::alloc::{AllocError, Global};
 
 fn expansion_of(alloc: Global, text: &[u8], bounds: &Bounds) -> Result<Expanded, Fault> {
@@ -183,45 +182,6 @@ pub fn push_spans(
     if let Some(f) = at(filling.funs.as_slice(), which) {
         for s in f.body.as_slice() {
             push_statement(shown, s)?;
-        }
-    }
-    Ok(())
-}
-
-// The completion of an expansion, where it has few fillings and few inputs.
-#[tactic(auto, using(crate::proofs::Fillable::fillable))]
-fn completed(alloc: Global, prog: &Prog, bounds: &Bounds) -> Result<Option<Completion>, Fault> {
-    if bounds.int_bits < 2 || bounds.int_bits > 32 {
-        return Err(Fault::Words);
-    }
-    match expand(alloc, prog, bounds) {
-        Ok(expanded) => {
-            if !is_small(&expanded, bounds) {
-                return Err(Fault::Words);
-            }
-            let found = complete(alloc, &expanded, bounds)?;
-            Ok(found)
-        }
-        Err(fault) => Err(Fault::from(fault)),
-    }
-}
-
-/// Appends the value of a completion and its choice.
-pub fn push_completion(
-    shown: &mut Vec<u8>,
-    alloc: Global,
-    text: &[u8],
-    bounds: &Bounds,
-) -> Result<(), Fault> {
-    let prog = program_of(alloc, text, bounds)?;
-    match completed(alloc, &prog, bounds)? {
-        None => shown.extend_from_slice(b"none")?,
-        Some(found) => {
-            push_part(shown, b"value ", found.value)?;
-            shown.extend_from_slice(b" choice")?;
-            for value in found.choice.values.as_slice() {
-                push_part(shown, b" ", *value)?;
-            }
         }
     }
     Ok(())

@@ -51,11 +51,9 @@ pub enum Stage {
     /// Where the statements of a function of its filling stand, a line each, with the places of their expression and of
     /// what stands there in parentheses or braces. The words give the function and the values.
     Spans,
-    /// The value and the choice of its completion.
-    Completion,
 }
 
-const NAMES: [(&str, Stage); 23] = [
+const NAMES: [(&str, Stage); 22] = [
     ("tokens", Stage::Tokens),
     ("tree", Stage::Tree),
     ("expression", Stage::Expression),
@@ -78,7 +76,6 @@ const NAMES: [(&str, Stage); 23] = [
     ("sites", Stage::Sites),
     ("filling", Stage::Filling),
     ("spans", Stage::Spans),
-    ("completion", Stage::Completion),
 ];
 
 /// What the words of a row say.

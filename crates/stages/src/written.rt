@@ -1,8 +1,6 @@
 //! What is written of a row: what its stage shows of its text.
 use crate::escapes::unescaped;
-use crate::expansion::{
-    push_completion, push_expansion, push_filling, push_sites, push_sizes_of, push_spans,
-};
+use crate::expansion::{push_expansion, push_filling, push_sites, push_sizes_of, push_spans};
 use crate::fault::Fault;
 use crate::front::tree_of;
 use crate::reading::{
@@ -65,7 +63,6 @@ fn push_expanding(
         Stage::Sites => push_sites(shown, alloc, text, bounds),
         Stage::Filling => push_filling(shown, alloc, text, bounds, words),
         Stage::Spans => push_spans(shown, alloc, text, bounds, words),
-        Stage::Completion => push_completion(shown, alloc, text, bounds),
         _ => Err(Fault::Words),
     }
 }

@@ -1,4 +1,0 @@
-pub mod Counts
-pub mod Numbered
-pub mod Trying
-pub mod Completing
