@@ -2,7 +2,7 @@
 //! output.
 #![tactic(auto)]
 
-use sk_app::{StdSink, StdSource, message, run, status};
+use sk_app::{Ending, StdSink, StdSource, message, run, status};
 use std::env;
 use std::io::Write;
 use std::process::ExitCode;
@@ -16,6 +16,24 @@ fn say(errors: &mut impl Write, line: &[u8]) {
     let _ = errors.write_all(b"\n");
 }
 
+/// Says what an ending has to say. One whose line cannot be made ends as want of memory does, whose line takes none.
+fn tell(rt: &HostRuntime, ending: &Ending) -> u8 {
+    let told = status(ending);
+    if told < 10 {
+        return told;
+    }
+    match message(rt.alloc(), ending) {
+        Ok(line) => {
+            say(&mut rt.stderr(), line.as_bytes());
+            told
+        }
+        Err(_) => {
+            say(&mut rt.stderr(), b"no memory");
+            status(&Ending::Memory)
+        }
+    }
+}
+
 fn main(rt: HostRuntime) -> ExitCode {
     let alloc = rt.alloc();
     let Ok(words) = words(&rt) else {
@@ -25,13 +43,7 @@ fn main(rt: HostRuntime) -> ExitCode {
     let mut source = StdSource::new(rt.stdin());
     let mut sink = StdSink::new(rt.stdout());
     let ending = run(alloc, words.as_slice(), &mut source, &mut sink);
-    let status = status(&ending);
-    if status >= 10 {
-        if let Ok(line) = message(alloc, &ending) {
-            say(&mut rt.stderr(), line.as_bytes());
-        }
-    }
-    ExitCode::from(status)
+    ExitCode::from(tell(&rt, &ending))
 }
 
 /// The words behind the program's own name.
