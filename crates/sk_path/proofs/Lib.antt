@@ -1,0 +1,4 @@
+pub mod Agree
+pub mod Exprs
+pub mod Stmts
+pub mod Runs
