@@ -2,3 +2,4 @@ pub mod Agree
 pub mod Exprs
 pub mod Stmts
 pub mod Runs
+pub mod Forms

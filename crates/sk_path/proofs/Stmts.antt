@@ -24,13 +24,12 @@ use Rattle.sk_model.specs.Exec as plain
 use Rattle.sk_path.specs.declared.step.Step.{Step}
 use Rattle.sk_path.specs.declared.step.What.{What}
 use Rattle.sk_path.specs.declared.step.What.TheVariants as what
-use Rattle.sk_path.specs.Recording.{Traced, and_then, pure, fail, lift}
+use Rattle.sk_path.specs.Recording.{Recorded, Going, Goes, Fails, Skips, Traced, and_then, pure, fail, lift}
 use Rattle.sk_path.specs.Eval.{Calls, Does, does}
-use Rattle.sk_path.specs.Exec.{unless_returned, one_by_one, told, decide, declare, assign, turns, return, pay, any_meaning, exec_form, exec_stmt, exec_all}
-use Rattle.sk_path.proofs.Agree.{Agrees, lifts, pures, fails, skips, tells, thens}
+use Rattle.sk_path.specs.Exec.{unless_returned, one_by_one, told, truth, holds, declare, assign, turns, return, pay, any_meaning, exec_form, exec_stmt, exec_all}
+use Rattle.sk_path.proofs.Agree.{Agrees, carry, carried, without, lifts, pures, fails, skips, tells, thens}
 use Rattle.sk_path.proofs.Exprs.{DoesAgree, exprs}
 
--- what is done in turn, however it is grouped
 grouped : {A B C : Type 0} (x : step.Step A) (k : A → Comp B) (l : B → Comp C) → step.and_then (step.and_then x k) l ≡ step.and_then x (λ a s. step.and_then (k a s) l)
 grouped (step.Goes a s) k l = refl
 grouped (step.Fails span) k l = refl
@@ -41,13 +40,22 @@ all_grouped (step.Goes a s) e put l = grouped (e s) (put a) l
 all_grouped (step.Fails span) e put l = refl
 all_grouped (step.Skips span) e put l = refl
 
+joined : {N A B C : Type 0} (x : Going N A) (k : A → Traced N B) (l : B → Traced N C) → and_then (and_then x k) l ≡ and_then x (λ a r. and_then (k a r) l)
+joined (Goes a r) k l = refl
+joined (Fails span log) k l = refl
+joined (Skips span log) k l = refl
+
 same_length : {X Y : Type 0} {Q : X → Type 0} (f : X → Y) (qs : List ((x : X) × Q x)) → length (map f (map (λ q. q.0) qs)) ≡ length qs
 same_length f [] = refl
 same_length f (q ∷ qs) = ap suc (same_length f qs)
 
 module _ {L M : Type 0} (h : L → M) where
-  regrouped : {A : Type 0} (m n : Comp A) {t : Traced L A} {u : Traced M A} → ((s : State) → m s ≡ n s) → Agrees h n t u → Agrees h m t u
-  regrouped m n is agree = record { run = λ r. agree.run r ∙ sym (is r.memory); logs = agree.logs }
+  -- what is done in turn, however it is grouped
+  regrouped : {A : Type 0} (m n : Comp A) {t t' : Traced L A} {u u' : Traced M A} → ((s : State) → m s ≡ n s) → ((r : Recorded L) → t r ≡ t' r) → ((r : Recorded M) → u r ≡ u' r) → Agrees h n t' u' → Agrees h m t u
+  regrouped m n is ist isu agree = record {
+    run = λ r. ap without (ist r) ∙ agree.run r ∙ sym (is r.memory);
+    logs = λ r. ap (carried h) (ist r) ∙ agree.logs r ∙ sym (isu (carry h r));
+  }
 
   unless : (m : Comp Flow) (t : Traced L Flow) (u : Traced M Flow) → Agrees h m t u → (flow : Flow) → Agrees h (plain.unless_returned m flow) (unless_returned t flow) (unless_returned u flow)
   unless m t u agree Onward = agree
@@ -63,13 +71,17 @@ module _ {L M : Type 0} (h : L → M) where
     tolds : (span : Span) (it : What) {m : Comp Flow} {t : Traced L Flow} {u : Traced M Flow} → Agrees h m t u → Agrees h m (λ r. and_then (told take active span it r) (λ done. t)) (λ r. and_then (told keep active span it r) (λ done. u))
     tolds span it {m = m} {t = t} {u = u} agree = thens h (λ done. m) (λ done. t) (λ done. u) (tells h take keep follows (record { span = span; active = active; what = it })) (λ done. agree)
 
-    decides : (span : Span) (a b : Comp Flow) (ta tb : Traced L Flow) (ua ub : Traced M Flow) → Agrees h a ta ua → Agrees h b tb ub → (v : Value) → Agrees h (eval.choose span a b v) (decide take active span ta tb v) (decide keep active span ua ub v)
-    decides span a b ta tb ua ub ha hb (value.Bit true) = tolds span (what.Truth true) ha
-    decides span a b ta tb ua ub ha hb (value.Bit false) = tolds span (what.Truth false) hb
-    decides span a b ta tb ua ub ha hb (value.Int n) = fails h span
-    decides span a b ta tb ua ub ha hb value.Null = fails h span
-    decides span a b ta tb ua ub ha hb (value.Place p) = fails h span
-    decides span a b ta tb ua ub ha hb (value.Array' shape vs) = fails h span
+    truths : (span : Span) (a b : Comp Flow) (ta tb : Traced L Flow) (ua ub : Traced M Flow) → Agrees h a ta ua → Agrees h b tb ub → (v : Value) → Agrees h (eval.choose span a b v) (λ r. and_then (truth take active span v r) (λ t. if t then ta else tb)) (λ r. and_then (truth keep active span v r) (λ t. if t then ua else ub))
+    truths span a b ta tb ua ub ha hb (value.Bit true) = tolds span (what.Truth true) ha
+    truths span a b ta tb ua ub ha hb (value.Bit false) = tolds span (what.Truth false) hb
+    truths span a b ta tb ua ub ha hb (value.Int n) = fails h span
+    truths span a b ta tb ua ub ha hb value.Null = fails h span
+    truths span a b ta tb ua ub ha hb (value.Place p) = fails h span
+    truths span a b ta tb ua ub ha hb (value.Array' shape vs) = fails h span
+
+    -- the one or the other by a condition
+    decides : (span : Span) (d : eval.Does) (t : Does L) (u : Does M) → DoesAgree h d t u → {a b : Comp Flow} {ta tb : Traced L Flow} {ua ub : Traced M Flow} → Agrees h a ta ua → Agrees h b tb ub → Agrees h (λ s. step.and_then (d.value span s) (eval.choose span a b)) (λ r. and_then (holds take active span t r) (λ k. if k then ta else tb)) (λ r. and_then (holds keep active span u r) (λ k. if k then ua else ub))
+    decides span d t u agree {a = a} {b = b} {ta = ta} {tb = tb} {ua = ua} {ub = ub} ha hb = regrouped _ _ (λ s. refl) (λ r. joined (t.value span r) (truth take active span) (λ k. if k then ta else tb)) (λ r. joined (u.value span r) (truth keep active span) (λ k. if k then ua else ub)) (thens h _ _ _ (agree.value span) (truths span a b ta tb ua ub ha hb))
 
     pays : (span : Span) (v : Value) → Agrees h (plain.pay span v) (pay take active span v) (pay keep active span v)
     pays span (value.Int n) = tolds span (what.Cost n) (lifts h (plain.pay span (value.Int n)))
@@ -84,8 +96,8 @@ module _ {L M : Type 0} (h : L → M) where
 
     module _ (d : eval.Does) (t : Does L) (u : Does M) (agree : DoesAgree h d t u) (span : Span) where
       loops : (n : ℕ) (m : Comp Flow) (tm : Traced L Flow) (um : Traced M Flow) → Agrees h m tm um → Agrees h (plain.turns n span d m) (turns take active n span t tm) (turns keep active n span u um)
-      loops zero m tm um body = thens h _ _ _ (agree.value span) (decides span _ _ _ _ _ _ (fails h span) (pures h Onward))
-      loops (suc n) m tm um body = thens h _ _ _ (agree.value span) (decides span _ _ _ _ _ _ (thens h _ _ _ body (unless _ _ _ (loops n m tm um body))) (pures h Onward))
+      loops zero m tm um body = decides span _ _ _ agree (fails h span) (pures h Onward)
+      loops (suc n) m tm um body = decides span _ _ _ agree (thens h _ _ _ body (unless _ _ _ (loops n m tm um body))) (pures h Onward)
 
     module _ (prog : Prog) (bounds : Bounds) (call : eval.Calls) (tcall : Calls L) (ucall : Calls M) (same : (span : Span) (f : ℕ) (args : List Value) → Agrees h (call span f args) (tcall span f args) (ucall span f args)) where
       expr : (e : PExpr) → DoesAgree h (eval.does prog bounds.int_bits call e) (does prog bounds.int_bits tcall e) (does prog bounds.int_bits ucall e)
@@ -93,12 +105,12 @@ module _ {L M : Type 0} (h : L → M) where
 
       declares : (slot : ℕ) (t : Ty) (e : Option PExpr) (span : Span) → Agrees h (plain.declare span slot t (plain.any_meaning prog bounds call e)) (declare take active span slot t (any_meaning take active prog bounds tcall e)) (declare keep active span slot t (any_meaning keep active prog bounds ucall e))
       declares slot t None span = lifts h (plain.onward (write slot (zero_of t)))
-      declares slot t (Some e) span = regrouped _ _ (λ s. grouped ((eval.does prog bounds.int_bits call e).value span s) (write slot) (λ u. step.pure Onward)) (thens h (λ v. plain.onward (write slot v)) _ _ ((expr e).value span) (λ v. stores span v (write slot v)))
+      declares slot t (Some e) span = regrouped _ _ (λ s. grouped ((eval.does prog bounds.int_bits call e).value span s) (write slot) (λ u. step.pure Onward)) (λ r. refl) (λ r. refl) (thens h (λ v. plain.onward (write slot v)) _ _ ((expr e).value span) (λ v. stores span v (write slot v)))
 
       assigns : (a e : PExpr) (span : Span) → Agrees h (plain.assign span (eval.does prog bounds.int_bits call a) (eval.does prog bounds.int_bits call e)) (assign take active span (does prog bounds.int_bits tcall a) (does prog bounds.int_bits tcall e)) (assign keep active span (does prog bounds.int_bits ucall a) (does prog bounds.int_bits ucall e))
       assigns a e span =
           let put : Location → Comp Flow = λ location s. step.and_then ((eval.does prog bounds.int_bits call e).value span s) (λ v. plain.onward (store span location v)) in
-          regrouped _ _ (λ s. all_grouped ((eval.does prog bounds.int_bits call a).target span s) ((eval.does prog bounds.int_bits call e).value span) (store span) (λ u. step.pure Onward))
+          regrouped _ _ (λ s. all_grouped ((eval.does prog bounds.int_bits call a).target span s) ((eval.does prog bounds.int_bits call e).value span) (store span) (λ u. step.pure Onward)) (λ r. refl) (λ r. refl)
           (thens h put _ _ ((expr a).target span) (λ location. thens h (λ v. plain.onward (store span location v)) _ _ ((expr e).value span) (λ v. stores span v (store span location v))))
 
       gives : (e : Option PExpr) (span : Span) → Agrees h (plain.return span (plain.any_meaning prog bounds call e)) (return take active span (any_meaning take active prog bounds tcall e)) (return keep active span (any_meaning keep active prog bounds ucall e))
@@ -164,12 +176,12 @@ module _ {L M : Type 0} (h : L → M) where
       layer (S.Declare slot x t e) = rolled (S.Declare slot x t e) (declares slot t e)
       layer (S.Assign a e) = rolled (S.Assign a e) (assigns a e)
       layer (S.Call e) = rolled (S.Call e) (λ span. thens h _ _ _ ((expr e).value span) (λ v. tolds span what.Go (pures h Onward)))
-      layer (S.If c a None) = rolled (S.If c a.0 None) (λ span. thens h _ _ _ ((expr c).value span) (decides span _ _ _ _ _ _ a.1 (pures h Onward)))
-      layer (S.If c a (Some b)) = rolled (S.If c a.0 (Some b.0)) (λ span. thens h _ _ _ ((expr c).value span) (decides span _ _ _ _ _ _ a.1 b.1))
+      layer (S.If c a None) = rolled (S.If c a.0 None) (λ span. decides span _ _ _ (expr c) a.1 (pures h Onward))
+      layer (S.If c a (Some b)) = rolled (S.If c a.0 (Some b.0)) (λ span. decides span _ _ _ (expr c) a.1 b.1)
       layer (S.While c a) = rolled (S.While c a.0) (λ span. loops _ _ _ (expr c) span bounds.unroll _ _ _ a.1)
       layer (S.Return e) = rolled (S.Return e) (gives e)
-      layer (S.Assert e) = rolled (S.Assert e) (λ span. thens h _ _ _ ((expr e).value span) (decides span _ _ _ _ _ _ (pures h Onward) (fails h span)))
-      layer (S.Assume e) = rolled (S.Assume e) (λ span. thens h _ _ _ ((expr e).value span) (decides span _ _ _ _ _ _ (pures h Onward) (skips h span)))
+      layer (S.Assert e) = rolled (S.Assert e) (λ span. decides span _ _ _ (expr e) (pures h Onward) (fails h span))
+      layer (S.Assume e) = rolled (S.Assume e) (λ span. decides span _ _ _ (expr e) (pures h Onward) (skips h span))
       layer (S.Minimize e) = rolled (S.Minimize e) (λ span. thens h _ _ _ ((expr e).value span) (pays span))
       layer (S.Repeat c ss) = rolled (down (S.Repeat c ss)) (λ span. repeats (is_hole c.form) span ss)
       layer (S.MinRepeat ss) = rolled (down (S.MinRepeat ss)) (λ span. fails h span)

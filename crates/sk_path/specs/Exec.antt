@@ -4,7 +4,7 @@
 -- that they go. All of it is told when the expressions of the statement are evaluated, so the steps of calls in them stand before it, and a
 -- statement that fails in one of them, or whose store fails, tells nothing. Blocks and declarations without a value tell nothing. A step has the span of
 -- its statement.
-use Rattle.std.specs.Prelude.{ℕ, zero, suc, true, false, nat_le, if◌then◌else◌, List, [], ◌∷◌, map, length, Option, Some, None}
+use Rattle.std.specs.Prelude.{ℕ, zero, suc, Bool, nat_le, if◌then◌else◌, List, [], ◌∷◌, map, length, Option, Some, None}
 use Rattle.sk_base.specs.declared.span.Span.{Span}
 use Rattle.sk_base.specs.declared.bounds.Bounds.{Bounds}
 use Rattle.sk_prog.specs.declared.ty.Ty.{Ty}
@@ -15,6 +15,7 @@ use Rattle.sk_prog.specs.declared.stmt.PStmt.{PStmt}
 use Rattle.sk_prog.specs.declared.stmt.PForm.TheOpen as S
 use Rattle.sk_prog.specs.declared.stmt.PForm.TheFolds.{fold-PStmt}
 use Rattle.sk_prog.specs.declared.prog.Prog.{Prog}
+use Rattle.sk_model.specs.Step.{Comp}
 use Rattle.sk_model.specs.Sites.{is_hole}
 use Rattle.sk_model.specs.Values.{zero_of}
 use Rattle.sk_model.specs.Heap.{write, store}
@@ -41,40 +42,50 @@ module _ {L : Type 0} (take : L → Step → L) (active : ℕ) where
   abbrev pub told : Span → What → Traced L (Unit {0})
   told span it = tell take (record { span = span; active = active; what = it })
 
-  -- the one or the other by a bit, which is told
-  abbrev pub decide : Span → Traced L Flow → Traced L Flow → Value → Traced L Flow
-  decide span a b (value.Bit true) = told span (what.Truth true) >>= (λ u. a)
-  decide span a b (value.Bit false) = told span (what.Truth false) >>= (λ u. b)
-  decide span a b _ = fail span
+  -- a condition, which is told
+  abbrev pub truth : Span → Value → Traced L Bool
+  truth span (value.Bit b) = told span (what.Truth b) >>= (λ u. pure b)
+  truth span _ = fail span
+
+  abbrev pub holds : Span → Does L → Traced L Bool
+  holds span e = e.value span >>= truth span
+
+  -- a value that is stored so, and told
+  abbrev pub stored : Span → Comp (Unit {0}) → Value → Traced L Flow
+  stored span put v = lift put >>= (λ u. told span (what.Store v) >>= (λ w. pure Onward))
+
+  -- it goes so, and that is told
+  abbrev pub going : Span → Flow → Traced L Flow
+  going span flow = told span what.Go >>= (λ u. pure flow)
 
   abbrev pub declare : Span → ℕ → Ty → Option (Does L) → Traced L Flow
   declare span slot t None = lift (plain.onward (write slot (zero_of t)))
-  declare span slot t (Some e) = e.value span >>= (λ v. lift (write slot v) >>= (λ u. told span (what.Store v) >>= (λ u. pure Onward)))
+  declare span slot t (Some e) = e.value span >>= (λ v. stored span (write slot v) v)
 
   abbrev pub assign : Span → Does L → Does L → Traced L Flow
-  assign span target e = target.target span >>= (λ location. e.value span >>= (λ v. lift (store span location v) >>= (λ u. told span (what.Store v) >>= (λ u. pure Onward))))
+  assign span target e = target.target span >>= (λ location. e.value span >>= (λ v. stored span (store span location v) v))
 
   abbrev pub drop_value : Span → Does L → Traced L Flow
-  drop_value span e = e.value span >>= (λ v. told span what.Go >>= (λ u. pure Onward))
+  drop_value span e = e.value span >>= (λ v. going span Onward)
 
   abbrev pub branch : Span → Does L → Traced L Flow → Option (Traced L Flow) → Traced L Flow
-  branch span cond a None = cond.value span >>= decide span a (pure Onward)
-  branch span cond a (Some b) = cond.value span >>= decide span a b
+  branch span cond a None = holds span cond >>= (λ t. if t then a else pure Onward)
+  branch span cond a (Some b) = holds span cond >>= (λ t. if t then a else b)
 
   -- a loop that has so many turns left
   abbrev pub turns : ℕ → Span → Does L → Traced L Flow → Traced L Flow
-  turns zero span cond body = cond.value span >>= decide span (fail span) (pure Onward)
-  turns (suc left) span cond body = cond.value span >>= decide span (body >>= unless_returned (turns left span cond body)) (pure Onward)
+  turns zero span cond body = holds span cond >>= (λ t. if t then fail span else pure Onward)
+  turns (suc left) span cond body = holds span cond >>= (λ t. if t then body >>= unless_returned (turns left span cond body) else pure Onward)
 
   abbrev pub return : Span → Option (Does L) → Traced L Flow
-  return span None = told span what.Go >>= (λ u. pure (Returns None))
-  return span (Some e) = e.value span >>= (λ v. told span what.Go >>= (λ u. pure (Returns (Some v))))
+  return span None = going span (Returns None)
+  return span (Some e) = e.value span >>= (λ v. going span (Returns (Some v)))
 
   abbrev pub assert : Span → Does L → Traced L Flow
-  assert span e = e.value span >>= decide span (pure Onward) (fail span)
+  assert span e = holds span e >>= (λ t. if t then pure Onward else fail span)
 
   abbrev pub assume : Span → Does L → Traced L Flow
-  assume span e = e.value span >>= decide span (pure Onward) (skip span)
+  assume span e = holds span e >>= (λ t. if t then pure Onward else skip span)
 
   abbrev pub pay : Span → Value → Traced L Flow
   pay span (value.Int n) = told span (what.Cost n) >>= (λ u. lift (plain.pay span (value.Int n)))
