@@ -1,0 +1,5 @@
+pub mod Agree
+pub mod Exprs
+pub mod Stmts
+pub mod Runs
+pub mod Forms
