@@ -5,11 +5,11 @@
 
 PROGRAM is crates/sketch/out/sketch as `rt run` leaves it. It takes memory by `malloc` and `realloc` of the C library, which a shim in C, loaded before
 that library, counts and refuses: the N-th call of the program alone, or it and each later one. With each, a run has to end with status 17, the line
-`no memory` and nothing on standard output, or with all as it is with ample memory. Each allocation of a run is tried where there are at most TRIES
+`no memory` and nothing on standard output, or, where the words are still to be had, with status 24 and `no words`, or with all as it is with ample memory. Each allocation of a run is tried where there are at most TRIES
 (4,000 if it is not given); of a longer run the first half of TRIES, and of the others each in equal strides.
 
-It prints a line for each run: its allocations, how many were tried, and in how many runs of both kinds the answer was out of memory (`refused`) or as it is
-with ample memory (`same`); and a line for each run that ended otherwise. It ends with status 1 if there is one.
+It prints a line for each run: its allocations, how many were tried, and in how many runs of both kinds the answer was out of memory (`refused`), that there
+are no words (`no words`), or as it is with ample memory (`same`); and a line for each run that ended otherwise. It ends with status 1 if there is one.
 """
 import os
 import subprocess
@@ -19,6 +19,7 @@ from concurrent.futures import ThreadPoolExecutor
 
 TOP = os.path.dirname(os.path.dirname(os.path.abspath(__file__)))
 REFUSED = (17, b"", b"no memory\n")
+NO_WORDS = (24, b"", b"no words\n")
 
 # Only calls that come from the program itself are counted. The number of the call that fails, whether all later ones fail too,
 # and the file that gets the count come by the environment.
@@ -134,11 +135,11 @@ def tried(count, tries):
 
 
 def judge(run, ample, number, pool):
-    """How many runs with one of these allocations refused end out of memory, and as with ample memory; the others."""
+    """How many runs with one of these allocations refused end out of memory, without words, and as with ample memory; the others."""
     kinds = [(n, how) for n in number for how in ({}, {"ONWARDS": "1"})]
     ended = list(pool.map(lambda it: run.ends(REFUSED=str(it[0]), **it[1]), kinds))
-    wrong = [(*kind, it) for kind, it in zip(kinds, ended) if it not in (REFUSED, ample)]
-    return ended.count(REFUSED), ended.count(ample), wrong
+    wrong = [(*kind, it) for kind, it in zip(kinds, ended) if it not in (REFUSED, NO_WORDS, ample)]
+    return ended.count(REFUSED), ended.count(NO_WORDS), ended.count(ample), wrong
 
 
 def main(program, tries="4000"):
@@ -151,8 +152,8 @@ def main(program, tries="4000"):
             run = Run(program, folder, words, text_of(named))
             ample, count = run.counted()
             number = tried(count, int(tries))
-            refused, same, others = judge(run, ample, number, pool)
-            print(f"{words} < {named or 'nothing'}: status {ample[0]}, {count} allocations, {len(number)} tried, {refused} refused, {same} same", flush=True)
+            refused, wordless, same, others = judge(run, ample, number, pool)
+            print(f"{words} < {named or 'nothing'}: status {ample[0]}, {count} allocations, {len(number)} tried, {refused} refused, {wordless} no words, {same} same", flush=True)
             if ample[0] != status:
                 others.append((0, {}, ample))
             for ended in {it for _, _, it in others}:
