@@ -64,4 +64,13 @@ askable set text x h = record {
   met = met set text x h;
 }
 
+-- what is askable can be filled
+pub sites_of : (e : Expanded) (bounds : Bounds) → IsAskable e bounds → HasItsSites e
+sites_of e bounds h = h.sites
+
+pub narrow_of : (e : Expanded) (bounds : Bounds) → IsAskable e bounds → IsTrue (are_narrow e.sites)
+narrow_of e bounds h = h.narrow
+
 pub ruleset fillable = (listed, narrow, few, askable)
+
+pub ruleset asked = (sites_of, narrow_of)

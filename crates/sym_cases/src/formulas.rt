@@ -1,68 +1,91 @@
 //! The formulas of queries for an input that speaks against a choice.
 
+ghost use Rattle.std.specs.Prelude.{◌≤◌, length};
 ghost use Rattle.sk_model.specs.Fill.{InRange};
-ghost use Rattle.sk_oblig.specs.Formulas.{IsAsked};
+ghost use Rattle.sk_oblig.specs.Formulas.{IsAskable, IsAsked};
 
-use crate::sketch::Sketch;
+use crate::sketch::{LONGEST, Source, set_of};
+use sk_base::Bounds;
+use sk_front::{Expansion, expansion_of};
 use sk_holes::{FillFault, fill};
-use sk_model::Choice;
+use sk_model::{Choice, Expanded};
 use sk_oblig::formula;
 use sk_query::Query;
 use std::alloc::{AllocError, Global};
 
 // How many clauses the formula of a query has.
-fn count_of(alloc: Global, sketch: &Sketch, query: &Query) -> Result<usize, AllocError>
-    requires { IsAsked sketch.now.expanded query.now }
+fn count_of(
+    alloc: Global,
+    expanded: &Expanded,
+    bounds: &Bounds,
+    query: &Query,
+) -> Result<Option<usize>, AllocError>
+    requires askable { IsAskable expanded.now bounds.now }
+    requires asked { IsAsked expanded.now query.now }
 {
-    let encoded = formula(alloc, &sketch.expanded, &sketch.bounds, query)?;
-    Ok(encoded.clauses.len())
+    let encoded = formula(alloc, expanded, bounds, query)?;
+    Ok(Some(encoded.clauses.len()))
 }
 
 // The same of a query of all obligations, or of the one with a number.
 fn count_in(
     alloc: Global,
-    sketch: &Sketch,
+    expanded: &Expanded,
+    bounds: &Bounds,
     choice: Choice,
     obligation: Option<u32>,
-) -> Result<usize, AllocError>
-    requires { InRange sketch.now.expanded choice }
+) -> Result<Option<usize>, AllocError>
+    requires askable { IsAskable expanded.now bounds.now }
+    requires range { InRange expanded.now choice }
 {
+    let limit = None;
     match obligation {
-        None => count_of(
-            alloc,
-            sketch,
-            &Query::Bad {
-                choice,
-                limit: None,
-            },
-        ),
+        None => count_of(alloc, expanded, bounds, &Query::Bad { choice, limit }),
         Some(obligation) => count_of(
             alloc,
-            sketch,
+            expanded,
+            bounds,
             &Query::BadAt {
                 choice,
                 obligation,
-                limit: None,
+                limit,
             },
         ),
     }
 }
 
+// The same of an expansion, where the choice is in range.
+#[tactic(auto, using(crate::proofs::Fillable::asked))]
+fn counted(
+    alloc: Global,
+    it: &Expansion,
+    choice: Choice,
+    obligation: Option<u32>,
+) -> Result<Option<usize>, AllocError>
+    requires askable { IsAskable it.now.expanded it.now.bounds }
+    requires few { length it.now.expanded.sites ≤ 4294967296 }
+{
+    match fill(alloc, &it.expanded, &choice) {
+        Ok(_filled) => count_in(alloc, &it.expanded, &it.bounds, choice, obligation),
+        Err(FillFault::Memory) => Err(AllocError),
+        Err(FillFault::WrongLength | FillFault::OutOfRange { .. }) => Ok(None),
+    }
+}
+
 /// How many clauses the formula has that asks for an input that speaks against a choice: one of any obligation, or of the one
-/// with a number. There is nothing where the choice is not in range.
-#[tactic(auto, using(crate::proofs::Fillable::sited))]
+/// with a number. There is nothing where the text means no sketch, and where the choice is not in range.
+#[tactic(auto, using(crate::proofs::Fillable::fillable))]
 pub fn clauses_of(
     alloc: Global,
-    sketch: &Sketch,
+    source: &Source<'_>,
     choice: Choice,
     obligation: Option<u32>,
 ) -> Result<Option<usize>, AllocError> {
-    match fill(alloc, &sketch.expanded, &choice) {
-        Ok(_filled) => {
-            let count = count_in(alloc, sketch, choice, obligation)?;
-            Ok(Some(count))
-        }
-        Err(FillFault::Memory) => Err(AllocError),
-        Err(FillFault::WrongLength | FillFault::OutOfRange { .. }) => Ok(None),
+    if source.text.len() > LONGEST {
+        return Ok(None);
+    }
+    match expansion_of(alloc, &set_of(source), source.text) {
+        Ok(it) => counted(alloc, &it, choice, obligation),
+        Err(_) => Ok(None),
     }
 }

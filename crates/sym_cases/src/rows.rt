@@ -5,7 +5,7 @@ ghost use Rattle.std.specs.Prelude.{◌≤◌, IfSome};
 use crate::ending::ending_text;
 use crate::formulas::clauses_of;
 use crate::runs::{Subject, run_filled, run_over_nodes};
-use crate::sketch::{Sketch, function_named, sketch_of};
+use crate::sketch::{Sketch, Source, function_named, sketch_of};
 use row_files::{BlockRow, Row, first_line, first_section, words_of};
 use sk_base::{List, Name};
 use sk_model::Choice;
@@ -284,13 +284,13 @@ fn judge_case(
 // Tells where a formula has more clauses than a line says.
 fn judge_formula(
     alloc: Global,
-    sketch: &Sketch,
+    source: &Source<'_>,
     line: &[u8],
     choice: Choice,
     most: Most,
     out: &mut Vec<u8>,
 ) -> Result<(), AllocError> {
-    match clauses_of(alloc, sketch, choice, most.obligation)? {
+    match clauses_of(alloc, source, choice, most.obligation)? {
         None => tell(out, line, b"choice", b"in range", b"out of range"),
         Some(count) if count <= most.clauses => Ok(()),
         Some(_) => tell(out, line, b"formula", b"no more clauses", b"more"),
@@ -335,7 +335,7 @@ fn judge_choice(
 ) -> Result<(), AllocError> {
     match most_in(words) {
         None => judge_run_on(alloc, subject, line, choice, words, wanted, out),
-        Some(most) => judge_formula(alloc, subject.sketch, line, choice, most, out),
+        Some(most) => judge_formula(alloc, &subject.source, line, choice, most, out),
     }
 }
 
@@ -378,10 +378,15 @@ fn judge_lines(
 }
 
 // The function with this name.
-fn subject_of<'a>(sketch: &'a Sketch, name: &str) -> Option<Subject<'a>> {
+fn subject_of<'a>(source: Source<'a>, sketch: &'a Sketch, name: &str) -> Option<Subject<'a>> {
     let f = function_named(&sketch.expanded, name)?;
     let fun = sketch.expanded.prog.funs.as_slice().get(f.index as usize)?;
-    Some(Subject { sketch, f, fun })
+    Some(Subject {
+        source,
+        sketch,
+        f,
+        fun,
+    })
 }
 
 // What is wrong with lines of this function.
@@ -394,11 +399,12 @@ fn told_of(alloc: Global, subject: &Subject<'_>, lines: &[u8]) -> Result<Vec<u8>
 // What is wrong with lines of a function of a sketch.
 fn judge_sketch(
     alloc: Global,
+    source: Source<'_>,
     sketch: &Sketch,
     name: &str,
     lines: &[u8],
 ) -> Result<Vec<u8>, AllocError> {
-    match subject_of(sketch, name) {
+    match subject_of(source, sketch, name) {
         None => Vec::from_slice(alloc, b"no function\n"),
         Some(subject) => told_of(alloc, &subject, lines),
     }
@@ -411,9 +417,13 @@ fn judge_text(
     text: &[u8],
     lines: &[u8],
 ) -> Result<Vec<u8>, AllocError> {
-    match sketch_of(alloc, called.width, text) {
+    let source = Source {
+        text,
+        width: called.width,
+    };
+    match sketch_of(alloc, &source) {
         None => Vec::from_slice(alloc, b"no sketch\n"),
-        Some(sketch) => judge_sketch(alloc, &sketch, called.name, lines),
+        Some(sketch) => judge_sketch(alloc, source, &sketch, called.name, lines),
     }
 }
 

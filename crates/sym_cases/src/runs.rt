@@ -5,7 +5,7 @@ ghost use Rattle.sk_arr.specs.Shapes.{AllStand};
 
 use crate::ending::ending_of;
 use crate::input::{push_scalars, shapes_of};
-use crate::sketch::Sketch;
+use crate::sketch::{Sketch, Source};
 use sk_base::List;
 use sk_dag::{Dag, Env, Shape};
 use sk_holes::{FillFault, fill};
@@ -15,9 +15,10 @@ use sk_prog::{Fun, FunId, Prog, Value};
 use sk_sym::execute;
 use std::alloc::{AllocError, Global};
 
-/// A function of a sketch.
+/// A function of a sketch, and the text of that.
 #[derive(Clone, Copy)]
 pub struct Subject<'a> {
+    pub source: Source<'a>,
     pub sketch: &'a Sketch,
     pub f: FunId,
     pub fun: &'a Fun,

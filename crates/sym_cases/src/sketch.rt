@@ -3,7 +3,7 @@
 ghost use Rattle.std.specs.Prelude.{◌≡◌, ◌≤◌, length, IfOk, IsTrue};
 ghost use Rattle.sk_holes.specs.Needs.{are_narrow};
 ghost use Rattle.sk_model.specs.Sites.{sites};
-ghost use Rattle.sk_oblig.specs.Formulas.{IsAskable};
+ghost use Rattle.sk_opts.specs.Ranges.{IsInRanges};
 
 use sk_base::{Bounds, Name};
 use sk_front::expansion_of;
@@ -22,29 +22,40 @@ pub struct Sketch {
     ghost listed: { expanded.sites ≡ sites bounds expanded.prog },
     ghost narrow: { IsTrue (are_narrow expanded.sites) },
     ghost few: { length expanded.sites ≤ 4294967296 },
-    ghost askable: { IsAskable expanded bounds },
+}
+
+/// A text, and how many bits an `int` has in it.
+#[derive(Clone, Copy)]
+pub struct Source<'a> {
+    pub text: &'a [u8],
+    pub width: u32,
+    ghost low: { 6 ≤ width },
+    ghost high: { width ≤ 32 },
 }
 
 /// The longest text of a sketch, in bytes.
-const LONGEST: usize = 1_048_576;
+pub const LONGEST: usize = 1_048_576;
 
-/// What a text means under its own pragmas, where an `int` has so many bits. There is nothing where it means no sketch.
-#[tactic(auto, using(crate::proofs::Fillable::fillable))]
-pub fn sketch_of(alloc: Global, width: u32, text: &[u8]) -> Option<Sketch>
-    requires low { 6 ≤ width }
-    requires high { width ≤ 32 }
+/// The options under which a text means what its own pragmas say.
+pub fn set_of(source: &Source<'_>) -> Set
+    ensures { IsInRanges result }
 {
-    if text.len() > LONGEST {
-        return None;
-    }
-    let set = Set {
+    Set {
         cbits: None,
         inbits: None,
         unroll: None,
         inline_amnt: None,
-        int_bits: Some(width),
-    };
-    match expansion_of(alloc, &set, text) {
+        int_bits: Some(source.width),
+    }
+}
+
+/// The sketch that a text means. There is nothing where it means none.
+#[tactic(auto, using(crate::proofs::Fillable::fillable))]
+pub fn sketch_of(alloc: Global, source: &Source<'_>) -> Option<Sketch> {
+    if source.text.len() > LONGEST {
+        return None;
+    }
+    match expansion_of(alloc, &set_of(source), source.text) {
         Ok(it) => Some(Sketch {
             bounds: it.bounds,
             expanded: it.expanded,
