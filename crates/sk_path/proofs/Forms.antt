@@ -6,7 +6,6 @@ use Rattle.sk_prog.specs.declared.ids.ConstId.{ConstId}
 use Rattle.sk_prog.specs.declared.ids.FunId.{FunId}
 use Rattle.sk_prog.specs.declared.ids.StructId.{StructId}
 use Rattle.sk_prog.specs.declared.ty.Ty.{Ty}
-use Rattle.sk_prog.specs.declared.expr.UnOp.{UnOp}
 use Rattle.sk_prog.specs.declared.expr.BinOp.{BinOp}
 use Rattle.sk_prog.specs.declared.expr.PExpr.{PExpr}
 use Rattle.sk_prog.specs.declared.expr.PField.{PField}
