@@ -78,8 +78,44 @@ void *realloc(void *old, size_t size) {
 }
 """
 
-# What the runs are: words, a file of examples/ or a text, and the status with ample memory.
+# A text with every form of the language.
+EVERY = """
+int N = 2;
+struct Node { int value; Node next; }
+generator int leaf(int x) { return {| x | ?? | x + 1 |}; }
+void add(ref int to, int by) { to = to + by; }
+bit[4] same(bit[4] b) { return b; }
+bit[4] turned(bit[4] b) implements same {
+    bit[4] r = {0, 0, 0, 0};
+    r[3] = b[3];
+    r = (r | (b & {1, 1, 1, 0})) ^ ??(4);
+    bit[2] low = b[0::2];
+    assert low[0] == b[0] && (!true || b[1] == low[1]);
+    return r << 0 >> 0;
+}
+harness void main(int x, bit c) {
+    assume x < 3;
+    int[3] list = {x, 1};
+    Node first = new Node(value = x, next = null);
+    Node second = new Node(next = first);
+    second.value = (c ? 1 : N) * 2 - -x;
+    int s = 0;
+    { int i = 0; while (i < N) { s += list[i]; i++; } }
+    for (int j = 0; j < 2; j++) { add(s, j); }
+    if (second.next != null) { s = s + second.next.value; } else { assert false; }
+    repeat (??(1)) { s = s + 1; }
+    minrepeat { s = s + 1; }
+    reorder { list[2] = leaf(s); list[2] = list[2] + c; }
+    minimize(s > 3);
+    assert list[2] == s + c && s == 2 * x + 1 + 1 + 1 && s / 1 % 100 == s;
+    return;
+}
+"""
+
+# What the runs are: words, a file of examples/ or a text, and the status with ample memory. `exec` runs what EVERY is completed to.
 RUNS = [
+    ("synth", EVERY, 0),
+    ("exec main 2 1", EVERY, 0),
     ("synth", "doubled.sk", 0),
     ("synth", "lowest_zero.sk", 0),
     ("synth", "no_multiple.sk", 1),
@@ -102,7 +138,9 @@ RUNS = [
 ]
 
 
-def text_of(named):
+def text_of(program, words, named):
+    if named is EVERY and words.startswith("exec"):
+        return subprocess.run([program, "synth"], input=EVERY.encode(), capture_output=True, check=True).stdout
     if not named.endswith(".sk"):
         return named.encode()
     with open(f"{TOP}/examples/{named}", "rb") as file:
@@ -149,11 +187,11 @@ def main(program, tries="4000"):
             file.write(SHIM)
         subprocess.run(["cc", "-O2", "-w", "-shared", "-fPIC", "-o", f"{folder}/shim.so", f"{folder}/shim.c", "-ldl"], check=True)
         for words, named, status in RUNS:
-            run = Run(program, folder, words, text_of(named))
+            run = Run(program, folder, words, text_of(program, words, named))
             ample, count = run.counted()
             number = tried(count, int(tries))
             refused, wordless, same, others = judge(run, ample, number, pool)
-            print(f"{words} < {named or 'nothing'}: status {ample[0]}, {count} allocations, {len(number)} tried, {refused} refused, {wordless} no words, {same} same", flush=True)
+            print(f"{words} < {'every form' if named is EVERY else named or 'nothing'}: status {ample[0]}, {count} allocations, {len(number)} tried, {refused} refused, {wordless} no words, {same} same", flush=True)
             if ample[0] != status:
                 others.append((0, {}, ample))
             for ended in {it for _, _, it in others}:
