@@ -3,3 +3,4 @@ pub mod Exprs
 pub mod Stmts
 pub mod Runs
 pub mod Forms
+pub mod Computed

@@ -5,3 +5,4 @@ pub mod Run
 pub mod Path
 pub mod Kept
 pub mod Laws
+pub mod Examples

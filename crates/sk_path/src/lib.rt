@@ -1,6 +1,7 @@
 //! The steps of a run: what a run stores, decides, pays and calls, statement by statement, and how many of these a log keeps.
 #![tactic(auto)]
 
+pub mod examples;
 mod laws;
 mod log;
 mod step;
