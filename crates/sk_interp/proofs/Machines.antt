@@ -1,5 +1,5 @@
 -- What is done in a memory, and with its log.
-use Rattle.std.proofs.Common.{◌≡◌, false, sym, ap, ◌∙◌}
+use Rattle.std.proofs.Common.{◌≡◌, false, refl, ap}
 use Rattle.sk_model.specs.Step.{State, Comp}
 use Rattle.sk_model.specs.Step as step
 use Rattle.sk_path.specs.declared.log.Log.{Log}
