@@ -1,0 +1,5 @@
+pub mod Shorter
+pub mod Listing
+pub mod Sooner
+pub mod Chaining
+pub mod Places

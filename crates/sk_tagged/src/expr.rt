@@ -1,0 +1,378 @@
+//! Expressions that break a rule of tags.
+ghost use Rattle.std.specs.Prelude.{◌≡◌, ◌==◌, ◌&&◌, map, option_map};
+ghost use Rattle.sk_base.specs.declared.span.Span.{Span};
+ghost use Rattle.std.specs.List.{list_any};
+ghost use Rattle.sk_tagged.specs.Tags.{part, form_part, field_part, new_part, member_part, or_else, first_of, is_slot, is_tested, passes_to, is_of, made_variant, sets_only, new_fits};
+
+use crate::ground::{Ground, role_in};
+use crate::role::{Role, Test};
+use sk_base::{List, Span};
+use sk_lower::Algebraic;
+use sk_prog::{BinOp, PEForm, PExpr, PField, ParamDef, StructId};
+
+/// The slot of the variable that an expression is.
+pub(crate) fn slot_of(ground: &Ground, e: &PExpr) -> Option<u32>
+    ensures { result ≡ (part ground.now.types.now ground.now.prog.now e.now).slot }
+{
+    match &e.form {
+        PEForm::Var { slot, name: _ } => Some(*slot),
+        _ => None,
+    }
+}
+
+// The number that an expression is.
+fn number_of(ground: &Ground, e: &PExpr) -> Option<u32>
+    ensures { result ≡ (part ground.now.types.now ground.now.prog.now e.now).number }
+{
+    match &e.form {
+        PEForm::Number(n) => Some(*n),
+        _ => None,
+    }
+}
+
+// The slot of the variable whose tag an expression is.
+fn tag_of(ground: &Ground, e: &PExpr) -> Option<u32>
+    ensures { result ≡ (part ground.now.types.now ground.now.prog.now e.now).tag }
+{
+    match &e.form {
+        PEForm::Member { base, s, field } => match ground.role(*s, *field) {
+            Role::Tag => slot_of(ground, base.get()),
+            Role::Free | Role::Of(_) => None,
+        },
+        _ => None,
+    }
+}
+
+/// The test that an expression is.
+pub(crate) fn test_of(ground: &Ground, e: &PExpr) -> Option<Test>
+    ensures { result ≡ (part ground.now.types.now ground.now.prog.now e.now).test }
+{
+    match &e.form {
+        PEForm::Binary {
+            op: BinOp::Eq,
+            left,
+            right,
+        } => {
+            let slot = tag_of(ground, left.get())?;
+            let variant = number_of(ground, right.get())?;
+            Some(Test { slot, variant })
+        }
+        _ => None,
+    }
+}
+
+// Whether a variable is this one.
+pub(crate) fn is_slot(x: u32, slot: Option<u32>) -> bool
+    ensures { result ≡ is_slot x slot }
+{
+    match slot {
+        None => false,
+        Some(slot) => x == slot,
+    }
+}
+
+/// Whether an expression passes a variable to a `ref` parameter.
+#[cycle(passes)]
+pub(crate) fn passes(ground: &Ground, e: &PExpr, x: u32) -> bool
+    ensures { result ≡ (part ground.now.types.now ground.now.prog.now e.now).passes x }
+{
+    form_passes(ground, &e.form, x)
+}
+
+// The same, of the form of an expression.
+#[cycle(passes)]
+fn form_passes(ground: &Ground, form: &PEForm, x: u32) -> bool
+    ensures { (s : Span) → result ≡ (form_part ground.now.types.now ground.now.prog.now form.now s).passes x }
+{
+    match form {
+        PEForm::Number(_)
+        | PEForm::True
+        | PEForm::False
+        | PEForm::Null
+        | PEForm::Const(_)
+        | PEForm::Hole(_)
+        | PEForm::Var { slot: _, name: _ } => false,
+        PEForm::Pattern(es) | PEForm::Braces(es) => any_passes(ground, es.as_slice(), x),
+        PEForm::Paren(of)
+        | PEForm::ToInt(of)
+        | PEForm::Pad(of)
+        | PEForm::Unary { op: _, of }
+        | PEForm::Member {
+            base: of,
+            s: _,
+            field: _,
+        } => passes(ground, of.get(), x),
+        PEForm::Index {
+            base: left,
+            index: right,
+        }
+        | PEForm::Slice {
+            base: left,
+            from: right,
+            length: _,
+        }
+        | PEForm::Binary { op: _, left, right } => passes(ground, left.get(), x)
+            || passes(ground, right.get(), x),
+        PEForm::Cond { cond, then, other } => passes(ground, cond.get(), x)
+            || (passes(ground, then.get(), x) || passes(ground, other.get(), x)),
+        PEForm::Call { f, args } => passes_to(ground, ground.params(*f), args.as_slice(), x)
+            || any_passes(ground, args.as_slice(), x),
+        PEForm::New { s: _, fields } => any_field_passes(ground, fields.as_slice(), x),
+    }
+}
+
+// Whether one of some expressions does.
+#[cycle(passes)]
+fn any_passes(ground: &Ground, es: &[PExpr], x: u32) -> bool
+    ensures { result ≡ list_any (λ p. p.passes x) (map (part ground.now.types.now ground.now.prog.now) es.now) }
+{
+    for e in es {
+        if passes(ground, e, x) {
+            return true;
+        }
+    }
+    false
+}
+
+// Whether one of the values of fields does.
+#[cycle(passes)]
+fn any_field_passes(ground: &Ground, fields: &[PField], x: u32) -> bool
+    ensures { result ≡ list_any (λ p. p.passes x) (map (λ f. f.1) (map (field_part ground.now.types.now ground.now.prog.now) fields.now)) }
+{
+    for field in fields {
+        if passes(ground, &field.value, x) {
+            return true;
+        }
+    }
+    false
+}
+
+// Whether one of the arguments is the variable, for a `ref` parameter.
+fn passes_to(ground: &Ground, params: &[ParamDef], args: &[PExpr], x: u32) -> bool
+    ensures { result ≡ passes_to params.now (map (part ground.now.types.now ground.now.prog.now) args.now) x }
+{
+    let mut params = params;
+    let mut args = args;
+    while let (Some((param, more_params)), Some((arg, more_args))) = (
+        params.split_first(),
+        args.split_first(),
+    ) {
+        if param.by_ref && is_slot(x, slot_of(ground, arg)) {
+            return true;
+        }
+        params = more_params;
+        args = more_args;
+    }
+    false
+}
+
+// Whether one of the tests is of this variable and this variant.
+fn is_tested(slot: Option<u32>, variant: usize, tests: &[Test]) -> bool
+    ensures { result ≡ is_tested slot variant tests.now }
+{
+    match slot {
+        None => false,
+        Some(slot) => any_test(slot, variant, tests),
+    }
+}
+
+fn any_test(slot: u32, variant: usize, tests: &[Test]) -> bool
+    ensures { result ≡ list_any (λ t. (t.slot == slot) && (t.variant == variant)) tests.now }
+{
+    for test in tests {
+        if test.slot == slot && test.variant as usize == variant {
+            return true;
+        }
+    }
+    false
+}
+
+// The one, or else the other.
+pub(crate) fn or_else(first: Option<Span>, other: Option<Span>) -> Option<Span>
+    ensures { result ≡ or_else first other }
+{
+    match first {
+        None => other,
+        Some(span) => Some(span),
+    }
+}
+
+// Whether a role is that of a field of this variant.
+fn is_of(variant: usize, role: Role) -> bool
+    ensures { result ≡ is_of variant role }
+{
+    match role {
+        Role::Of(i) => variant == i,
+        Role::Free | Role::Tag => false,
+    }
+}
+
+// The variant that `new` makes, by the first field that it sets.
+fn made_variant(ground: &Ground, ty: &Algebraic, first: &PField) -> Option<usize>
+    ensures { result ≡ made_variant ty.now (field_part ground.now.types.now ground.now.prog.now first.now) }
+{
+    if first.field != 0 {
+        return None;
+    }
+    let number = number_of(ground, &first.value)? as usize;
+    if number < ty.variants.len() {
+        Some(number)
+    } else {
+        None
+    }
+}
+
+// Whether only fields of this variant are set.
+fn sets_only(ground: &Ground, ty: &Algebraic, variant: Option<usize>, fields: &[PField]) -> bool
+    ensures { result ≡ sets_only ty.now variant (map (field_part ground.now.types.now ground.now.prog.now) fields.now) }
+{
+    let Some(variant) = variant else {
+        return false;
+    };
+    for field in fields {
+        if !is_of(variant, role_in(Some(ty), field.field)) {
+            return false;
+        }
+    }
+    true
+}
+
+// Whether `new` first sets the tag to the number of a variant, and then only fields of that variant.
+fn new_fits(ground: &Ground, ty: Option<&Algebraic>, fields: &[PField]) -> bool
+    ensures { result ≡ new_fits (option_map (λ a. a.now) ty.entry) (map (field_part ground.now.types.now ground.now.prog.now) fields.now) }
+{
+    let Some(ty) = ty else {
+        return true;
+    };
+    match fields.split_first() {
+        None => false,
+        Some((first, others)) => sets_only(ground, ty, made_variant(ground, ty, first), others),
+    }
+}
+
+/// The first span in an expression that breaks a rule, in the branches of these tests.
+#[cycle(breaks)]
+pub(crate) fn broken(ground: &Ground, tests: &[Test], e: &PExpr) -> Option<Span>
+    ensures { result ≡ (part ground.now.types.now ground.now.prog.now e.now).broken tests.now }
+{
+    form_broken(ground, tests, e.span, &e.form)
+}
+
+// The same, of the form of an expression with this span.
+#[cycle(breaks)]
+fn form_broken(ground: &Ground, tests: &[Test], span: Span, form: &PEForm) -> Option<Span>
+    ensures { result ≡ (form_part ground.now.types.now ground.now.prog.now form.now span).broken tests.now }
+{
+    match form {
+        PEForm::Number(_)
+        | PEForm::True
+        | PEForm::False
+        | PEForm::Null
+        | PEForm::Const(_)
+        | PEForm::Hole(_)
+        | PEForm::Var { slot: _, name: _ } => None,
+        PEForm::Pattern(es) | PEForm::Braces(es) | PEForm::Call { f: _, args: es } => any_broken(
+            ground,
+            tests,
+            es.as_slice(),
+        ),
+        PEForm::Paren(of) | PEForm::ToInt(of) | PEForm::Pad(of) | PEForm::Unary { op: _, of } =>
+            broken(ground, tests, of.get()),
+        PEForm::Index {
+            base: left,
+            index: right,
+        }
+        | PEForm::Slice {
+            base: left,
+            from: right,
+            length: _,
+        }
+        | PEForm::Binary { op: _, left, right } => or_else(
+            broken(ground, tests, left.get()),
+            broken(ground, tests, right.get()),
+        ),
+        PEForm::Cond { cond, then, other } => or_else(
+            broken(ground, tests, cond.get()),
+            or_else(
+                broken(ground, tests, then.get()),
+                broken(ground, tests, other.get()),
+            ),
+        ),
+        PEForm::Member { base, s, field } => member_broken(
+            ground,
+            tests,
+            span,
+            base.get(),
+            ground.role(*s, *field),
+        ),
+        PEForm::New { s, fields } => new_broken(ground, tests, span, *s, fields.as_slice()),
+    }
+}
+
+// The first span in some expressions.
+#[cycle(breaks)]
+fn any_broken(ground: &Ground, tests: &[Test], es: &[PExpr]) -> Option<Span>
+    ensures { result ≡ first_of (map (λ p. p.broken tests.now) (map (part ground.now.types.now ground.now.prog.now) es.now)) }
+{
+    for e in es {
+        if let Some(span) = broken(ground, tests, e) {
+            return Some(span);
+        }
+    }
+    None
+}
+
+// The first span in the values of fields.
+#[cycle(breaks)]
+fn any_field_broken(ground: &Ground, tests: &[Test], fields: &[PField]) -> Option<Span>
+    ensures { result ≡ first_of (map (λ p. p.broken tests.now) (map (λ f. f.1) (map (field_part ground.now.types.now ground.now.prog.now) fields.now))) }
+{
+    for field in fields {
+        if let Some(span) = broken(ground, tests, &field.value) {
+            return Some(span);
+        }
+    }
+    None
+}
+
+// The first span in a `new` with this span.
+#[cycle(breaks)]
+fn new_broken(
+    ground: &Ground,
+    tests: &[Test],
+    span: Span,
+    s: StructId,
+    fields: &[PField],
+) -> Option<Span>
+    ensures { result ≡ (new_part ground.now.types.now ground.now.prog.now s (map (field_part ground.now.types.now ground.now.prog.now) fields.now) span).broken tests.now }
+{
+    if new_fits(ground, ground.algebraic(s), fields) {
+        any_field_broken(ground, tests, fields)
+    } else {
+        Some(span)
+    }
+}
+
+// The first span in a field of this expression, where the field is this.
+#[cycle(breaks)]
+fn member_broken(
+    ground: &Ground,
+    tests: &[Test],
+    span: Span,
+    base: &PExpr,
+    role: Role,
+) -> Option<Span>
+    ensures { result ≡ (member_part role span (part ground.now.types.now ground.now.prog.now base.now)).broken tests.now }
+{
+    match role {
+        Role::Free => broken(ground, tests, base),
+        Role::Tag => Some(span),
+        Role::Of(variant) => {
+            if is_tested(slot_of(ground, base), variant, tests) {
+                broken(ground, tests, base)
+            } else {
+                Some(span)
+            }
+        }
+    }
+}
