@@ -3,3 +3,4 @@ pub mod Listing
 pub mod Sooner
 pub mod Chaining
 pub mod Places
+pub mod Pieces

@@ -104,14 +104,14 @@ next_variant_less variants ts = every_bind (variant_at ts) _ (variant_less ts) (
 pub variants_shrink : Shrinks next_variant
 variants_shrink = record { takes = λ s ts r rest e. (next_variant_less s ts).each (pair r rest) e }
 
+here_most : (t : Token) (ts : List Token) (further : ℕ → Option (List Token)) → ((m : ℕ) → Every (λ r. length r ≤ length ts) (further m)) → (o : Option ℕ) → Every (λ r. length r ≤ suc (length ts)) (or_here (t ∷ ts) further o)
+here_most t ts further h None = every_some (omega arith)
+here_most t ts further h (Some m) = every_more (h m) (λ r l. omega arith)
+
 close_most : (n : ℕ) (ts : List Token) → Every (λ r. length r ≤ length ts) (close_at n ts)
 unfolding close_at
 close_most n [] = every_none
-close_most n (t ∷ ts) = by (depth_after n t.kind)
-  where
-    by : (o : Option ℕ) → Every (λ r. length r ≤ suc (length ts)) (or_here (t ∷ ts) (λ m. close_at m ts) o)
-    by None = every_some (omega arith)
-    by (Some m) = every_more (close_most m ts) (λ r l. omega arith)
+close_most n (t ∷ ts) = here_most t ts (λ m. close_at m ts) (λ m. close_most m ts) (depth_after n t.kind)
 
 case_less : (ts : List Token) → Every (λ r. length r.1.1 < length ts) (case_at ts)
 unfolding case_at

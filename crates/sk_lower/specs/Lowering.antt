@@ -28,8 +28,7 @@ lowered_pieces (Ok pieces) = or_plain (types_in pieces) pieces (fault_of (types_
 unfoldable pub lowered : List Token → Result Lowered AdtFault
 lowered ts = lowered_pieces (pieces_of ts)
 
--- An answer is this one, unless memory was wanting.
+-- An answer is this one, where it is not that memory was wanting.
 abbrev pub Answers : Result Lowered AdtFault → Result Lowered AdtFault → Type 0
-Answers (Err fault.Memory) is = Unit {0}
-Answers (Err f) is = is ≡ Err f
 Answers (Ok l) is = is ≡ Ok l
+Answers (Err f) is = (f ≡ fault.Memory → ⊥) → is ≡ Err f

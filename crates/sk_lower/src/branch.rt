@@ -362,7 +362,6 @@ fn push_piece(
 
 // Appends what takes the place of a switch.
 #[cycle(branches)]
-#[tactic(auto, using(crate::proofs::Chaining::chain_is, crate::proofs::Chaining::heads_are, crate::proofs::Chaining::many_are))]
 fn push_switch(
     alloc: Global,
     known: &Listed<Known>,

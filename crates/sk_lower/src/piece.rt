@@ -265,6 +265,7 @@ pub(crate) fn pieces_of(alloc: Global, tokens: &[Token]) -> Result<Found<List<Pi
 
 // The pieces of the tokens, where so many may come.
 #[cycle(pieces)]
+#[tactic(auto, unfolding(crate::specs::Forms::pieces_from), using(crate::proofs::Pieces::pieces_none, crate::proofs::Pieces::pieces_more))]
 fn pieces_from(
     alloc: Global,
     levels: u32,
@@ -273,19 +274,20 @@ fn pieces_from(
 ) -> Result<Found<List<Piece>>, AllocError>
     ensures { IfOk result (λ found. found ≡ pieces_from left [] tokens.now) }
 {
-    let mut left = left;
+    let mut more = left;
     let mut so_far = List::new(alloc);
     let mut rest = tokens;
     while let Some((token, after)) = rest.split_first() {
-        if left == 0 {
+        if more == 0 {
             return Ok(Err(token.span.from));
         }
-        left -= 1;
-        let (found, behind) = piece_at(alloc, levels, left, rest, token, after)?;
-        match found {
+        let (found, behind) = piece_at(alloc, levels, more - 1, rest, token, after)?;
+        let piece = match found {
             Err(at) => return Ok(Err(at)),
-            Ok(piece) => so_far.push(piece)?,
-        }
+            Ok(piece) => piece,
+        };
+        so_far.push(piece)?;
+        more -= 1;
         rest = behind;
     }
     Ok(Ok(so_far))

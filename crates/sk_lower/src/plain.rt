@@ -23,10 +23,7 @@ pub fn lower(alloc: Global, tokens: &[Token]) -> Result<Lowered, AdtFault>
 {
     match pieces_of(alloc, tokens)? {
         Err(at) => Err(AdtFault::NoForm { at }),
-        Ok(pieces) => {
-            let lowered = lower_pieces(alloc, pieces.as_slice())?;
-            Ok(lowered)
-        }
+        Ok(pieces) => lower_pieces(alloc, pieces.as_slice()),
     }
 }
 

@@ -107,7 +107,6 @@ pub(crate) fn list_pieces(
 
 // Lists the types and the switches of a piece.
 #[cycle(listing)]
-#[tactic(auto, using(crate::proofs::Listing::case_words_are))]
 fn list_piece(
     alloc: Global,
     types: &mut List<TypeWords>,

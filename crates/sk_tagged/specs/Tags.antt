@@ -32,8 +32,8 @@ use Rattle.sk_lower.specs.declared.algebraic.Algebraic.{Algebraic}
 use Rattle.sk_tagged.specs.declared.role.Role.{Role}
 use Rattle.sk_tagged.specs.declared.role.Role.TheVariants as role
 use Rattle.sk_tagged.specs.declared.role.Test.{Test}
-use Rattle.sk_tagged.specs.declared.tagged.TagFault.{TagFault}
-use Rattle.sk_tagged.specs.declared.tagged.TagFault.TheVariants as fault
+use Rattle.sk_tagged.specs.declared.fault.TagFault.{TagFault}
+use Rattle.sk_tagged.specs.declared.fault.TagFault.TheVariants as fault
 
 -- Structs and fields
 
@@ -256,8 +256,8 @@ module _ (types : List Algebraic) (prog : Prog) where
   unfoldable pub broken : Option Span
   broken = first_of (map fun_broken prog.funs)
 
--- An answer is this one, unless memory was wanting.
+-- An answer is this one, where it is not that memory was wanting.
 abbrev pub Answers : Result (Unit {0}) TagFault → Option Span → Type 0
+Answers (Ok u) span = span ≡ None
 Answers (Err fault.Memory) span = Unit {0}
 Answers (Err (fault.NotTagged s)) span = span ≡ Some s
-Answers (Ok u) span = span ≡ None

@@ -1,14 +1,14 @@
 //! Expressions that break a rule of tags.
-ghost use Rattle.std.specs.Prelude.{◌≡◌, ◌==◌, ◌&&◌, map, option_map};
+ghost use Rattle.std.specs.Prelude.{◌≡◌, ◌==◌, ◌&&◌, map, option_map, slice_get};
 ghost use Rattle.sk_base.specs.declared.span.Span.{Span};
 ghost use Rattle.std.specs.List.{list_any};
-ghost use Rattle.sk_tagged.specs.Tags.{part, form_part, field_part, new_part, member_part, or_else, first_of, is_slot, is_tested, passes_to, is_of, made_variant, sets_only, new_fits};
+ghost use Rattle.sk_tagged.specs.Tags.{part, form_part, field_part, new_part, member_part, or_else, first_of, is_slot, is_tested, params_of, passes_to, is_of, made_variant, sets_only, new_fits};
 
 use crate::ground::{Ground, role_in};
 use crate::role::{Role, Test};
-use sk_base::{List, Span};
+use sk_base::Span;
 use sk_lower::Algebraic;
-use sk_prog::{BinOp, PEForm, PExpr, PField, ParamDef, StructId};
+use sk_prog::{BinOp, FunId, PEForm, PExpr, PField, ParamDef, StructId};
 
 /// The slot of the variable that an expression is.
 pub(crate) fn slot_of(ground: &Ground, e: &PExpr) -> Option<u32>
@@ -153,17 +153,27 @@ fn passes_to(ground: &Ground, params: &[ParamDef], args: &[PExpr], x: u32) -> bo
 {
     let mut params = params;
     let mut args = args;
-    while let (Some((param, more_params)), Some((arg, more_args))) = (
-        params.split_first(),
-        args.split_first(),
-    ) {
+    while let Some((param, more)) = params.split_first() {
+        let Some((arg, others)) = args.split_first() else {
+            return false;
+        };
         if param.by_ref && is_slot(x, slot_of(ground, arg)) {
             return true;
         }
-        params = more_params;
-        args = more_args;
+        params = more;
+        args = others;
     }
     false
+}
+
+// The same, in a call.
+fn call_passes(ground: &Ground, f: FunId, args: &[PExpr], x: u32) -> bool
+    ensures { result ≡ passes_to (params_of (slice_get ground.now.prog.now.funs f.index)) (map (part ground.now.types.now ground.now.prog.now) args.now) x }
+{
+    match ground.prog.funs.get(f.index as usize) {
+        None => false,
+        Some(fun) => passes_to(ground, fun.params.as_slice(), args, x),
+    }
 }
 
 // Whether one of the tests is of this variable and this variant.

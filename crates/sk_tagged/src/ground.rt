@@ -1,12 +1,12 @@
 //! A program and its algebraic types.
-ghost use Rattle.std.specs.Prelude.{◌≡◌, IfOk, map, option_map, slice_get};
-ghost use Rattle.sk_tagged.specs.Tags.{type_named, algebraic_of, variant_at, of_variant, role_in, params_of};
+ghost use Rattle.std.specs.Prelude.{◌≡◌, IfOk, map, option_map};
+ghost use Rattle.sk_tagged.specs.Tags.{type_named, algebraic_of, variant_at, of_variant, role_in};
 
 use crate::role::Role;
-use sk_base::{List, Name, at};
+use sk_base::{Name, at};
 use sk_exprs::token::copy;
 use sk_lower::{Algebraic, Variant};
-use sk_prog::{Fun, FunId, ParamDef, Prog, StructId};
+use sk_prog::{Prog, StructId};
 use sk_typing::Listed;
 use std::alloc::{AllocError, Global};
 
@@ -64,16 +64,6 @@ impl<'a> Ground<'a> {
         }
     }
 
-    /// The parameters of a function.
-    pub fn params(&self, f: FunId) -> &[ParamDef]
-        ensures { result.now ≡ params_of (slice_get self.now.prog.now.funs f.index) }
-    {
-        match self.prog.funs.get(f.index as usize) {
-            None => &[],
-            Some(fun) => fun.params.as_slice(),
-        }
-    }
-
     /// What a field of a struct is.
     pub fn role(&self, s: StructId, field: u32) -> Role
         ensures { result ≡ role_in (algebraic_of self.now.types.now self.now.prog.now.structs s) field }
@@ -98,6 +88,7 @@ fn variant_at(variants: &[Variant], field: usize) -> Option<usize>
 }
 
 /// What a field of a type is, where there is one.
+#[tactic(auto, using(crate::proofs::Roles::role_first, crate::proofs::Roles::role_more))]
 pub fn role_in(ty: Option<&Algebraic>, field: u32) -> Role
     ensures { result ≡ role_in (option_map (λ a. a.now) ty.entry) field }
 {

@@ -2,9 +2,11 @@
 #![tactic(auto)]
 
 mod expr;
+mod fault;
 mod ground;
 mod role;
 mod stmt;
-mod tagged;
+mod test;
 
-pub use tagged::{TagFault, tagged};
+pub use fault::TagFault;
+pub use test::tagged;

@@ -6,7 +6,7 @@ ghost use Rattle.sk_tagged.specs.Tags.{part, work, form_work_of, of_any, all_of,
 use crate::expr::{broken as expr_broken, is_slot, or_else, passes, slot_of, test_of};
 use crate::ground::Ground;
 use crate::role::Test;
-use sk_base::{Boxed, List, Span};
+use sk_base::{Boxed, Span};
 use sk_prog::{PExpr, PForm, PStmt};
 use std::alloc::{AllocError, Global};
 

@@ -31,3 +31,9 @@ invariant-more_cases-loop-alloc l =
 
 abbrev pub decreases-more_cases-loop-alloc : goal.decreases-more_cases-loop-alloc
 decreases-more_cases-loop-alloc l = length l.rest
+
+abbrev pub invariant-pieces_from-loop-token : goal.invariant-pieces_from-loop-token
+invariant-pieces_from-loop-token l = record { same : pieces_from l.more l.so_far l.rest ≡ pieces_from l.fn.left [] l.tokens; few : l.more ≤ l.fn.left }
+
+abbrev pub decreases-pieces_from-loop-token : goal.decreases-pieces_from-loop-token
+decreases-pieces_from-loop-token l = l.more

@@ -1,37 +1,22 @@
+//! Whether a program is tagged.
 ghost use Rattle.std.specs.Prelude.{◌≡◌, map, None, IfOk};
-ghost use Rattle.sk_tagged.specs.declared.tagged.TagFault.TheVariants as fault;
 ghost use Rattle.sk_tagged.specs.Tags.{first_of, fun_broken, broken, Answers};
 
+use crate::fault::TagFault;
 use crate::ground::Ground;
 use crate::stmt::all_broken;
 use sk_base::{List, Span};
 use sk_lower::Algebraic;
 use sk_prog::{Fun, Prog};
-use std::alloc::{AllocError, AllocFailed, Global};
-
-/// Why a program is not tagged.
-#[derive(Debug, Drop, Clone, Copy, PartialEq, Eq)]
-pub enum TagFault {
-    /// What stands on this span uses a tag or a field of a variant otherwise than `switch` and `new V` do.
-    NotTagged { span: Span },
-    /// Memory is wanting.
-    Memory,
-}
-
-impl From<AllocError> for TagFault {
-    ghost from_gives = { λ _ e. e ≡ fault.Memory };
-
-    fn from(_e: AllocError) -> TagFault {
-        TagFault::Memory
-    }
-}
+use std::alloc::{AllocError, Global};
 
 // The first span of some functions.
 fn funs_broken(alloc: Global, ground: &Ground, funs: &[Fun]) -> Result<Option<Span>, AllocError>
     ensures { IfOk result (λ span. span ≡ first_of (map (fun_broken ground.now.types.now ground.now.prog.now) funs.now)) }
 {
+    let none = Vec::new(alloc);
     for fun in funs {
-        if let Some(span) = all_broken(alloc, ground, &[], fun.body.as_slice())? {
+        if let Some(span) = all_broken(alloc, ground, none.as_slice(), fun.body.as_slice())? {
             return Ok(Some(span));
         }
     }
