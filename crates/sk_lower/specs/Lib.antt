@@ -5,4 +5,3 @@ pub mod Branches
 pub mod Chains
 pub mod Builds
 pub mod Lowering
-pub mod Examples
