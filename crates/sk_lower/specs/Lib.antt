@@ -5,3 +5,4 @@ pub mod Branches
 pub mod Chains
 pub mod Builds
 pub mod Lowering
+pub mod Examples

@@ -4,6 +4,7 @@
 mod algebraic;
 mod branch;
 mod build;
+pub mod examples;
 mod faults;
 mod form;
 mod piece;
