@@ -2,9 +2,10 @@
 //! output.
 #![tactic(auto)]
 
-use sk_app::{StdSink, StdSource, message, run, status};
+use sk_app::{Ending, StdSink, StdSource, message, run, status};
+use sk_explain::{KeptSource, explain};
 use std::env;
-use std::io::Write;
+use std::io::{IsTerminal, Write};
 use std::process::ExitCode;
 
 /// The status where the runtime does not give the words.
@@ -16,13 +17,32 @@ fn say(errors: &mut impl Write, line: &[u8]) {
     let _ = errors.write_all(b"\n");
 }
 
+/// Whether lines for people are written: the environment variable `SKETCH_EXPLAIN` says so by `1` or `0`, and else they
+/// are where standard error is a terminal.
+fn is_explained(rt: &HostRuntime) -> bool {
+    match env::var(rt, "SKETCH_EXPLAIN") {
+        Ok(word) if word.as_str() == "1" => true,
+        Ok(word) if word.as_str() == "0" => false,
+        _ => rt.stderr().is_terminal(),
+    }
+}
+
+/// Writes the lines for people to standard error, where there was memory for the text that was read.
+fn say_more(rt: &HostRuntime, words: &[String], text: Option<&[u8]>, ending: &Ending) {
+    if let Some(text) = text {
+        if let Ok(lines) = explain(rt.alloc(), words, text, ending) {
+            let _ = rt.stderr().write_all(lines.as_bytes());
+        }
+    }
+}
+
 fn main(rt: HostRuntime) -> ExitCode {
     let alloc = rt.alloc();
     let Ok(words) = words(&rt) else {
         say(&mut rt.stderr(), b"no words");
         return ExitCode::from(NO_WORDS);
     };
-    let mut source = StdSource::new(rt.stdin());
+    let mut source = KeptSource::new(alloc, StdSource::new(rt.stdin()));
     let mut sink = StdSink::new(rt.stdout());
     let ending = run(alloc, words.as_slice(), &mut source, &mut sink);
     let status = status(&ending);
@@ -30,6 +50,9 @@ fn main(rt: HostRuntime) -> ExitCode {
         if let Ok(line) = message(alloc, &ending) {
             say(&mut rt.stderr(), line.as_bytes());
         }
+    }
+    if is_explained(&rt) {
+        say_more(&rt, words.as_slice(), source.kept(), &ending);
     }
     ExitCode::from(status)
 }
