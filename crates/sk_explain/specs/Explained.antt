@@ -1,5 +1,7 @@
 -- What there is to tell of an ending, and how it is written.
-use Rattle.std.specs.Prelude.{ℕ, ◌≡◌, ◌≤◌, ◌<◌, ◌==◌, List, [], ◌∷◌, ◌++◌, length, Option, None, Some, if◌then◌else◌, codes, IfSome}
+use Rattle.std.specs.Prelude.{ℕ, ◌≡◌, ◌≤◌, ◌<◌, ◌==◌, List, [], ◌∷◌, ◌++◌, length, Option, None, Some, if◌then◌else◌, codes, true}
+use Rattle.std.specs.List.{list_all}
+use Rattle.std.specs.Str.{IsAscii}
 use Rattle.sk_base.specs.declared.span.Span.{Span}
 use Rattle.sk_app.specs.declared.ending.Ending.{Ending}
 use Rattle.sk_app.specs.declared.ending.Ending.TheVariants as ending
@@ -10,6 +12,7 @@ use Rattle.sk_parser.specs.declared.fault.ParseFault.{ParseFault}
 use Rattle.sk_parser.specs.declared.fault.ParseFault.TheVariants as parse
 use Rattle.sk_place.specs.declared.spots.Spot.{Spot}
 use Rattle.sk_place.specs.Spots.{IsSpotOf, place_text, excerpt_text}
+use Rattle.sk_told.specs.Notes.{is_note}
 use Rattle.sk_explain.specs.declared.explanation.Explanation.{Explanation}
 
 -- The bytes that an ending names: of a fault of a text that it is told at a byte, one that is empty
@@ -58,19 +61,21 @@ span_of ending.NotBuilt = None
 
 -- Explanations
 
--- what is shown of the bytes of a span: their place, where it is one of the text
+-- what is shown of the bytes of a span, where they begin in the text or at its end
 abbrev pub IsShown : List ℕ → Span → Option Spot → Type 0
 IsShown text span None = length text < span.from
-IsShown text span (Some spot) = IsSpotOf text span.from span.to spot
+IsShown text span (Some spot) = (span.from ≤ length text) × IsSpotOf text span.from span.to spot
 
 -- what is shown of a text: the bytes that an ending names, where it names some
 abbrev pub IsSpot : List ℕ → Option Span → Option Spot → Type 0
 IsSpot text None spot = spot ≡ None
 IsSpot text (Some span) spot = IsShown text span spot
 
--- an explanation of an ending on a text shows the bytes that the ending names
+-- an explanation of an ending on a text shows the bytes that the ending names, and has notes for its title and behind it
 pub record IsExplanation (text : List ℕ) (ending : Ending) (explanation : Explanation) : Type 0 where
   pub spot : IsSpot text (span_of ending) explanation.spot
+  pub title : list_all is_note explanation.title.bytes.items ≡ true
+  pub notes : list_all is_note explanation.notes.bytes.items ≡ true
 
 -- Layout
 
@@ -93,8 +98,9 @@ title_text spot (b ∷ bs) = head_text spot ++ (b ∷ bs) ++ 10 ∷ []
 abbrev pub layout : Explanation → List ℕ
 layout e = title_text e.spot e.title.bytes.items ++ shown_text e.spot ++ e.notes.bytes.items
 
--- what is written of an ending on a text: the layout of an explanation
+-- what is written of an ending on a text: the layout of an explanation; it is ASCII where the text is
 pub record IsExplained (text : List ℕ) (ending : Ending) (out : List ℕ) : Type 0 where
   pub explanation : Explanation
   pub explains : IsExplanation text ending explanation
   pub written : out ≡ layout explanation
+  pub ascii : IsAscii text → IsAscii out

@@ -1,6 +1,6 @@
 //! What there is to tell people of an ending.
 ghost use Rattle.std.specs.Prelude.{◌≡◌, ◌++◌, IfOk, OnOk};
-ghost use Rattle.sk_explain.specs.Explained.{point, lex_span, parse_span, some_span, span_of, IsSpot, IsExplanation, head_text, shown_text, title_text, layout, IsExplained};
+ghost use Rattle.sk_explain.specs.Explained.{point, lex_span, parse_span, some_span, span_of, IsShown, IsSpot, IsExplanation, head_text, shown_text, title_text, layout, IsExplained};
 
 use sk_app::{Ending, TextFault};
 use sk_base::{Name, Span};
@@ -77,16 +77,28 @@ fn span_of(ending: &Ending) -> Option<Span>
     }
 }
 
+// What is shown of a span of a text.
+fn shown(alloc: Global, text: &[u8], span: Span) -> Result<Option<Spot>, AllocError>
+    ensures { IfOk result (IsShown text.now span) }
+{
+    let from = span.from as usize;
+    if from > text.len() {
+        return Ok(None);
+    }
+    let spot = spot_of(alloc, text, from, span.to as usize)?;
+    Ok(Some(spot))
+}
+
 // The place that an ending names in a text.
 fn spot(alloc: Global, text: &[u8], ending: &Ending) -> Result<Option<Spot>, AllocError>
     ensures { IfOk result (IsSpot text.now (span_of ending.now)) }
 {
     match span_of(ending) {
-        Some(span) if span.from as usize <= text.len() => {
-            let spot = spot_of(alloc, text, span.from as usize, span.to as usize)?;
-            Ok(Some(spot))
+        None => Ok(None),
+        Some(span) => {
+            let spot = shown(alloc, text, span)?;
+            Ok(spot)
         }
-        _ => Ok(None),
     }
 }
 

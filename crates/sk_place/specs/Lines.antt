@@ -46,5 +46,6 @@ pub record IsLineOf (text : List ℕ) (byte : ℕ) (line : List ℕ) : Type 0 wh
 -- from 1: as many bytes of its line stand before it as columns before its own.
 pub record IsPlace (text : List ℕ) (byte : ℕ) (place : Place) : Type 0 where
   pub line : place.line ≡ count_by is_feed (take byte text) + 1
-  pub first : 0 < place.column
-  pub column : IsLineStart text byte (byte + 1 - place.column)
+  pub start : ℕ
+  pub begins : IsLineStart text byte start
+  pub column : place.column ≡ byte - start + 1

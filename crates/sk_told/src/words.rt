@@ -108,7 +108,8 @@ fn tell_extra(told: &mut Told, command: Command, word: &[u8]) -> Result<(), Allo
             told.title(&[command.word(), b" takes no other words"])?;
             told.notes
                 .say(&[command.word(), b" reads standard input: sketch "])?;
-            told.note(&[command.word(), b" < ", word])
+            told.notes.word(command.word())?;
+            told.note(&[b" < ", word])
         }
     }
 }
