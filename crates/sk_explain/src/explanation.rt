@@ -90,7 +90,7 @@ fn shown(alloc: Global, text: &[u8], span: Span) -> Result<Option<Spot>, AllocEr
 }
 
 // The place that an ending names in a text.
-fn spot(alloc: Global, text: &[u8], ending: &Ending) -> Result<Option<Spot>, AllocError>
+fn named_spot(alloc: Global, text: &[u8], ending: &Ending) -> Result<Option<Spot>, AllocError>
     ensures { IfOk result (IsSpot text.now (span_of ending.now)) }
 {
     match span_of(ending) {
@@ -171,7 +171,7 @@ fn is_search(ending: &Ending) -> bool {
 }
 
 // What there is to tell, without its place.
-fn told(
+fn told_of(
     alloc: Global,
     words: &[String],
     text: &[u8],
@@ -188,7 +188,7 @@ fn told(
 
 /// What there is to tell of an ending: of the words of a line and the text that was read, as `run` ended on them. The place
 /// that it shows is that of the bytes that the ending names.
-pub fn explanation(
+pub fn explanation_of(
     alloc: Global,
     words: &[String],
     text: &[u8],
@@ -196,8 +196,8 @@ pub fn explanation(
 ) -> Result<Explanation, AllocError>
     ensures { IfOk result (IsExplanation text.now ending.now) }
 {
-    let Told { title, notes } = told(alloc, words, text, ending)?;
-    let spot = spot(alloc, text, ending)?;
+    let Told { title, notes } = told_of(alloc, words, text, ending)?;
+    let spot = named_spot(alloc, text, ending)?;
     Ok(Explanation { title, spot, notes })
 }
 
@@ -254,6 +254,7 @@ pub fn written(alloc: Global, explanation: &Explanation) -> Result<Name, AllocEr
 
 /// The lines that tell people of an ending: of the words of a line and the text that was read, as `run` ended on them. There
 /// are none where there is nothing to tell.
+#[tactic(auto, using(crate::proofs::AsciiLaws::layout_ascii))]
 pub fn explain(
     alloc: Global,
     words: &[String],
@@ -262,7 +263,7 @@ pub fn explain(
 ) -> Result<Name, AllocError>
     ensures { IfOk result (IsExplained text.now ending.now) }
 {
-    let explanation = explanation(alloc, words, text, ending)?;
+    let explanation = explanation_of(alloc, words, text, ending)?;
     let out = written(alloc, &explanation)?;
     Ok(out)
 }
