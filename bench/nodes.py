@@ -8,8 +8,8 @@ FOLDER is made, where it is not there: a copy of the crates with one more, `node
 (bench/libraries.py), and builds it with LLVM. It is then run on texts that are made here, each RUNS times (5 if it is not given), one after another; each time is the
 median.
 
-Four tables are printed. The first three say what a statement costs that is done so many times: nodes, nanoseconds over nodes, and those as multiples of
-the time of `exec`. The fourth says what a run makes with no input and a given choice.
+Three tables are printed: what a statement costs that is done so many times (nodes, nanoseconds, and these beside `exec`), over inputs and holes and with the
+choice given; what functions of examples/ make and take on constants; and what is made where a side of a branch, or the rest of a loop, is never run.
 """
 import os
 import shutil
