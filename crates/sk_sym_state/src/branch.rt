@@ -118,6 +118,7 @@ impl SymState {
     ) -> Result<Side, AllocError>
         requires stands { StateStands dag.old setting.now.expanded.now.prog self.old }
         requires cond { HasBool dag.old.nodes cond }
+        ensures keeps { Keeps dag.old dag.new }
         ensures forked { IfOk result (λ waits. IsForked setting.now dag.old dag.new self.old self.new cond waits) }
     {
         let first = and(dag, self.path, cond)?;
@@ -161,6 +162,7 @@ impl SymState {
         requires stands { StateStands dag.old setting.now.expanded.now.prog self.old }
         requires cond { HasBool dag.old.nodes cond }
         requires gone { SideStands dag.old gone }
+        ensures keeps { Keeps dag.old dag.new }
         ensures joined { OnOk result (AreJoined setting.now dag.old dag.new self.old self.new cond gone) }
     {
         let path = path_behind(dag, gone.fork, gone.path, self.path)?;

@@ -50,6 +50,7 @@ impl SymState {
     ) -> Result<(), AllocError>
         requires stands { StateStands dag.old setting.now.expanded.now.prog self.old }
         requires cond { HasBool dag.old.nodes cond }
+        ensures keeps { Keeps dag.old dag.new }
         ensures fails { OnOk result (FailsWhere setting.now dag.old dag.new self.old self.new cond) }
     {
         let end = end_where(dag, self.path, self.failed, cond)?;
@@ -67,6 +68,7 @@ impl SymState {
     ) -> Result<(), AllocError>
         requires stands { StateStands dag.old setting.now.expanded.now.prog self.old }
         requires cond { HasBool dag.old.nodes cond }
+        ensures keeps { Keeps dag.old dag.new }
         ensures skips { OnOk result (SkipsWhere setting.now dag.old dag.new self.old self.new cond) }
     {
         let end = end_where(dag, self.path, self.skipped, cond)?;
