@@ -1,6 +1,7 @@
 //! Conditions: a run fails or is skipped where one does not hold.
 
 ghost use Rattle.std.specs.Prelude.{OnOk};
+ghost use Rattle.sk_dag.specs.Eval.{Keeps};
 ghost use Rattle.sk_sym_state.specs.Seen.{IsWorth};
 ghost use Rattle.sk_arr.specs.Shapes.{Stands};
 ghost use Rattle.sk_sym_state.specs.Stands.{StateStands};
@@ -23,6 +24,7 @@ pub fn assert_that(
 ) -> Result<(), AllocError>
     requires stands { StateStands dag.old setting.now.expanded.now.prog state.old }
     requires a { Stands dag.old a.now }
+    ensures keeps { Keeps dag.old dag.new }
     ensures executes { OnOk result (ExecutesOn setting.now dag.old dag.new state.old state.new (λ g e. IsWorth g e state.old.heap a.now) (λ e. asserted span)) }
 {
     let Shape::Bit(cond) = a else {
@@ -43,6 +45,7 @@ pub fn assume_that(
 ) -> Result<(), AllocError>
     requires stands { StateStands dag.old setting.now.expanded.now.prog state.old }
     requires a { Stands dag.old a.now }
+    ensures keeps { Keeps dag.old dag.new }
     ensures executes { OnOk result (ExecutesOn setting.now dag.old dag.new state.old state.new (λ g e. IsWorth g e state.old.heap a.now) (λ e. assumed span)) }
 {
     let Shape::Bit(cond) = a else {

@@ -38,6 +38,7 @@ pub fn pay(
 ) -> Result<(), AllocError>
     requires stands { StateStands dag.old setting.now.expanded.now.prog state.old }
     requires amount { HasWord dag.old.nodes amount }
+    ensures keeps { Keeps dag.old dag.new }
     ensures pays { OnOk result (ExecutesOn setting.now dag.old dag.new state.old state.new (λ g e v. v ≡ value.Int (word_value g e amount)) (λ e. pay span)) }
 {
     let negative = is_negative(dag, amount)?;

@@ -1,6 +1,7 @@
 //! Records and their fields.
 
 ghost use Rattle.std.specs.Prelude.{◌≡◌, IfOk, IsTrue, []};
+ghost use Rattle.sk_dag.specs.Eval.{Keeps};
 ghost use Rattle.sk_arr.specs.Held.{AllPass};
 ghost use Rattle.sk_arr.specs.Shapes.{Stands};
 ghost use Rattle.sk_prog.specs.Fits.{has_struct as has_struct_of, has_field as has_field_of};
@@ -66,6 +67,7 @@ pub fn allocate(
     s: StructId,
 ) -> Result<Shape, AllocError>
     requires stands { StateStands dag.old setting.now.expanded.now.prog state.old }
+    ensures keeps { Keeps dag.old dag.new }
     ensures evaluates { IfOk result (λ r. Evaluates setting.now dag.old dag.new state.old state.new r (λ e. allocates setting.now.expanded.now.prog s [])) }
 {
     let prog = &setting.expanded.prog;
@@ -91,6 +93,7 @@ pub fn read_field(
 ) -> Result<Shape, AllocError>
     requires stands { StateStands dag.old setting.now.expanded.now.prog state.old }
     requires reference { Stands dag.old reference.now }
+    ensures keeps { Keeps dag.old dag.new }
     ensures evaluates { IfOk result (λ r. EvaluatesOn setting.now dag.old dag.new state.old state.new (λ g e. IsWorth g e state.old.heap reference.now) r (λ e. reads span field)) }
 {
     let prog = &setting.expanded.prog;

@@ -9,5 +9,5 @@ not-requires c = bit_there c.requires.a c.in-Bit.is
 pub fail_where-requires-clause-stands : goal.fail_where-requires-clause-stands
 fail_where-requires-clause-stands c = StateStands-keeps c.in_ok-fails.ensures.keeps c.requires.stands
 
-pub returns : goal.returns
-returns c = record { executes = asserts c.in-Bit.is c.requires.stands c.in_ok-fails.ensures.keeps c.in_ok-fails.ensures.value c.in_ok-fail_where.ensures.fails c.args.span }
+pub returns-clause-executes : goal.returns-clause-executes
+returns-clause-executes c = asserts c.in-Bit.is c.requires.stands c.in_ok-fails.ensures.keeps c.in_ok-fails.ensures.value c.in_ok-fail_where.ensures.fails c.args.span

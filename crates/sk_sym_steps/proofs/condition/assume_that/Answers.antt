@@ -9,5 +9,5 @@ not-requires c = bit_there c.requires.a c.in-Bit.is
 pub skip_where-requires-clause-stands : goal.skip_where-requires-clause-stands
 skip_where-requires-clause-stands c = StateStands-keeps c.in_ok-skips.ensures.keeps c.requires.stands
 
-pub returns : goal.returns
-returns c = record { executes = assumes c.in-Bit.is c.requires.stands c.in_ok-skips.ensures.keeps c.in_ok-skips.ensures.value c.in_ok-skip_where.ensures.skips c.args.span }
+pub returns-clause-executes : goal.returns-clause-executes
+returns-clause-executes c = assumes c.in-Bit.is c.requires.stands c.in_ok-skips.ensures.keeps c.in_ok-skips.ensures.value c.in_ok-skip_where.ensures.skips c.args.span

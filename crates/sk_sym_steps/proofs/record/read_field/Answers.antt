@@ -12,5 +12,5 @@ read_field-requires-clause-target c =
 pub fail_where-requires-clause-stands : goal.fail_where-requires-clause-stands
 fail_where-requires-clause-stands c = StateStands-keeps c.in_ok-r.ensures.keeps c.requires.stands
 
-pub returns : goal.returns
-returns c = record { evaluates = reads_field c.args.span c.requires.stands c.in-Reference.is c.in_ok-r.ensures.keeps c.in_ok-r.ensures.read c.in_ok-fail_where.ensures.fails }
+pub returns-clause-evaluates : goal.returns-clause-evaluates
+returns-clause-evaluates c = reads_field c.args.span c.requires.stands c.in-Reference.is c.in_ok-r.ensures.keeps c.in_ok-r.ensures.read c.in_ok-fail_where.ensures.fails
