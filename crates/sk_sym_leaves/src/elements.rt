@@ -1,6 +1,7 @@
 //! Elements and slices of arrays: the run fails where an index leaves the range.
 
 ghost use Rattle.std.specs.Prelude.{IfOk};
+ghost use Rattle.sk_dag.specs.Eval.{Keeps};
 ghost use Rattle.sk_arr.specs.Shapes.{Stands};
 ghost use Rattle.sk_model.specs.Eval.{indexed as indexed_of, sliced as sliced_of};
 ghost use Rattle.sk_sym_state.specs.Stands.{StateStands};
@@ -25,6 +26,7 @@ pub fn element(
     requires stands { StateStands dag.old setting.now.expanded.now.prog state.old }
     requires a { Stands dag.old a.now }
     requires index { Stands dag.old index.now }
+    ensures keeps { Keeps dag.old dag.new }
     ensures evaluates { IfOk result (λ r. EvaluatesOn setting.now dag.old dag.new state.old state.new (AreTwo state.old.heap a.now index.now) r (λ e vs. indexed_of span vs.0 vs.1)) }
 {
     let made = indexed(setting.alloc, dag, a, index)?;
@@ -47,6 +49,7 @@ pub fn slice(
     requires stands { StateStands dag.old setting.now.expanded.now.prog state.old }
     requires a { Stands dag.old a.now }
     requires index { Stands dag.old index.now }
+    ensures keeps { Keeps dag.old dag.new }
     ensures evaluates { IfOk result (λ r. EvaluatesOn setting.now dag.old dag.new state.old state.new (AreTwo state.old.heap a.now index.now) r (λ e vs. sliced_of span count vs.0 vs.1)) }
 {
     let made = sliced(setting.alloc, dag, count, a, index)?;

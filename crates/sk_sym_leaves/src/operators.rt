@@ -1,6 +1,7 @@
 //! Operators on shapes: the run fails where they do.
 
 ghost use Rattle.std.specs.Prelude.{◌≡◌, IfOk, OnOk};
+ghost use Rattle.sk_dag.specs.Eval.{Keeps};
 ghost use Rattle.sk_arr.specs.Shapes.{Stands};
 ghost use Rattle.sk_model.specs.Operators.{operator as operator_of, unary_operator, to_int as to_int_of};
 ghost use Rattle.sk_sym_state.specs.Seen.{IsWorth};
@@ -38,6 +39,7 @@ pub fn operate(
     requires stands { StateStands dag.old setting.now.expanded.now.prog state.old }
     requires a { Stands dag.old a.now }
     requires b { Stands dag.old b.now }
+    ensures keeps { Keeps dag.old dag.new }
     ensures evaluates { IfOk result (λ r. EvaluatesOn setting.now dag.old dag.new state.old state.new (AreTwo state.old.heap a.now b.now) r (λ e vs. operator_of width span op vs.0 vs.1)) }
 {
     width_is(dag, width)?;
@@ -58,6 +60,7 @@ pub fn operate_one(
 ) -> Result<Shape, AllocError>
     requires stands { StateStands dag.old setting.now.expanded.now.prog state.old }
     requires a { Stands dag.old a.now }
+    ensures keeps { Keeps dag.old dag.new }
     ensures evaluates { IfOk result (λ r. EvaluatesOn setting.now dag.old dag.new state.old state.new (λ g e. IsWorth g e state.old.heap a.now) r (λ e. unary_operator width span op)) }
 {
     width_is(dag, width)?;
@@ -76,6 +79,7 @@ pub fn convert(
 ) -> Result<Shape, AllocError>
     requires stands { StateStands dag.old setting.now.expanded.now.prog state.old }
     requires a { Stands dag.old a.now }
+    ensures keeps { Keeps dag.old dag.new }
     ensures evaluates { IfOk result (λ r. EvaluatesOn setting.now dag.old dag.new state.old state.new (λ g e. IsWorth g e state.old.heap a.now) r (λ e. to_int_of span)) }
 {
     let made = to_int(dag, a)?;

@@ -5,5 +5,5 @@ use Rattle.sk_sym_leaves.proofs.operators.convert.Goals as goal
 pub fail_where-requires-clause-stands : goal.fail_where-requires-clause-stands
 fail_where-requires-clause-stands c = StateStands-keeps c.in_ok-made.ensures.keeps c.requires.stands
 
-pub returns : goal.returns
-returns c = record { evaluates = converts c.requires.stands c.in_ok-made.ensures.keeps c.in_ok-fail_where.ensures.fails c.args.span c.in_ok-made.ensures.operated }
+pub returns-clause-evaluates : goal.returns-clause-evaluates
+returns-clause-evaluates c = converts c.requires.stands c.in_ok-made.ensures.keeps c.in_ok-fail_where.ensures.fails c.args.span c.in_ok-made.ensures.operated
