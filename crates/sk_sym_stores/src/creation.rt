@@ -1,6 +1,7 @@
 //! Records that are made with given fields.
 
 ghost use Rattle.std.specs.Prelude.{◌≡◌, [], IfOk, OnOk, MatchOption, ⊤};
+ghost use Rattle.sk_dag.specs.Eval.{Keeps};
 ghost use Rattle.sk_arr.specs.Shapes.{Stands};
 ghost use Rattle.sk_model.specs.Heap.{allocate as allocates};
 ghost use Rattle.sk_sym_state.specs.Stands.{StateStands};
@@ -58,6 +59,7 @@ fn set_fields(
     requires stands { StateStands dag.old setting.now.expanded.now.prog state.old }
     requires reference { Stands dag.old reference.now }
     requires inits { InitsStand dag.old inits.now }
+    ensures keeps { Keeps dag.old dag.new }
     ensures sets { OnOk result (DoesOn setting.now dag.old dag.new state.old state.new (AreSet state.old.heap reference.now inits.now) (λ g e (u : Unit {0}). ⊤) (λ e p. set_all span p.0 p.1)) }
 {
     let Some(first) = first_init(inits) else {
@@ -93,6 +95,7 @@ pub fn make(
 ) -> Result<Shape, AllocError>
     requires stands { StateStands dag.old setting.now.expanded.now.prog state.old }
     requires inits { InitsStand dag.old inits.now }
+    ensures keeps { Keeps dag.old dag.new }
     ensures evaluates { IfOk result (λ r. EvaluatesOn setting.now dag.old dag.new state.old state.new (λ g e. InitsAre g e state.old.heap inits.now) r (λ e. allocates setting.now.expanded.now.prog s)) }
 {
     let reference = allocate(setting, dag, state, s)?;

@@ -7,6 +7,7 @@ ghost use Rattle.sk_model.specs.Heap.{store as stored};
 ghost use Rattle.sk_sym_state.specs.Stands.{StateStands};
 ghost use Rattle.sk_sym_state.specs.Meaning.{ExecutesOn};
 ghost use Rattle.sk_dag.specs.declared.shape.Shape.TheVariants.{Reference};
+ghost use Rattle.sk_dag.specs.Eval.{Keeps};
 ghost use Rattle.sk_heap.specs.Heaps.{RefersTo};
 ghost use Rattle.sk_sym_stores.specs.declared.location.Root.TheVariants.{Variable, Field};
 ghost use Rattle.sk_sym_stores.specs.Kinds.{MayHold, FitsField};
@@ -37,6 +38,7 @@ fn store_variable(
     requires stands { StateStands dag.old setting.now.expanded.now.prog state.old }
     requires indexes { AreWords dag.old indexes.now }
     requires value { Stands dag.old value.now }
+    ensures keeps { Keeps dag.old dag.new }
     ensures stores { OnOk result (Stores setting.now dag.old dag.new state.old state.new span (record { root = Variable slot; indexes = indexes.now }) value.now) }
 {
     let whole = state.read(setting.alloc, slot)?;
@@ -63,6 +65,7 @@ fn store_target(
     requires may { MayHold setting.now.expanded.now.prog state.old.structs kind field value.now }
     requires indexes { AreWords dag.old indexes.now }
     requires value { Stands dag.old value.now }
+    ensures keeps { Keeps dag.old dag.new }
     ensures stores { OnOk result (Stores setting.now dag.old dag.new state.old state.new span (record { root = Field (Reference target.now) kind field; indexes = indexes.now }) value.now) }
 {
     let prog = &setting.expanded.prog;
@@ -94,6 +97,7 @@ fn write_target(
     requires target { RefersTo dag.old state.old.heap kind target.now }
     requires fits { FitsField setting.now.expanded.now.prog state.old.structs kind field value.now }
     requires value { Stands dag.old value.now }
+    ensures keeps { Keeps dag.old dag.new }
     ensures stores { OnOk result (Stores setting.now dag.old dag.new state.old state.new span (record { root = Field (Reference target.now) kind field; indexes = [] }) value.now) }
 {
     let path = state.path;
@@ -118,6 +122,7 @@ pub(crate) fn write_field(
     requires stands { StateStands dag.old setting.now.expanded.now.prog state.old }
     requires reference { Stands dag.old reference.now }
     requires value { Stands dag.old value.now }
+    ensures keeps { Keeps dag.old dag.new }
     ensures stores { OnOk result (Stores setting.now dag.old dag.new state.old state.new span (record { root = Field reference.now kind field; indexes = [] }) value.now) }
 {
     let prog = &setting.expanded.prog;
@@ -148,6 +153,7 @@ fn store_field(
     requires reference { Stands dag.old reference.now }
     requires indexes { AreWords dag.old indexes.now }
     requires value { Stands dag.old value.now }
+    ensures keeps { Keeps dag.old dag.new }
     ensures stores { OnOk result (Stores setting.now dag.old dag.new state.old state.new span (record { root = Field reference.now kind field; indexes = indexes.now }) value.now) }
 {
     if indexes.is_empty() {
@@ -184,6 +190,7 @@ pub fn store(
     requires stands { StateStands dag.old setting.now.expanded.now.prog state.old }
     requires location { LocationStands dag.old location.now }
     requires value { Stands dag.old value.now }
+    ensures keeps { Keeps dag.old dag.new }
     ensures stores { OnOk result (Stores setting.now dag.old dag.new state.old state.new span location.now value.now) }
 {
     let indexes = location.indexes.as_slice();
@@ -211,6 +218,7 @@ pub fn assign(
     requires stands { StateStands dag.old setting.now.expanded.now.prog state.old }
     requires location { LocationStands dag.old location.now }
     requires value { Stands dag.old value.now }
+    ensures keeps { Keeps dag.old dag.new }
     ensures executes { OnOk result (ExecutesOn setting.now dag.old dag.new state.old state.new (IsStored state.old.heap location.now value.now) (λ e p. onward (stored span p.0 p.1))) }
 {
     store(setting, dag, state, span, location, value)?;

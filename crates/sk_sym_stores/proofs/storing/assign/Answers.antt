@@ -1,5 +1,5 @@
 use Rattle.sk_sym_stores.proofs.Variables.{on_onward}
 use Rattle.sk_sym_stores.proofs.storing.assign.Goals as goal
 
-pub returns : goal.returns
-returns c = record { executes = on_onward c.in_ok-store.ensures.stores.does }
+pub returns-clause-executes : goal.returns-clause-executes
+returns-clause-executes c = on_onward c.in_ok-store.ensures.stores.does

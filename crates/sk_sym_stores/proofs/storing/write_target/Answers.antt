@@ -1,3 +1,4 @@
+use Rattle.sk_dag.proofs.EvalLemmas.{Keeps-trans}
 use Rattle.sk_sym_stores.proofs.Fields.{fits_may, written_moves, whole_stores}
 use Rattle.sk_sym_stores.proofs.storing.write_target.Goals as goal
 
@@ -14,8 +15,14 @@ fail_where-requires-clause-stands c =
     let may = fits_may c.requires.stands c.requires.target c.requires.fits c.requires.value in
     (written_moves {x = c.args.setting.now} c.requires.stands write.keeps may write.null write.written (write.stands c.args.setting.now.expanded.now.prog c.args.kind may)).stands
 
-pub returns : goal.returns
-returns c =
+pub returns-clause-stores : goal.returns-clause-stores
+returns-clause-stores c =
     let write = c.in_ok-null.ensures in
     let may = fits_may c.requires.stands c.requires.target c.requires.fits c.requires.value in
-    record { stores = whole_stores c.args.span c.requires.stands write.keeps may write.null write.written (write.stands c.args.setting.now.expanded.now.prog c.args.kind may) c.in_ok-fail_where.ensures.fails }
+    whole_stores c.args.span c.requires.stands write.keeps may write.null write.written (write.stands c.args.setting.now.expanded.now.prog c.args.kind may) c.in_ok-fail_where.ensures.fails
+
+pub returns-in_err-fail_where-clause-keeps : goal.returns-in_err-fail_where-clause-keeps
+returns-in_err-fail_where-clause-keeps c = Keeps-trans c.in_ok-null.ensures.keeps c.fail_where.ensures.keeps
+
+pub returns-clause-keeps : goal.returns-clause-keeps
+returns-clause-keeps c = Keeps-trans c.in_ok-null.ensures.keeps c.in_ok-fail_where.ensures.keeps
