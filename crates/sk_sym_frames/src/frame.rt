@@ -38,6 +38,7 @@ pub fn enter(
 ) -> Result<Caller, AllocError>
     requires stands { StateStands dag.old setting.now.expanded.now.prog state.old }
     requires args { AllStand dag.old args }
+    ensures keeps { Keeps dag.old dag.new }
     ensures entered { IfOk result (λ caller. IsEntered setting.now dag.old dag.new state.old state.new args caller) }
 {
     let returned = flag(dag, false)?;
@@ -82,6 +83,7 @@ pub fn leave(
 ) -> Result<Ended, AllocError>
     requires stands { StateStands dag.old setting.now.expanded.now.prog state.old }
     requires caller { CallerStands dag.old caller }
+    ensures keeps { Keeps dag.old dag.new }
     ensures left { IfOk result (λ r. IsLeft setting.now fun.now dag.old dag.new state.old state.new caller r) }
 {
     let path = path_behind(dag, state, &caller)?;
@@ -113,6 +115,7 @@ pub fn give(
 ) -> Result<(), AllocError>
     requires stands { StateStands dag.old setting.now.expanded.now.prog state.old }
     requires value { AnyStands dag.old value }
+    ensures keeps { Keeps dag.old dag.new }
     ensures gives { OnOk result (ExecutesOn setting.now dag.old dag.new state.old state.new (λ g e v. AnyWorth g e state.old.heap value v) (λ e v. pure (Returns v))) }
 {
     let now = end_of(

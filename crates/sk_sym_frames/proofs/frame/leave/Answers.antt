@@ -12,8 +12,8 @@ given-requires-clause-slots c = rw (c.as_slice.ensures, c.replace-frame.ensures.
 pub given-requires-clause-ended : goal.given-requires-clause-ended
 given-requires-clause-ended c = rw c.replace-frame.ensures.value (AnyEnded-keeps c.in_ok-path.ensures.keeps c.args.state.now.frame.ended c.requires.stands.frame.ended)
 
-pub returns : goal.returns
-returns c =
+pub returns-clause-left : goal.returns-clause-left
+returns-clause-left c =
     let last = subst (λ l. IsGiven c.given.new.dag c.args.fun.now c.args.state.now.path l c.replace-frame.result.returned c.replace-frame.result.ended c.in_ok-r.r) c.as_slice.ensures c.in_ok-r.ensures.given in
     let given = subst (λ (f : Frame). IsGiven c.given.new.dag c.args.fun.now c.args.state.now.path f.slots f.returned f.ended c.in_ok-r.r) c.replace-frame.ensures.value last in
-    rw c.replace-frame.ensures.after record { left = left_is c.requires.stands c.requires.caller c.in_ok-path.ensures.keeps c.in_ok-path.ensures.there c.in_ok-path.ensures.path c.in_ok-r.ensures.keeps given }
+    rw c.replace-frame.ensures.after (left_is c.requires.stands c.requires.caller c.in_ok-path.ensures.keeps c.in_ok-path.ensures.there c.in_ok-path.ensures.path c.in_ok-r.ensures.keeps given)
