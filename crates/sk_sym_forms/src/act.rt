@@ -1,6 +1,7 @@
 //! Statements of one expression.
 
 ghost use Rattle.std.specs.Prelude.{◌≡◌, OnOk, Some};
+ghost use Rattle.sk_dag.specs.Eval.{Keeps};
 ghost use Rattle.sk_arr.specs.Shapes.{Stands};
 ghost use Rattle.sk_model.specs.Step.{pure};
 ghost use Rattle.sk_model.specs.Heap.{write};
@@ -40,6 +41,7 @@ fn pay_value(
 ) -> Result<(), AllocError>
     requires stands { StateStands dag.old setting.now.expanded.now.prog state.old }
     requires a { Stands dag.old a.now }
+    ensures keeps { Keeps dag.old dag.new }
     ensures executes { OnOk result (ExecutesOn setting.now dag.old dag.new state.old state.new (λ g e. IsWorth g e state.old.heap a.now) (λ e. pays span)) }
 {
     let Shape::Int(amount) = a else {
@@ -58,6 +60,7 @@ fn return_value(
 ) -> Result<(), AllocError>
     requires stands { StateStands dag.old setting.now.expanded.now.prog state.old }
     requires a { Stands dag.old a }
+    ensures keeps { Keeps dag.old dag.new }
     ensures executes { OnOk result (ExecutesOn setting.now dag.old dag.new state.old state.new (λ g e. IsWorth g e state.old.heap a) (λ e v. pure (Returns (Some v)))) }
 {
     give(setting, dag, state, Some(a))?;
@@ -75,6 +78,7 @@ fn declare_value(
 ) -> Result<(), AllocError>
     requires stands { StateStands dag.old setting.now.expanded.now.prog state.old }
     requires a { Stands dag.old a }
+    ensures keeps { Keeps dag.old dag.new }
     ensures executes { OnOk result (ExecutesOn setting.now dag.old dag.new state.old state.new (λ g e. IsWorth g e state.old.heap a) (λ e v. onward (write slot v))) }
 {
     let _graph = dag.int_bits();
@@ -98,6 +102,7 @@ pub fn perform(
 ) -> Result<(), AllocError>
     requires stands { StateStands dag.old setting.now.expanded.now.prog state.old }
     requires a { Stands dag.old a }
+    ensures keeps { Keeps dag.old dag.new }
     ensures executes { OnOk result (ExecutesOn setting.now dag.old dag.new state.old state.new (λ g e. IsWorth g e state.old.heap a) (λ e. act_does span what)) }
 {
     match what {

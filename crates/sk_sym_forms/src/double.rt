@@ -1,6 +1,7 @@
 //! Expressions of two parts.
 
 ghost use Rattle.std.specs.Prelude.{IfOk};
+ghost use Rattle.sk_dag.specs.Eval.{Keeps};
 ghost use Rattle.sk_arr.specs.Shapes.{Stands};
 ghost use Rattle.sk_sym_state.specs.Stands.{StateStands};
 ghost use Rattle.sk_sym_steps.specs.Steps.{EvaluatesOn, AreTwo};
@@ -42,6 +43,7 @@ pub fn apply_two(
     requires stands { StateStands dag.old setting.now.expanded.now.prog state.old }
     requires a { Stands dag.old a.now }
     requires b { Stands dag.old b.now }
+    ensures keeps { Keeps dag.old dag.new }
     ensures evaluates { IfOk result (λ r. EvaluatesOn setting.now dag.old dag.new state.old state.new (AreTwo state.old.heap a.now b.now) r (λ e vs. double_does width span what vs.0 vs.1)) }
 {
     match what {

@@ -1,6 +1,7 @@
 //! Statements without an expression, and failures.
 
 ghost use Rattle.std.specs.Prelude.{OnOk, None};
+ghost use Rattle.sk_dag.specs.Eval.{Keeps};
 ghost use Rattle.sk_model.specs.Step.{pure, fail};
 ghost use Rattle.sk_model.specs.Exec.{Returns, declare};
 ghost use Rattle.sk_sym_state.specs.Stands.{StateStands};
@@ -22,6 +23,7 @@ pub fn give_nothing(
     state: &mut SymState,
 ) -> Result<(), AllocError>
     requires stands { StateStands dag.old setting.now.expanded.now.prog state.old }
+    ensures keeps { Keeps dag.old dag.new }
     ensures executes { OnOk result (Executes setting.now dag.old dag.new state.old state.new (λ e. pure (Returns None))) }
 {
     give(setting, dag, state, None)?;
@@ -39,6 +41,7 @@ pub fn declare_zero(
     ty: Ty,
 ) -> Result<(), AllocError>
     requires stands { StateStands dag.old setting.now.expanded.now.prog state.old }
+    ensures keeps { Keeps dag.old dag.new }
     ensures executes { OnOk result (Executes setting.now dag.old dag.new state.old state.new (λ e. declare span slot ty None)) }
 {
     let zero = zero_of(setting.alloc, dag, ty)?;
@@ -54,6 +57,7 @@ pub fn fail_here(
     span: Span,
 ) -> Result<(), AllocError>
     requires stands { StateStands dag.old setting.now.expanded.now.prog state.old }
+    ensures keeps { Keeps dag.old dag.new }
     ensures executes { OnOk result (Executes setting.now dag.old dag.new state.old state.new (λ e. fail span)) }
 {
     let always = flag(dag, true)?;

@@ -2,6 +2,7 @@
 
 ghost use Rattle.std.specs.Prelude.{◌≡◌, OnOk, IfOk, IsTrue, slice_get};
 ghost use Rattle.std.specs.Option.{option_copied};
+ghost use Rattle.sk_dag.specs.Eval.{Keeps};
 ghost use Rattle.sk_prog.specs.declared.value.Value.TheVariants as value;
 ghost use Rattle.sk_model.specs.Step.{pure};
 ghost use Rattle.sk_model.specs.Eval.{literal as literal_of, const_value as const_value_of};
@@ -36,6 +37,7 @@ pub fn number(
     n: u32,
 ) -> Result<Shape, AllocError>
     requires stands { StateStands dag.old setting.now.expanded.now.prog state.now }
+    ensures keeps { Keeps dag.old dag.new }
     ensures evaluates { IfOk result (λ r. Evaluates setting.now dag.old dag.new state.now state.now r (λ e. pure (literal_of width ty n))) }
 {
     let _here = state.path;
@@ -52,6 +54,7 @@ pub fn truth(
     b: bool,
 ) -> Result<Shape, AllocError>
     requires stands { StateStands dag.old setting.now.expanded.now.prog state.now }
+    ensures keeps { Keeps dag.old dag.new }
     ensures evaluates { IfOk result (λ r. Evaluates setting.now dag.old dag.new state.now state.now r (λ e. pure (value.Bit b))) }
 {
     let _here = (setting.alloc, state.path);
@@ -83,6 +86,7 @@ pub fn constant(
     id: ConstId,
 ) -> Result<Shape, AllocError>
     requires stands { StateStands dag.old setting.now.expanded.now.prog state.now }
+    ensures keeps { Keeps dag.old dag.new }
     ensures evaluates { IfOk result (λ r. Evaluates setting.now dag.old dag.new state.now state.now r (λ e. pure (const_value_of (slice_get setting.now.expanded.now.prog.consts id.index)))) }
 {
     let _here = state.path;
@@ -101,6 +105,7 @@ pub fn hole_here(
     site: usize,
 ) -> Result<Shape, AllocError>
     requires stands { StateStands dag.old setting.now.expanded.now.prog state.now }
+    ensures keeps { Keeps dag.old dag.new }
     ensures evaluates { IfOk result (λ r. Evaluates setting.now dag.old dag.new state.now state.now r (λ e. pure (hole_value_of (choice_at setting.now e).values width ty site))) }
 {
     let _here = state.path;

@@ -1,6 +1,7 @@
 //! Expressions of one part.
 
 ghost use Rattle.std.specs.Prelude.{◌≡◌, IfOk};
+ghost use Rattle.sk_dag.specs.Eval.{Keeps};
 ghost use Rattle.sk_arr.specs.Shapes.{Stands};
 ghost use Rattle.sk_model.specs.Step.{pure};
 ghost use Rattle.sk_model.specs.Eval.{padded_at as padded};
@@ -40,6 +41,7 @@ fn pad(
 ) -> Result<Shape, AllocError>
     requires stands { StateStands dag.old setting.now.expanded.now.prog state.old }
     requires a { Stands dag.old a }
+    ensures keeps { Keeps dag.old dag.new }
     ensures evaluates { IfOk result (λ r. EvaluatesOn setting.now dag.old dag.new state.old state.new (λ g e. IsWorth g e state.old.heap a) r (λ e v. pure (padded ty v))) }
 {
     let _here = state.path;
@@ -63,6 +65,7 @@ pub fn apply(
 ) -> Result<Shape, AllocError>
     requires stands { StateStands dag.old setting.now.expanded.now.prog state.old }
     requires a { Stands dag.old a }
+    ensures keeps { Keeps dag.old dag.new }
     ensures evaluates { IfOk result (λ r. EvaluatesOn setting.now dag.old dag.new state.old state.new (λ g e. IsWorth g e state.old.heap a) r (λ e. single_does width span what)) }
 {
     match what {

@@ -1,5 +1,5 @@
 use Rattle.sk_sym_forms.proofs.Acts.{returns_value}
 use Rattle.sk_sym_forms.proofs.act.return_value.Goals as goal
 
-pub returns : goal.returns
-returns c = record { executes = returns_value c.in_ok-give.ensures.gives }
+pub returns-clause-executes : goal.returns-clause-executes
+returns-clause-executes c = returns_value c.in_ok-give.ensures.gives

@@ -1,5 +1,5 @@
 use Rattle.sk_sym_forms.proofs.Acts.{returns_nothing}
 use Rattle.sk_sym_forms.proofs.end.give_nothing.Goals as goal
 
-pub returns : goal.returns
-returns c = record { executes = returns_nothing c.in_ok-give.ensures.gives }
+pub returns-clause-executes : goal.returns-clause-executes
+returns-clause-executes c = returns_nothing c.in_ok-give.ensures.gives

@@ -4,5 +4,5 @@ use Rattle.sk_literals.specs.Given.{IsGiven}
 use Rattle.sk_sym_forms.proofs.Values.{given_evaluates}
 use Rattle.sk_sym_forms.proofs.leaf.number.Goals as goal
 
-pub returns : goal.returns
-returns c = record { evaluates = given_evaluates c.requires.stands c.in_ok-r.ensures.keeps (subst (λ w. IsGiven c.literal.new.dag (literal w c.args.ty c.args.n) c.in_ok-r.r) c.in_ok-has_width.ensures c.in_ok-r.ensures.given) }
+pub returns-clause-evaluates : goal.returns-clause-evaluates
+returns-clause-evaluates c = given_evaluates c.requires.stands c.in_ok-r.ensures.keeps (subst (λ w. IsGiven c.literal.new.dag (literal w c.args.ty c.args.n) c.in_ok-r.r) c.in_ok-has_width.ensures c.in_ok-r.ensures.given)
