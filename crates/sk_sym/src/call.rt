@@ -1,6 +1,7 @@
 //! The first call of a run.
 
 ghost use Rattle.std.specs.Prelude.{◌≡◌, IfOk, OnOk, Some, slice_get};
+ghost use Rattle.sk_dag.specs.Eval.{Keeps};
 ghost use Rattle.sk_arr.specs.Shapes.{AllStand};
 ghost use Rattle.sk_model.specs.Run.{in_frame};
 ghost use Rattle.sk_holes.specs.Needs.{HasItsSites};
@@ -33,6 +34,7 @@ fn body(
     requires stands { StateStands dag.old activation.now.setting.expanded.now.prog state.old }
     requires width { dag.old.bits ≡ activation.now.bounds.int_bits }
     requires sites { HasItsSites activation.now.setting.expanded.now }
+    ensures keeps { Keeps dag.old dag.new }
     ensures executes { OnOk result (Executes activation.now.setting dag.old dag.new state.old state.new (body_at activation.now f)) }
 {
     let setting = &activation.setting;
@@ -60,6 +62,7 @@ pub(crate) fn call(
     requires width { dag.old.bits ≡ activation.now.bounds.int_bits }
     requires sites { HasItsSites activation.now.setting.expanded.now }
     requires args { AllStand dag.old args }
+    ensures keeps { Keeps dag.old dag.new }
     ensures ends { IfOk result (λ r. EndsSo activation.now f dag.old dag.new state.old state.new args r) }
 {
     let setting = &activation.setting;

@@ -43,7 +43,7 @@ fn run(
     requires width { dag.old.bits ≡ first.now.bounds.int_bits }
     requires sites { HasItsSites first.now.setting.expanded.now }
     requires args { AllStand dag.old args.now }
-    ensures keeps { OnOk result (Keeps dag.old dag.new) }
+    ensures keeps { Keeps dag.old dag.new }
     ensures outcome { IfOk result (λ made. IsOutcome dag.new first.now.setting.expanded.now (option_copied first.now.setting.choice) f args.now first.now.bounds made) }
 {
     let alloc = first.setting.alloc;
@@ -73,7 +73,7 @@ pub fn execute(
     requires width { dag.old.bits ≡ bounds.now.int_bits }
     requires sites { HasItsSites expanded.now }
     requires args { AllStand dag.old args.now }
-    ensures keeps { OnOk result (Keeps dag.old dag.new) }
+    ensures keeps { Keeps dag.old dag.new }
     ensures outcome { IfOk result (λ made. IsOutcome dag.new expanded.now (option_copied choice.entry) f args.now bounds.now made) }
 {
     if bounds.inline_amnt == 0 {

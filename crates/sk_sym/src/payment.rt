@@ -43,6 +43,7 @@ fn pay_one(
 ) -> Result<(), AllocError>
     requires stands { StateStands dag.old setting.now.expanded.now.prog state.old }
     requires when { HasBool dag.old.nodes payment.now.when }
+    ensures keeps { Keeps dag.old dag.new }
     ensures pays { OnOk result (ExecutesOn setting.now dag.old dag.new state.old state.new (AreAmounts setting.now (payment.now ∷ [])) (λ e. pays dag.old.bits)) }
 {
     let amount = amount_of(setting, dag, payment)?;
@@ -59,6 +60,7 @@ fn pay_all(
 ) -> Result<(), AllocError>
     requires stands { StateStands dag.old setting.now.expanded.now.prog state.old }
     requires there { AllOwed dag.old payments.now }
+    ensures keeps { Keeps dag.old dag.new }
     ensures pays { OnOk result (ExecutesOn setting.now dag.old dag.new state.old state.new (AreAmounts setting.now payments.now) (λ e. pays dag.old.bits)) }
 {
     for payment in payments {
@@ -71,6 +73,7 @@ fn pay_all(
 fn pay_program(setting: &Setting<'_>, dag: &mut Dag, state: &mut SymState) -> Result<(), AllocError>
     requires stands { StateStands dag.old setting.now.expanded.now.prog state.old }
     requires sites { HasItsSites setting.now.expanded.now }
+    ensures keeps { Keeps dag.old dag.new }
     ensures pays { OnOk result (Executes setting.now dag.old dag.new state.old state.new (λ e. pays dag.old.bits (program_pays setting.now e))) }
 {
     let owed = payments(setting.alloc, dag, setting.expanded, setting.choice)?;
@@ -87,6 +90,7 @@ pub(crate) fn pay_first(
 ) -> Result<(), AllocError>
     requires stands { StateStands dag.old setting.now.expanded.now.prog state.old }
     requires sites { HasItsSites setting.now.expanded.now }
+    ensures keeps { Keeps dag.old dag.new }
     ensures pays { OnOk result (Executes setting.now dag.old dag.new state.old state.new (λ e. pays dag.old.bits (first_paid setting.now.fun.now.kind (program_pays setting.now e)))) }
 {
     match setting.fun.kind {

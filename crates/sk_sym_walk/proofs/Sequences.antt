@@ -9,6 +9,7 @@ use Rattle.sk_dag.specs.declared.shape.Shape.TheVariants as shape
 use Rattle.sk_dag.specs.Graph.{Graph, Grows, HasBool}
 use Rattle.sk_dag.specs.Eval.{bool_value, Keeps}
 use Rattle.sk_dag.specs.EvalShape.{shape_value}
+use Rattle.sk_dag.proofs.EvalLemmas.{Keeps-trans}
 use Rattle.sk_arr.specs.Shapes.{Stands}
 use Rattle.sk_arr.proofs.Makers.{Keeps-refl}
 use Rattle.sk_arr.proofs.Values.{value_bit}
@@ -191,3 +192,6 @@ executes_cut {x} {d0} {d1} {s0} {s1} {m} n h = record {
     by g e (Goes (Returns v) at) h = record { path = h.path; failed = h.failed; skipped = h.skipped; returned = h.returned; cost = h.cost; heap = h.heap; lives = h.lives; ended = h.ended }
     by g e (Fails span) h = record { path = h.path; failed = h.failed; skipped = h.skipped; returned = h.returned }
     by g e (Skips span) h = record { path = h.path; failed = h.failed; skipped = h.skipped; returned = h.returned }
+
+-- what steps in turn keep
+pub ruleset keeping = (Keeps-trans)

@@ -3,6 +3,7 @@
 ghost use Rattle.std.specs.Prelude.{◌≡◌, length, IfOk, OnOk, Some, false, true};
 ghost use Rattle.std.specs.Option.{option_copied};
 ghost use Rattle.sk_dag.specs.Graph.{HasBool};
+ghost use Rattle.sk_dag.specs.Eval.{Keeps};
 ghost use Rattle.sk_arr.specs.Shapes.{Stands, AllStand};
 ghost use Rattle.sk_sym_state.specs.Seen.{AreWorth};
 ghost use Rattle.sk_sym_state.specs.Stands.{StateStands, EndedStands};
@@ -65,6 +66,7 @@ impl Activation<'_> {
         e: &PExpr,
     ) -> Result<Shape, AllocError>
         requires stands { StateStands dag.old self.now.setting.expanded.now.prog state.old }
+        ensures keeps { Keeps dag.old dag.new }
         ensures evaluated { IfOk result (λ r. IsEvaluated self.now dag.old dag.new state.old state.new at.old at.new (eval_part self.now span e.now) r) }
     {
         if room == 0 {
@@ -156,6 +158,7 @@ impl Activation<'_> {
         of: &PExpr,
     ) -> Result<Shape, AllocError>
         requires stands { StateStands dag.old self.now.setting.expanded.now.prog state.old }
+        ensures keeps { Keeps dag.old dag.new }
         ensures evaluated { IfOk result (λ r. IsEvaluated self.now dag.old dag.new state.old state.new at.old at.new (single_part self.now span what of.now) r) }
     {
         let a = self.eval(room, dag, state, at, span, of)?;
@@ -174,6 +177,7 @@ impl Activation<'_> {
     /// What is done with the values of two parts.
     #[cycle(run)]
     #[inline(never)]
+    #[tactic(auto, using(crate::proofs::Sequences::keeping))]
     fn double(
         &self,
         room: u32,
@@ -186,6 +190,7 @@ impl Activation<'_> {
         right: &PExpr,
     ) -> Result<Shape, AllocError>
         requires stands { StateStands dag.old self.now.setting.expanded.now.prog state.old }
+        ensures keeps { Keeps dag.old dag.new }
         ensures evaluated { IfOk result (λ r. IsEvaluated self.now dag.old dag.new state.old state.new at.old at.new (double_part self.now span what left.now right.now) r) }
     {
         let a = self.eval(room, dag, state, at, span, left)?;
@@ -218,6 +223,7 @@ impl Activation<'_> {
         right: &PExpr,
     ) -> Result<Shape, AllocError>
         requires stands { StateStands dag.old self.now.setting.expanded.now.prog state.old }
+        ensures keeps { Keeps dag.old dag.new }
         ensures evaluated { IfOk result (λ r. IsEvaluated self.now dag.old dag.new state.old state.new at.old at.new (binary_part self.now span op left.now right.now) r) }
     {
         match op {
@@ -251,6 +257,7 @@ impl Activation<'_> {
     /// The second part of `&&`, behind a bit.
     #[cycle(run)]
     #[inline(never)]
+    #[tactic(auto, using(crate::proofs::Sequences::keeping))]
     fn also(
         &self,
         room: u32,
@@ -263,6 +270,7 @@ impl Activation<'_> {
     ) -> Result<Shape, AllocError>
         requires stands { StateStands dag.old self.now.setting.expanded.now.prog state.old }
         requires cond { HasBool dag.old.nodes cond }
+        ensures keeps { Keeps dag.old dag.new }
         ensures evaluated { IfOk result (λ r. IsEvaluatedOn self.now dag.old dag.new state.old state.new at.old at.new (IsBit cond) (either_part span (eval_part self.now span e.now) (given false)) r) }
     {
         match known_bool(dag, cond) {
@@ -282,6 +290,7 @@ impl Activation<'_> {
     /// The second part of `||`, behind a bit.
     #[cycle(run)]
     #[inline(never)]
+    #[tactic(auto, using(crate::proofs::Sequences::keeping))]
     fn otherwise(
         &self,
         room: u32,
@@ -294,6 +303,7 @@ impl Activation<'_> {
     ) -> Result<Shape, AllocError>
         requires stands { StateStands dag.old self.now.setting.expanded.now.prog state.old }
         requires cond { HasBool dag.old.nodes cond }
+        ensures keeps { Keeps dag.old dag.new }
         ensures evaluated { IfOk result (λ r. IsEvaluatedOn self.now dag.old dag.new state.old state.new at.old at.new (IsBit cond) (either_part span (given true) (eval_part self.now span e.now)) r) }
     {
         match known_bool(dag, cond) {
@@ -314,6 +324,7 @@ impl Activation<'_> {
     /// A bit, evaluated where a condition holds.
     #[cycle(run)]
     #[inline(never)]
+    #[tactic(auto, using(crate::proofs::Sequences::keeping))]
     fn guarded(
         &self,
         room: u32,
@@ -326,6 +337,7 @@ impl Activation<'_> {
     ) -> Result<BoolId, AllocError>
         requires stands { StateStands dag.old self.now.setting.expanded.now.prog state.old }
         requires cond { HasBool dag.old.nodes cond }
+        ensures keeps { Keeps dag.old dag.new }
         ensures guarded { IfOk result (λ y. IsGuarded self.now dag.old dag.new state.old state.new at.old at.new span cond (eval_part self.now span e.now) y) }
     {
         let waits = state.fork(&self.setting, dag, cond)?;
@@ -353,6 +365,7 @@ impl Activation<'_> {
         b: &PExpr,
     ) -> Result<Shape, AllocError>
         requires stands { StateStands dag.old self.now.setting.expanded.now.prog state.old }
+        ensures keeps { Keeps dag.old dag.new }
         ensures evaluated { IfOk result (λ r. IsEvaluated self.now dag.old dag.new state.old state.new at.old at.new (cond_part self.now span cond.now a.now b.now) r) }
     {
         let v = self.eval(room, dag, state, at, span, cond)?;
@@ -378,6 +391,7 @@ impl Activation<'_> {
     ) -> Result<Shape, AllocError>
         requires stands { StateStands dag.old self.now.setting.expanded.now.prog state.old }
         requires cond { HasBool dag.old.nodes cond }
+        ensures keeps { Keeps dag.old dag.new }
         ensures evaluated { IfOk result (λ r. IsEvaluatedOn self.now dag.old dag.new state.old state.new at.old at.new (IsBit cond) (pick_part self.now span a.now b.now) r) }
     {
         match known_bool(dag, cond) {
@@ -397,6 +411,7 @@ impl Activation<'_> {
     /// Both values, of which one is taken by a bit.
     #[cycle(run)]
     #[inline(never)]
+    #[tactic(auto, using(crate::proofs::Sequences::keeping))]
     fn both(
         &self,
         room: u32,
@@ -410,6 +425,7 @@ impl Activation<'_> {
     ) -> Result<Shape, AllocError>
         requires stands { StateStands dag.old self.now.setting.expanded.now.prog state.old }
         requires cond { HasBool dag.old.nodes cond }
+        ensures keeps { Keeps dag.old dag.new }
         ensures evaluated { IfOk result (λ r. IsEvaluatedOn self.now dag.old dag.new state.old state.new at.old at.new (IsBit cond) (pick_part self.now span a.now b.now) r) }
     {
         let waits = state.fork(&self.setting, dag, cond)?;
@@ -433,6 +449,7 @@ impl Activation<'_> {
         parts: &[PExpr],
     ) -> Result<List<Shape>, AllocError>
         requires stands { StateStands dag.old self.now.setting.expanded.now.prog state.old }
+        ensures keeps { Keeps dag.old dag.new }
         ensures evaluated { IfOk result (λ made. AreEvaluated self.now dag.old dag.new state.old state.new at.old at.new (list_part self.now span parts.now) made) }
     {
         let mut made = List::new(self.setting.alloc);
@@ -457,6 +474,7 @@ impl Activation<'_> {
         parts: &[PExpr],
     ) -> Result<Shape, AllocError>
         requires stands { StateStands dag.old self.now.setting.expanded.now.prog state.old }
+        ensures keeps { Keeps dag.old dag.new }
         ensures evaluated { IfOk result (λ r. IsEvaluated self.now dag.old dag.new state.old state.new at.old at.new (braces_part self.now span ty parts.now) r) }
     {
         let made = self.all(room, dag, state, at, span, parts)?;
@@ -497,6 +515,7 @@ impl Activation<'_> {
         args: &[PExpr],
     ) -> Result<Shape, AllocError>
         requires stands { StateStands dag.old self.now.setting.expanded.now.prog state.old }
+        ensures keeps { Keeps dag.old dag.new }
         ensures evaluated { IfOk result (λ r. IsEvaluated self.now dag.old dag.new state.old state.new at.old at.new (call_part self.now span f args.now) r) }
     {
         let first = *at;
@@ -509,6 +528,7 @@ impl Activation<'_> {
     /// not entered.
     #[cycle(run)]
     #[inline(never)]
+    #[tactic(auto, using(crate::proofs::Sequences::keeping))]
     fn call_with(
         &self,
         room: u32,
@@ -523,6 +543,7 @@ impl Activation<'_> {
     ) -> Result<Shape, AllocError>
         requires stands { StateStands dag.old self.now.setting.expanded.now.prog state.old }
         requires values { AllStand dag.old values }
+        ensures keeps { Keeps dag.old dag.new }
         ensures evaluates { IfOk result (λ r. EvaluatesOn self.now.setting dag.old dag.new state.old state.new (λ g e vs. AreWorth g e state.old.heap values vs) r (value_called self.now span f args.now first)) }
     {
         if is_over(dag, state) {
@@ -560,6 +581,7 @@ impl Activation<'_> {
         requires stands { StateStands dag.old self.now.setting.expanded.now.prog state.old }
         requires values { AllStand dag.old values }
         requires callee { callee self.now f ≡ Some fun.now }
+        ensures keeps { Keeps dag.old dag.new }
         ensures evaluates { IfOk result (λ r. EvaluatesOn self.now.setting dag.old dag.new state.old state.new (λ g e vs. AreWorth g e state.old.heap values vs) r (value_called self.now span f args.now first)) }
     {
         if room == 0 {
@@ -602,6 +624,7 @@ impl Activation<'_> {
     ) -> Result<Shape, AllocError>
         requires stands { StateStands dag.old self.now.setting.expanded.now.prog state.old }
         requires ended { EndedStands dag.old ended }
+        ensures keeps { Keeps dag.old dag.new }
         ensures evaluates { IfOk result (λ r. EvaluatesOn self.now.setting dag.old dag.new state.old state.new (λ g e called. EndedIs g e state.old.heap (Some ended) called.result called.refs × HasResult fun.now.result called.result) r (ends self.now span fun.now.params args.now first)) }
     {
         let params = fun.params.as_slice();
@@ -628,6 +651,7 @@ impl Activation<'_> {
     ) -> Result<(), AllocError>
         requires stands { StateStands dag.old self.now.setting.expanded.now.prog state.old }
         requires refs { AllStand dag.old refs.now }
+        ensures keeps { Keeps dag.old dag.new }
         ensures copied { OnOk result (AreCopiedBack self.now dag.old dag.new state.old state.new refs.now (copied_at self.now span params.now args.now first)) }
     {
         if room == 0 {
@@ -658,6 +682,7 @@ impl Activation<'_> {
     /// behind it.
     #[cycle(run)]
     #[inline(never)]
+    #[tactic(auto, using(crate::proofs::Sequences::keeping))]
     fn copy_arg(
         &self,
         room: u32,
@@ -673,6 +698,7 @@ impl Activation<'_> {
     ) -> Result<(), AllocError>
         requires stands { StateStands dag.old self.now.setting.expanded.now.prog state.old }
         requires refs { AllStand dag.old refs.now }
+        ensures keeps { Keeps dag.old dag.new }
         ensures copied { OnOk result (AreCopiedBack self.now dag.old dag.new state.old state.new refs.now (copied_first self.now span by_ref arg.now params.now args.now first)) }
     {
         let mut at = first;
@@ -704,6 +730,7 @@ impl Activation<'_> {
     ) -> Result<(), AllocError>
         requires stands { StateStands dag.old self.now.setting.expanded.now.prog state.old }
         requires value { Stands dag.old value.now }
+        ensures keeps { Keeps dag.old dag.new }
         ensures copied { OnOk result (IsCopiedBack self.now dag.old dag.new state.old state.new at.old at.new span arg.now value.now) }
     {
         let location = self.target(room, dag, state, at, span, arg)?;
@@ -714,6 +741,7 @@ impl Activation<'_> {
     /// Runs the body of a call that is made inside this one.
     #[cycle(run)]
     #[inline(never)]
+    #[tactic(auto, using(crate::proofs::Sequences::keeping))]
     fn within(
         &self,
         room: u32,
@@ -726,6 +754,7 @@ impl Activation<'_> {
         requires stands { StateStands dag.old self.now.setting.expanded.now.prog state.old }
         requires values { AllStand dag.old values }
         requires inside { IsInside self.now inner.now }
+        ensures keeps { Keeps dag.old dag.new }
         ensures called { IfOk result (λ r. IsCalled self.now inner.now start dag.old dag.new state.old state.new values r) }
     {
         let caller = enter(&self.setting, dag, state, values)?;
@@ -748,6 +777,7 @@ impl Activation<'_> {
         list: &[PExpr],
     ) -> Result<Shape, AllocError>
         requires stands { StateStands dag.old self.now.setting.expanded.now.prog state.old }
+        ensures keeps { Keeps dag.old dag.new }
         ensures evaluated { IfOk result (λ r. IsEvaluated self.now dag.old dag.new state.old state.new at.old at.new (pattern_part self.now span list.now) r) }
     {
         let site = *at;
@@ -772,6 +802,7 @@ impl Activation<'_> {
         list: &[PExpr],
     ) -> Result<Shape, AllocError>
         requires stands { StateStands dag.old self.now.setting.expanded.now.prog state.old }
+        ensures keeps { Keeps dag.old dag.new }
         ensures evaluated { IfOk result (λ r. IsEvaluated self.now dag.old dag.new state.old state.new at.old at.new (strings_part self.now span site k list.now) r) }
     {
         if room == 0 {
@@ -815,6 +846,7 @@ impl Activation<'_> {
     ) -> Result<Shape, AllocError>
         requires stands { StateStands dag.old self.now.setting.expanded.now.prog state.old }
         requires here { HasBool dag.old.nodes here }
+        ensures keeps { Keeps dag.old dag.new }
         ensures evaluated { IfOk result (λ r. IsEvaluatedOn self.now dag.old dag.new state.old state.new at.old at.new (IsBit here) (string_part self.now span site next first.now more.now) r) }
     {
         match known_bool(dag, here) {
@@ -834,6 +866,7 @@ impl Activation<'_> {
     /// The values of a string and of those behind it, of which one is taken by a bit.
     #[cycle(run)]
     #[inline(never)]
+    #[tactic(auto, using(crate::proofs::Sequences::keeping))]
     fn both_strings(
         &self,
         room: u32,
@@ -849,6 +882,7 @@ impl Activation<'_> {
     ) -> Result<Shape, AllocError>
         requires stands { StateStands dag.old self.now.setting.expanded.now.prog state.old }
         requires here { HasBool dag.old.nodes here }
+        ensures keeps { Keeps dag.old dag.new }
         ensures evaluated { IfOk result (λ r. IsEvaluatedOn self.now dag.old dag.new state.old state.new at.old at.new (IsBit here) (string_part self.now span site next first.now more.now) r) }
     {
         let waits = state.fork(&self.setting, dag, here)?;
@@ -872,6 +906,7 @@ impl Activation<'_> {
         e: &PExpr,
     ) -> Result<Location, AllocError>
         requires stands { StateStands dag.old self.now.setting.expanded.now.prog state.old }
+        ensures keeps { Keeps dag.old dag.new }
         ensures located { IfOk result (λ l. IsLocated self.now dag.old dag.new state.old state.new at.old at.new (target_part self.now span e.now) l) }
     {
         if room == 0 {
@@ -905,6 +940,7 @@ impl Activation<'_> {
         field: u32,
     ) -> Result<Location, AllocError>
         requires stands { StateStands dag.old self.now.setting.expanded.now.prog state.old }
+        ensures keeps { Keeps dag.old dag.new }
         ensures located { IfOk result (λ l. IsLocated self.now dag.old dag.new state.old state.new at.old at.new (field_target self.now span base.now field) l) }
     {
         let reference = self.eval(room, dag, state, at, span, base)?;
@@ -925,6 +961,7 @@ impl Activation<'_> {
         index: &PExpr,
     ) -> Result<Location, AllocError>
         requires stands { StateStands dag.old self.now.setting.expanded.now.prog state.old }
+        ensures keeps { Keeps dag.old dag.new }
         ensures located { IfOk result (λ l. IsLocated self.now dag.old dag.new state.old state.new at.old at.new (index_target self.now span base.now index.now) l) }
     {
         let mut location = self.target(room, dag, state, at, span, base)?;
@@ -947,6 +984,7 @@ impl Activation<'_> {
         value: &PExpr,
     ) -> Result<(), AllocError>
         requires stands { StateStands dag.old self.now.setting.expanded.now.prog state.old }
+        ensures keeps { Keeps dag.old dag.new }
         ensures executed { OnOk result (IsExecuted self.now dag.old dag.new state.old state.new at.old at.new (assign_part self.now span target.now value.now)) }
     {
         let mut start = *at;
@@ -972,6 +1010,7 @@ impl Activation<'_> {
         value: &PExpr,
     ) -> Result<(), AllocError>
         requires stands { StateStands dag.old self.now.setting.expanded.now.prog state.old }
+        ensures keeps { Keeps dag.old dag.new }
         ensures executed { OnOk result (IsExecuted self.now dag.old dag.new state.old state.new at.old at.new (assign_at_part self.now span start target.now value.now)) }
     {
         match &target.form {
@@ -986,6 +1025,7 @@ impl Activation<'_> {
     /// An assignment to a target that is no pattern.
     #[cycle(run)]
     #[inline(never)]
+    #[tactic(auto, using(crate::proofs::Sequences::keeping))]
     fn assign_one(
         &self,
         room: u32,
@@ -998,6 +1038,7 @@ impl Activation<'_> {
         value: &PExpr,
     ) -> Result<(), AllocError>
         requires stands { StateStands dag.old self.now.setting.expanded.now.prog state.old }
+        ensures keeps { Keeps dag.old dag.new }
         ensures executed { OnOk result (IsExecuted self.now dag.old dag.new state.old state.new at.old at.new (assign_at_part self.now span start target.now value.now)) }
     {
         let location = self.target(room, dag, state, at, span, target)?;
@@ -1022,6 +1063,7 @@ impl Activation<'_> {
         value: &PExpr,
     ) -> Result<(), AllocError>
         requires stands { StateStands dag.old self.now.setting.expanded.now.prog state.old }
+        ensures keeps { Keeps dag.old dag.new }
         ensures executed { OnOk result (IsExecuted self.now dag.old dag.new state.old state.new at.old at.new (assign_pattern_part self.now span start list.now value.now)) }
     {
         let site = *at;
@@ -1048,6 +1090,7 @@ impl Activation<'_> {
         value: &PExpr,
     ) -> Result<(), AllocError>
         requires stands { StateStands dag.old self.now.setting.expanded.now.prog state.old }
+        ensures keeps { Keeps dag.old dag.new }
         ensures executed { OnOk result (IsExecuted self.now dag.old dag.new state.old state.new at.old at.new (assign_strings_part self.now span start site k list.now value.now)) }
     {
         if room == 0 {
@@ -1095,6 +1138,7 @@ impl Activation<'_> {
     ) -> Result<(), AllocError>
         requires stands { StateStands dag.old self.now.setting.expanded.now.prog state.old }
         requires here { HasBool dag.old.nodes here }
+        ensures keeps { Keeps dag.old dag.new }
         ensures executed { OnOk result (IsExecutedOn self.now dag.old dag.new state.old state.new at.old at.new (IsBit here) (assign_string_part self.now span start site next first.now more.now value.now)) }
     {
         match known_bool(dag, here) {
@@ -1115,6 +1159,7 @@ impl Activation<'_> {
     /// Assignments to a string and to those behind it, of which one is done by a bit.
     #[cycle(run)]
     #[inline(never)]
+    #[tactic(auto, using(crate::proofs::Sequences::keeping))]
     fn assign_either(
         &self,
         room: u32,
@@ -1132,6 +1177,7 @@ impl Activation<'_> {
     ) -> Result<(), AllocError>
         requires stands { StateStands dag.old self.now.setting.expanded.now.prog state.old }
         requires here { HasBool dag.old.nodes here }
+        ensures keeps { Keeps dag.old dag.new }
         ensures executed { OnOk result (IsExecutedOn self.now dag.old dag.new state.old state.new at.old at.new (IsBit here) (assign_string_part self.now span start site next first.now more.now value.now)) }
     {
         let waits = state.fork(&self.setting, dag, here)?;
@@ -1155,6 +1201,7 @@ impl Activation<'_> {
         given: &[PField],
     ) -> Result<List<Init>, AllocError>
         requires stands { StateStands dag.old self.now.setting.expanded.now.prog state.old }
+        ensures keeps { Keeps dag.old dag.new }
         ensures set { IfOk result (λ made. AreSetTo self.now dag.old dag.new state.old state.new at.old at.new (fields_part self.now span given.now) made) }
     {
         let mut made = List::new(self.setting.alloc);
@@ -1182,6 +1229,7 @@ impl Activation<'_> {
         given: &[PField],
     ) -> Result<Shape, AllocError>
         requires stands { StateStands dag.old self.now.setting.expanded.now.prog state.old }
+        ensures keeps { Keeps dag.old dag.new }
         ensures evaluated { IfOk result (λ r. IsEvaluated self.now dag.old dag.new state.old state.new at.old at.new (new_part self.now span s given.now) r) }
     {
         let inits = self.fields(room, dag, state, at, span, given)?;
@@ -1206,6 +1254,7 @@ impl Activation<'_> {
         stmts: &[PStmt],
     ) -> Result<(), AllocError>
         requires stands { StateStands dag.old self.now.setting.expanded.now.prog state.old }
+        ensures keeps { Keeps dag.old dag.new }
         ensures executes { OnOk result (Executes self.now.setting dag.old dag.new state.old state.new (exec_all_at self.now at.old stmts.now)) }
         ensures place { OnOk result (IsBehind (all_part self.now stmts.now) at.old at.new) }
     {
@@ -1226,6 +1275,7 @@ impl Activation<'_> {
         stmt: &PStmt,
     ) -> Result<(), AllocError>
         requires stands { StateStands dag.old self.now.setting.expanded.now.prog state.old }
+        ensures keeps { Keeps dag.old dag.new }
         ensures executed { OnOk result (IsExecuted self.now dag.old dag.new state.old state.new at.old at.new (stmt_part self.now stmt.now)) }
     {
         if room == 0 {
@@ -1289,6 +1339,7 @@ impl Activation<'_> {
         e: &PExpr,
     ) -> Result<(), AllocError>
         requires stands { StateStands dag.old self.now.setting.expanded.now.prog state.old }
+        ensures keeps { Keeps dag.old dag.new }
         ensures executed { OnOk result (IsExecuted self.now dag.old dag.new state.old state.new at.old at.new (act_part self.now span what e.now)) }
     {
         let v = self.eval(room, dag, state, at, span, e)?;
@@ -1308,6 +1359,7 @@ impl Activation<'_> {
         stmts: &[PStmt],
     ) -> Result<(), AllocError>
         requires stands { StateStands dag.old self.now.setting.expanded.now.prog state.old }
+        ensures keeps { Keeps dag.old dag.new }
         ensures executed { OnOk result (IsExecuted self.now dag.old dag.new state.old state.new at.old at.new (all_part self.now stmts.now)) }
     {
         let count = state.frame.slots.len();
@@ -1331,6 +1383,7 @@ impl Activation<'_> {
         other: &Option<Boxed<PStmt>>,
     ) -> Result<(), AllocError>
         requires stands { StateStands dag.old self.now.setting.expanded.now.prog state.old }
+        ensures keeps { Keeps dag.old dag.new }
         ensures executed { OnOk result (IsExecuted self.now dag.old dag.new state.old state.new at.old at.new (branch_part self.now span cond.now a.now other.now)) }
     {
         let v = self.eval(room, dag, state, at, span, cond)?;
@@ -1356,6 +1409,7 @@ impl Activation<'_> {
     ) -> Result<(), AllocError>
         requires stands { StateStands dag.old self.now.setting.expanded.now.prog state.old }
         requires cond { HasBool dag.old.nodes cond }
+        ensures keeps { Keeps dag.old dag.new }
         ensures executed { OnOk result (IsExecutedOn self.now dag.old dag.new state.old state.new at.old at.new (IsBit cond) (ways_part self.now span a.now other.now)) }
     {
         match known_bool(dag, cond) {
@@ -1374,6 +1428,7 @@ impl Activation<'_> {
     /// Both ways of a branch by a bit.
     #[cycle(run)]
     #[inline(never)]
+    #[tactic(auto, using(crate::proofs::Sequences::keeping))]
     fn both_ways(
         &self,
         room: u32,
@@ -1387,6 +1442,7 @@ impl Activation<'_> {
     ) -> Result<(), AllocError>
         requires stands { StateStands dag.old self.now.setting.expanded.now.prog state.old }
         requires cond { HasBool dag.old.nodes cond }
+        ensures keeps { Keeps dag.old dag.new }
         ensures executed { OnOk result (IsExecutedOn self.now dag.old dag.new state.old state.new at.old at.new (IsBit cond) (ways_part self.now span a.now other.now)) }
     {
         let waits = state.fork(&self.setting, dag, cond)?;
@@ -1409,6 +1465,7 @@ impl Activation<'_> {
         other: &Option<Boxed<PStmt>>,
     ) -> Result<(), AllocError>
         requires stands { StateStands dag.old self.now.setting.expanded.now.prog state.old }
+        ensures keeps { Keeps dag.old dag.new }
         ensures executed { OnOk result (IsExecuted self.now dag.old dag.new state.old state.new at.old at.new (other_part self.now other.now)) }
     {
         match other {
@@ -1432,6 +1489,7 @@ impl Activation<'_> {
         body: &PStmt,
     ) -> Result<(), AllocError>
         requires stands { StateStands dag.old self.now.setting.expanded.now.prog state.old }
+        ensures keeps { Keeps dag.old dag.new }
         ensures executed { OnOk result (IsExecuted self.now dag.old dag.new state.old state.new at.old at.new (turns_part self.now span left cond.now body.now)) }
     {
         if is_over(dag, state) {
@@ -1464,6 +1522,7 @@ impl Activation<'_> {
         requires stands { StateStands dag.old self.now.setting.expanded.now.prog state.old }
         requires bit { HasBool dag.old.nodes bit }
         requires start { IsBehind (eval_part self.now span cond.now) start at.old }
+        ensures keeps { Keeps dag.old dag.new }
         ensures executed { OnOk result (IsExecutedOn self.now dag.old dag.new state.old state.new at.old at.new (IsBit bit) (decided_part self.now span left start cond.now body.now)) }
     {
         match known_bool(dag, bit) {
@@ -1476,6 +1535,7 @@ impl Activation<'_> {
     /// A turn of a loop by a bit, and where it does not hold the way out.
     #[cycle(run)]
     #[inline(never)]
+    #[tactic(auto, using(crate::proofs::Sequences::keeping))]
     fn may_turn(
         &self,
         room: u32,
@@ -1492,6 +1552,7 @@ impl Activation<'_> {
         requires stands { StateStands dag.old self.now.setting.expanded.now.prog state.old }
         requires bit { HasBool dag.old.nodes bit }
         requires start { IsBehind (eval_part self.now span cond.now) start at.old }
+        ensures keeps { Keeps dag.old dag.new }
         ensures executed { OnOk result (IsExecutedOn self.now dag.old dag.new state.old state.new at.old at.new (IsBit bit) (decided_part self.now span left start cond.now body.now)) }
     {
         let waits = state.fork(&self.setting, dag, bit)?;
@@ -1518,6 +1579,7 @@ impl Activation<'_> {
     ) -> Result<(), AllocError>
         requires stands { StateStands dag.old self.now.setting.expanded.now.prog state.old }
         requires start { IsBehind (eval_part self.now span cond.now) start at.old }
+        ensures keeps { Keeps dag.old dag.new }
         ensures executed { OnOk result (IsExecuted self.now dag.old dag.new state.old state.new at.old at.new (turn_part self.now span left start cond.now body.now)) }
     {
         if left == 0 {
@@ -1547,6 +1609,7 @@ impl Activation<'_> {
         copies: &[PStmt],
     ) -> Result<(), AllocError>
         requires stands { StateStands dag.old self.now.setting.expanded.now.prog state.old }
+        ensures keeps { Keeps dag.old dag.new }
         ensures executed { OnOk result (IsExecuted self.now dag.old dag.new state.old state.new at.old at.new (repeat_part self.now count.now copies.now)) }
     {
         if is_hole(count) {
@@ -1568,6 +1631,7 @@ impl Activation<'_> {
         copies: &[PStmt],
     ) -> Result<(), AllocError>
         requires stands { StateStands dag.old self.now.setting.expanded.now.prog state.old }
+        ensures keeps { Keeps dag.old dag.new }
         ensures executed { OnOk result (IsExecuted self.now dag.old dag.new state.old state.new at.old at.new (copies_part self.now copies.now)) }
     {
         let site = *at;
@@ -1589,6 +1653,7 @@ impl Activation<'_> {
         copies: &[PStmt],
     ) -> Result<(), AllocError>
         requires stands { StateStands dag.old self.now.setting.expanded.now.prog state.old }
+        ensures keeps { Keeps dag.old dag.new }
         ensures executed { OnOk result (IsExecuted self.now dag.old dag.new state.old state.new at.old at.new (some_part self.now site copies.now)) }
     {
         let mut k = 0;
@@ -1614,6 +1679,7 @@ impl Activation<'_> {
         stmt: &PStmt,
     ) -> Result<(), AllocError>
         requires stands { StateStands dag.old self.now.setting.expanded.now.prog state.old }
+        ensures keeps { Keeps dag.old dag.new }
         ensures executed { OnOk result (IsExecuted self.now dag.old dag.new state.old state.new at.old at.new (copy_part self.now site k stmt.now)) }
     {
         let here = exceeds(&self.setting, dag, site, k as u64)?;
@@ -1634,6 +1700,7 @@ impl Activation<'_> {
         stmts: &[PStmt],
     ) -> Result<(), AllocError>
         requires stands { StateStands dag.old self.now.setting.expanded.now.prog state.old }
+        ensures keeps { Keeps dag.old dag.new }
         ensures executed { OnOk result (IsExecuted self.now dag.old dag.new state.old state.new at.old at.new (reorder_part self.now stmts.now)) }
     {
         let setting = &self.setting;
@@ -1668,6 +1735,7 @@ impl Activation<'_> {
     ) -> Result<(), AllocError>
         requires stands { StateStands dag.old self.now.setting.expanded.now.prog state.old }
         requires columns { AreOrders self.now dag.old first (length stmts.now) columns.now }
+        ensures keeps { Keeps dag.old dag.new }
         ensures executed { OnOk result (IsExecuted self.now dag.old dag.new state.old state.new at.old at.new (ordered_part self.now first stmts.now)) }
     {
         let start = *at;
@@ -1691,6 +1759,7 @@ impl Activation<'_> {
     ) -> Result<(), AllocError>
         requires stands { StateStands dag.old self.now.setting.expanded.now.prog state.old }
         requires columns { AreOrders self.now dag.old first (length stmts.now) columns.now }
+        ensures keeps { Keeps dag.old dag.new }
         ensures executes { OnOk result (Executes self.now.setting dag.old dag.new state.old state.new (λ e. (ordered_part self.now first stmts.now e).at start)) }
     {
         for n in 0..stmts.len() {
@@ -1717,6 +1786,7 @@ impl Activation<'_> {
     ) -> Result<(), AllocError>
         requires stands { StateStands dag.old self.now.setting.expanded.now.prog state.old }
         requires columns { AreOrders self.now dag.old first (length stmts.now) columns.now }
+        ensures keeps { Keeps dag.old dag.new }
         ensures executed { OnOk result (IsExecuted self.now dag.old dag.new state.old state.new at.old at.new (one_turn_part self.now first (length stmts.now) n stmts.now)) }
     {
         let mut k = 0;

@@ -1,6 +1,7 @@
 //! Expressions without parts.
 
 ghost use Rattle.std.specs.Prelude.{IfOk};
+ghost use Rattle.sk_dag.specs.Eval.{Keeps};
 ghost use Rattle.sk_sym_state.specs.Stands.{StateStands};
 ghost use Rattle.sk_sym_walk.specs.Walk.{eval_part};
 ghost use Rattle.sk_sym_walk.specs.Parts.{IsEvaluated};
@@ -25,6 +26,7 @@ pub(crate) fn leaf(
     e: &PExpr,
 ) -> Result<Shape, AllocError>
     requires stands { StateStands dag.old active.now.setting.expanded.now.prog state.now }
+    ensures keeps { Keeps dag.old dag.new }
     ensures evaluated { IfOk result (λ r. IsEvaluated active.now dag.old dag.new state.now state.now at at (eval_part active.now span e.now) r) }
 {
     let setting = &active.setting;
@@ -50,6 +52,7 @@ pub(crate) fn hole(
     e: &PExpr,
 ) -> Result<Shape, AllocError>
     requires stands { StateStands dag.old active.now.setting.expanded.now.prog state.now }
+    ensures keeps { Keeps dag.old dag.new }
     ensures evaluated { IfOk result (λ r. IsEvaluated active.now dag.old dag.new state.now state.now at.old at.new (eval_part active.now span e.now) r) }
 {
     let PEForm::Hole(_) = &e.form else {

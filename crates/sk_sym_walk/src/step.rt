@@ -50,6 +50,7 @@ pub(crate) fn joined(
     requires gone { SideStands dag.old gone }
     requires a { Stands dag.old a.now }
     requires b { Stands dag.old b.now }
+    ensures keeps { Keeps dag.old dag.new }
     ensures joined { IfOk result (λ r. AreJoinedWith setting.now dag.old dag.new state.old state.new cond gone a.now b.now r) }
 {
     state.join(setting, dag, cond, gone)?;

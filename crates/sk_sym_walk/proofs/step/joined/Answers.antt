@@ -13,5 +13,11 @@ join_shapes-requires-clause-a c = Stands-keeps c.in_ok-join.ensures.joined.keeps
 pub join_shapes-requires-clause-b : goal.join_shapes-requires-clause-b
 join_shapes-requires-clause-b c = Stands-keeps c.in_ok-join.ensures.joined.keeps c.requires.b
 
-pub returns : goal.returns
-returns c = record { joined = record { joined = joined_kept c.in_ok-join.ensures.joined c.in_ok-r.ensures.keeps (Keeps-trans c.in_ok-join.ensures.joined.keeps c.in_ok-r.ensures.keeps); choice = c.in_ok-r.ensures.choice } }
+pub returns-clause-joined : goal.returns-clause-joined
+returns-clause-joined c = record { joined = joined_kept c.in_ok-join.ensures.joined c.in_ok-r.ensures.keeps (Keeps-trans c.in_ok-join.ensures.joined.keeps c.in_ok-r.ensures.keeps); choice = c.in_ok-r.ensures.choice }
+
+pub returns-in_err-r-clause-keeps : goal.returns-in_err-r-clause-keeps
+returns-in_err-r-clause-keeps c = Keeps-trans c.in_ok-join.ensures.keeps c.join_shapes.ensures.keeps
+
+pub returns-clause-keeps : goal.returns-clause-keeps
+returns-clause-keeps c = Keeps-trans c.in_ok-join.ensures.keeps c.in_ok-r.ensures.keeps

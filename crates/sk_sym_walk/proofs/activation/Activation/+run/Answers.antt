@@ -4,7 +4,7 @@ use Rattle.std.proofs.lemmas.List.{take_all}
 use Rattle.sk_dag.specs.declared.env.Env.{Env}
 use Rattle.sk_dag.specs.Graph.{Graph, Grows, BoolSort}
 use Rattle.sk_dag.specs.Eval.{bool_value}
-use Rattle.sk_dag.proofs.EvalLemmas.{Keeps-trans}
+use Rattle.sk_dag.proofs.EvalLemmas.{Keeps-trans, Keeps_four}
 use Rattle.sk_arr.proofs.Standing.{Stands-keeps, bit_there, bit_stands, array_stands}
 use Rattle.sk_sym_state.proofs.Standing.{AnyStands-keeps, StateStands-keeps, SideStands-keeps, turned_stands, gone_stands}
 use Rattle.sk_sym_walk.specs.Walk.{eval_part, exec_all_at, stmt_part, all_part}
@@ -64,35 +64,35 @@ eval-binary-requires t c = (omega arith, c.requires.stands)
 pub eval-cond-requires : goal.eval-cond-requires
 eval-cond-requires t c = (omega arith, c.requires.stands)
 
-pub eval-returns-in-Paren : goal.eval-returns-in-Paren
-eval-returns-in-Paren t c =
+pub eval-returns-in-Paren-clause-evaluated : goal.eval-returns-in-Paren-clause-evaluated
+eval-returns-in-Paren-clause-evaluated t c =
     let is = rw (← c.get.ensures) at c.in-Paren.is in
-    record { evaluated = ok_more c.eval.result (λ r. evaluated_as (same_paren c.args.self.now c.args.span c.args.e.now c.get.result.now is)) c.eval.ensures.evaluated }
+    ok_more c.eval.result (λ r. evaluated_as (same_paren c.args.self.now c.args.span c.args.e.now c.get.result.now is)) c.eval.ensures.evaluated
 
-pub eval-returns-in-Unary : goal.eval-returns-in-Unary
-eval-returns-in-Unary t c =
+pub eval-returns-in-Unary-clause-evaluated : goal.eval-returns-in-Unary-clause-evaluated
+eval-returns-in-Unary-clause-evaluated t c =
     let is = rw (← c.get-in-Unary.ensures) at c.in-Unary.is in
-    record { evaluated = ok_more c.single.result (λ r. evaluated_as (same_unary c.args.self.now c.args.span c.args.e.now c.in-Unary.op c.get-in-Unary.result.now is)) c.single.ensures.evaluated }
+    ok_more c.single.result (λ r. evaluated_as (same_unary c.args.self.now c.args.span c.args.e.now c.in-Unary.op c.get-in-Unary.result.now is)) c.single.ensures.evaluated
 
-pub eval-returns-in-ToInt : goal.eval-returns-in-ToInt
-eval-returns-in-ToInt t c =
+pub eval-returns-in-ToInt-clause-evaluated : goal.eval-returns-in-ToInt-clause-evaluated
+eval-returns-in-ToInt-clause-evaluated t c =
     let is = rw (← c.get-in-ToInt.ensures) at c.in-ToInt.is in
-    record { evaluated = ok_more c.single-in-ToInt.result (λ r. evaluated_as (same_to_int c.args.self.now c.args.span c.args.e.now c.get-in-ToInt.result.now is)) c.single-in-ToInt.ensures.evaluated }
+    ok_more c.single-in-ToInt.result (λ r. evaluated_as (same_to_int c.args.self.now c.args.span c.args.e.now c.get-in-ToInt.result.now is)) c.single-in-ToInt.ensures.evaluated
 
-pub eval-returns-in-Pad : goal.eval-returns-in-Pad
-eval-returns-in-Pad t c =
+pub eval-returns-in-Pad-clause-evaluated : goal.eval-returns-in-Pad-clause-evaluated
+eval-returns-in-Pad-clause-evaluated t c =
     let is = rw (← c.get-in-Pad.ensures) at c.in-Pad.is in
-    record { evaluated = ok_more c.single-in-Pad.result (λ r. evaluated_as (same_pad c.args.self.now c.args.span c.args.e.now c.get-in-Pad.result.now is)) c.single-in-Pad.ensures.evaluated }
+    ok_more c.single-in-Pad.result (λ r. evaluated_as (same_pad c.args.self.now c.args.span c.args.e.now c.get-in-Pad.result.now is)) c.single-in-Pad.ensures.evaluated
 
-pub eval-returns-in-Binary : goal.eval-returns-in-Binary
-eval-returns-in-Binary t c =
+pub eval-returns-in-Binary-clause-evaluated : goal.eval-returns-in-Binary-clause-evaluated
+eval-returns-in-Binary-clause-evaluated t c =
     let is = rw (← c.get-in-Binary.ensures, ← c.get-in-Binary-2.ensures) at c.in-Binary.is in
-    record { evaluated = ok_more c.binary.result (λ r. evaluated_as (same_binary c.args.self.now c.args.span c.args.e.now c.in-Binary.op c.get-in-Binary.result.now c.get-in-Binary-2.result.now is)) c.binary.ensures.evaluated }
+    ok_more c.binary.result (λ r. evaluated_as (same_binary c.args.self.now c.args.span c.args.e.now c.in-Binary.op c.get-in-Binary.result.now c.get-in-Binary-2.result.now is)) c.binary.ensures.evaluated
 
-pub eval-returns-in-Cond : goal.eval-returns-in-Cond
-eval-returns-in-Cond t c =
+pub eval-returns-in-Cond-clause-evaluated : goal.eval-returns-in-Cond-clause-evaluated
+eval-returns-in-Cond-clause-evaluated t c =
     let is = rw (← c.get-in-Cond.ensures, ← c.get-in-Cond-2.ensures, ← c.get-in-Cond-3.ensures) at c.in-Cond.is in
-    record { evaluated = ok_more c.cond.result (λ r. evaluated_as (same_cond c.args.self.now c.args.span c.args.e.now c.get-in-Cond.result.now c.get-in-Cond-2.result.now c.get-in-Cond-3.result.now is)) c.cond.ensures.evaluated }
+    ok_more c.cond.result (λ r. evaluated_as (same_cond c.args.self.now c.args.span c.args.e.now c.get-in-Cond.result.now c.get-in-Cond-2.result.now c.get-in-Cond-3.result.now is)) c.cond.ensures.evaluated
 
 pub eval-single-requires-in-Member : goal.eval-single-requires-in-Member
 eval-single-requires-in-Member t c = (omega arith, c.requires.stands)
@@ -106,25 +106,25 @@ eval-double-requires-in-Slice t c = (omega arith, c.requires.stands)
 pub eval-braces-requires : goal.eval-braces-requires
 eval-braces-requires t c = (omega arith, c.requires.stands)
 
-pub eval-returns-in-Member : goal.eval-returns-in-Member
-eval-returns-in-Member t c =
+pub eval-returns-in-Member-clause-evaluated : goal.eval-returns-in-Member-clause-evaluated
+eval-returns-in-Member-clause-evaluated t c =
     let is = rw (← c.get-in-Member.ensures) at c.in-Member.is in
-    record { evaluated = ok_more c.single-in-Member.result (λ r. evaluated_as (same_member c.args.self.now c.args.span c.args.e.now c.get-in-Member.result.now c.in-Member.s c.in-Member.field is)) c.single-in-Member.ensures.evaluated }
+    ok_more c.single-in-Member.result (λ r. evaluated_as (same_member c.args.self.now c.args.span c.args.e.now c.get-in-Member.result.now c.in-Member.s c.in-Member.field is)) c.single-in-Member.ensures.evaluated
 
-pub eval-returns-in-Index : goal.eval-returns-in-Index
-eval-returns-in-Index t c =
+pub eval-returns-in-Index-clause-evaluated : goal.eval-returns-in-Index-clause-evaluated
+eval-returns-in-Index-clause-evaluated t c =
     let is = rw (← c.get-in-Index.ensures, ← c.get-in-Index-2.ensures) at c.in-Index.is in
-    record { evaluated = ok_more c.double.result (λ r. evaluated_as (same_index c.args.self.now c.args.span c.args.e.now c.get-in-Index.result.now c.get-in-Index-2.result.now is)) c.double.ensures.evaluated }
+    ok_more c.double.result (λ r. evaluated_as (same_index c.args.self.now c.args.span c.args.e.now c.get-in-Index.result.now c.get-in-Index-2.result.now is)) c.double.ensures.evaluated
 
-pub eval-returns-in-Slice : goal.eval-returns-in-Slice
-eval-returns-in-Slice t c =
+pub eval-returns-in-Slice-clause-evaluated : goal.eval-returns-in-Slice-clause-evaluated
+eval-returns-in-Slice-clause-evaluated t c =
     let is = rw (← c.get-in-Slice.ensures, ← c.get-in-Slice-2.ensures) at c.in-Slice.is in
-    record { evaluated = ok_more c.double-in-Slice.result (λ r. evaluated_as (same_slice c.args.self.now c.args.span c.args.e.now c.get-in-Slice.result.now c.get-in-Slice-2.result.now c.in-Slice.length is)) c.double-in-Slice.ensures.evaluated }
+    ok_more c.double-in-Slice.result (λ r. evaluated_as (same_slice c.args.self.now c.args.span c.args.e.now c.get-in-Slice.result.now c.get-in-Slice-2.result.now c.in-Slice.length is)) c.double-in-Slice.ensures.evaluated
 
-pub eval-returns-in-Braces : goal.eval-returns-in-Braces
-eval-returns-in-Braces t c =
+pub eval-returns-in-Braces-clause-evaluated : goal.eval-returns-in-Braces-clause-evaluated
+eval-returns-in-Braces-clause-evaluated t c =
     let is = rw (← c.as_slice.ensures) at c.in-Braces.is in
-    record { evaluated = ok_more c.braces.result (λ r. evaluated_as (same_braces c.args.self.now c.args.span c.args.e.now c.as_slice.result.now is)) c.braces.ensures.evaluated }
+    ok_more c.braces.result (λ r. evaluated_as (same_braces c.args.self.now c.args.span c.args.e.now c.as_slice.result.now is)) c.braces.ensures.evaluated
 
 -- ---- lists
 
@@ -137,10 +137,19 @@ all-loop-part-init t c = rw c.new-made.ensures (list_none c.args.span c.requires
 pub all-loop-part-preserved : goal.all-loop-part-preserved
 all-loop-part-preserved t c = rw c.in_ok-push.ensures.ok (list_more c.args.self.now c.args.span c.args.parts.now c.loop-part.part-index c.part-item.result c.loop-part-test.true c.part-item.is c.loop-part.invariant c.in_ok-one.ensures.evaluated)
 
-pub all-returns : goal.all-returns
-all-returns t c =
+pub all-returns-in_err-one-clause-keeps : goal.all-returns-in_err-one-clause-keeps
+all-returns-in_err-one-clause-keeps t c = Keeps-trans c.loop-part.invariant.evaluate.does.moves.keeps c.eval.ensures.keeps
+
+pub all-returns-in_err-push-clause-keeps : goal.all-returns-in_err-push-clause-keeps
+all-returns-in_err-push-clause-keeps t c = Keeps-trans c.loop-part.invariant.evaluate.does.moves.keeps c.in_ok-one.ensures.keeps
+
+pub all-returns-clause-keeps : goal.all-returns-clause-keeps
+all-returns-clause-keeps t c = c.loop-part.invariant.evaluate.does.moves.keeps
+
+pub all-returns-clause-evaluated : goal.all-returns-clause-evaluated
+all-returns-clause-evaluated t c =
     let whole = take_all c.loop-part.part-index c.args.parts.now (omega arith) in
-    record { evaluated = subst (λ xs. AreEvaluated c.args.self.now c.args.dag.now c.loop-part.dag c.args.state.now c.loop-part.state c.args.at.now c.loop-part.at (list_part c.args.self.now c.args.span xs) c.loop-part.made) whole c.loop-part.invariant }
+    subst (λ xs. AreEvaluated c.args.self.now c.args.dag.now c.loop-part.dag c.args.state.now c.loop-part.state c.args.at.now c.loop-part.at (list_part c.args.self.now c.args.span xs) c.loop-part.made) whole c.loop-part.invariant
 
 pub braces-all-requires : goal.braces-all-requires
 braces-all-requires t c = (omega arith, c.requires.stands)
@@ -148,16 +157,28 @@ braces-all-requires t c = (omega arith, c.requires.stands)
 pub braces-apply-requires-clause-a : goal.braces-apply-requires-clause-a
 braces-apply-requires-clause-a t c = array_stands _ _ c.in_ok-made.ensures.evaluated.evaluate.there
 
-pub braces-returns : goal.braces-returns
-braces-returns t c = record { evaluated = braces_evaluated c.args.span c.args.ty c.args.parts.now c.in_ok-made.ensures.evaluated c.in_ok-r.ensures.evaluates }
+pub braces-returns-in_err-r-clause-keeps : goal.braces-returns-in_err-r-clause-keeps
+braces-returns-in_err-r-clause-keeps t c = Keeps-trans c.in_ok-made.ensures.keeps c.apply.ensures.keeps
+
+pub braces-returns-clause-keeps : goal.braces-returns-clause-keeps
+braces-returns-clause-keeps t c = Keeps-trans c.in_ok-made.ensures.keeps c.in_ok-r.ensures.keeps
+
+pub braces-returns-clause-evaluated : goal.braces-returns-clause-evaluated
+braces-returns-clause-evaluated t c = braces_evaluated c.args.span c.args.ty c.args.parts.now c.in_ok-made.ensures.evaluated c.in_ok-r.ensures.evaluates
 
 -- ---- parts, one after another
 
 pub single-eval-requires : goal.single-eval-requires
 single-eval-requires t c = (omega arith, c.requires.stands)
 
-pub single-returns : goal.single-returns
-single-returns t c = record { evaluated = evaluated_then c.in_ok-a.ensures.evaluated c.in_ok-r.ensures.evaluates }
+pub single-returns-in_err-r-clause-keeps : goal.single-returns-in_err-r-clause-keeps
+single-returns-in_err-r-clause-keeps t c = Keeps-trans c.in_ok-a.ensures.keeps c.apply.ensures.keeps
+
+pub single-returns-clause-keeps : goal.single-returns-clause-keeps
+single-returns-clause-keeps t c = Keeps-trans c.in_ok-a.ensures.keeps c.in_ok-r.ensures.keeps
+
+pub single-returns-clause-evaluated : goal.single-returns-clause-evaluated
+single-returns-clause-evaluated t c = evaluated_then c.in_ok-a.ensures.evaluated c.in_ok-r.ensures.evaluates
 
 pub double-eval-requires : goal.double-eval-requires
 double-eval-requires t c = (omega arith, c.requires.stands)
@@ -168,8 +189,14 @@ double-eval-requires-2 t c = (omega arith, c.in_ok-a.ensures.evaluated.evaluates
 pub double-apply_two-requires-clause-a : goal.double-apply_two-requires-clause-a
 double-apply_two-requires-clause-a t c = Stands-keeps c.in_ok-b.ensures.evaluated.evaluates.does.moves.keeps c.in_ok-a.ensures.evaluated.evaluates.there
 
-pub double-returns : goal.double-returns
-double-returns t c = record { evaluated = two_evaluated c.in_ok-a.ensures.evaluated c.in_ok-b.ensures.evaluated c.in_ok-r.ensures.evaluates }
+pub double-returns-in_err-r-clause-keeps : goal.double-returns-in_err-r-clause-keeps
+double-returns-in_err-r-clause-keeps t c = Keeps-trans c.in_ok-a.ensures.keeps (Keeps-trans c.in_ok-b.ensures.keeps c.apply_two.ensures.keeps)
+
+pub double-returns-clause-keeps : goal.double-returns-clause-keeps
+double-returns-clause-keeps t c = Keeps-trans c.in_ok-a.ensures.keeps (Keeps-trans c.in_ok-b.ensures.keeps c.in_ok-r.ensures.keeps)
+
+pub double-returns-clause-evaluated : goal.double-returns-clause-evaluated
+double-returns-clause-evaluated t c = two_evaluated c.in_ok-a.ensures.evaluated c.in_ok-b.ensures.evaluated c.in_ok-r.ensures.evaluates
 
 -- ---- operators
 
@@ -188,18 +215,24 @@ binary-also-requires t c = let v = c.in_ok-v-in-AndThen.ensures.evaluated.evalua
 pub binary-otherwise-requires : goal.binary-otherwise-requires
 binary-otherwise-requires t c = let v = c.in_ok-v-in-OrElse.ensures.evaluated.evaluates in (omega arith, (v.does.moves.stands, bit_there v.there c.in-Bit-v.is))
 
-pub binary-returns-in-Bit : goal.binary-returns-in-Bit
-binary-returns-in-Bit t c =
+pub binary-returns-in-Bit-clause-keeps : goal.binary-returns-in-Bit-clause-keeps
+binary-returns-in-Bit-clause-keeps t c = Keeps-trans c.in_ok-v-in-AndThen.ensures.keeps c.also.ensures.keeps
+
+pub binary-returns-in-Bit-clause-evaluated : goal.binary-returns-in-Bit-clause-evaluated
+binary-returns-in-Bit-clause-evaluated t c =
     let v = rw c.in-Bit.is at c.in_ok-v-in-AndThen.ensures.evaluated in
-    record { evaluated = ok_more c.also.result (λ r h. evaluated_as (same_also c.args.self.now c.args.span c.args.op c.args.left.now c.args.right.now c.in-AndThen.is) (evaluated_parts (λ g e v w. bit_worth w) v h)) c.also.ensures.evaluated }
+    ok_more c.also.result (λ r h. evaluated_as (same_also c.args.self.now c.args.span c.args.op c.args.left.now c.args.right.now c.in-AndThen.is) (evaluated_parts (λ g e v w. bit_worth w) v h)) c.also.ensures.evaluated
 
-pub binary-returns-in-Bit-v : goal.binary-returns-in-Bit-v
-binary-returns-in-Bit-v t c =
+pub binary-returns-in-Bit-v-clause-keeps : goal.binary-returns-in-Bit-v-clause-keeps
+binary-returns-in-Bit-v-clause-keeps t c = Keeps-trans c.in_ok-v-in-OrElse.ensures.keeps c.otherwise.ensures.keeps
+
+pub binary-returns-in-Bit-v-clause-evaluated : goal.binary-returns-in-Bit-v-clause-evaluated
+binary-returns-in-Bit-v-clause-evaluated t c =
     let v = rw c.in-Bit-v.is at c.in_ok-v-in-OrElse.ensures.evaluated in
-    record { evaluated = ok_more c.otherwise.result (λ r h. evaluated_as (same_otherwise c.args.self.now c.args.span c.args.op c.args.left.now c.args.right.now c.in-OrElse.is) (evaluated_parts (λ g e v w. bit_worth w) v h)) c.otherwise.ensures.evaluated }
+    ok_more c.otherwise.result (λ r h. evaluated_as (same_otherwise c.args.self.now c.args.span c.args.op c.args.left.now c.args.right.now c.in-OrElse.is) (evaluated_parts (λ g e v w. bit_worth w) v h)) c.otherwise.ensures.evaluated
 
-pub binary-returns-in_default : goal.binary-returns-in_default
-binary-returns-in_default t c = record { evaluated = ok_more c.double.result (λ r. evaluated_as (same_eager c.args.self.now c.args.span c.args.op c.args.left.now c.args.right.now c.in_default.not-AndThen c.in_default.not-OrElse)) c.double.ensures.evaluated }
+pub binary-returns-in_default-clause-evaluated : goal.binary-returns-in_default-clause-evaluated
+binary-returns-in_default-clause-evaluated t c = ok_more c.double.result (λ r. evaluated_as (same_eager c.args.self.now c.args.span c.args.op c.args.left.now c.args.right.now c.in_default.not-AndThen c.in_default.not-OrElse)) c.double.ensures.evaluated
 
 -- ---- `&&` and `||`
 
@@ -215,16 +248,19 @@ also-and-requires-clause-a t c = c.in_ok-y-in-None.ensures.guarded.does.moves.ke
 pub also-and-requires-clause-b : goal.also-and-requires-clause-b
 also-and-requires-clause-b t c = c.in_ok-y-in-None.ensures.guarded.there
 
-pub also-returns-in-Some-true : goal.also-returns-in-Some-true
-also-returns-in-Some-true t c = record { evaluated = ok_more c.eval.result (λ r h. first_evaluated c.args.span c.args.cond (eval_part c.args.self.now c.args.span c.args.e.now) (given false) (λ g more e. c.in-Some-true.ensures g (h.evaluates.does.moves.keeps.later g more) e ∙ c.in-Some-true.field-0-test) h (λ e. omega arith)) c.eval.ensures.evaluated }
+pub also-returns-in-Some-true-clause-evaluated : goal.also-returns-in-Some-true-clause-evaluated
+also-returns-in-Some-true-clause-evaluated t c = ok_more c.eval.result (λ r h. first_evaluated c.args.span c.args.cond (eval_part c.args.self.now c.args.span c.args.e.now) (given false) (λ g more e. c.in-Some-true.ensures g (h.evaluates.does.moves.keeps.later g more) e ∙ c.in-Some-true.field-0-test) h (λ e. omega arith)) c.eval.ensures.evaluated
 
-pub also-returns-in_ok-pass_expr-in-Some-false : goal.also-returns-in_ok-pass_expr-in-Some-false
-also-returns-in_ok-pass_expr-in-Some-false t c =
+pub also-returns-in_ok-pass_expr-in-Some-false-clause-evaluated : goal.also-returns-in_ok-pass_expr-in-Some-false-clause-evaluated
+also-returns-in_ok-pass_expr-in-Some-false-clause-evaluated t c =
     let known : (g : Graph) → Grows c.args.dag.now g → (e : Env) → bool_value g e c.args.cond ≡ false = λ g more e. c.in-Some-false.ensures g more e ∙ c.in-Some-false.field-0-test in
-    record { evaluated = second_evaluated c.args.span c.args.cond (eval_part c.args.self.now c.args.span c.args.e.now) (given false) known (expr_behind _ c.args.self.now c.args.span c.args.e.now c.in_ok-pass_expr-in-Some-false.ensures) (given_evaluated c.requires.stands c.requires.cond (bit_stands c.args.dag.now c.args.cond c.requires.cond) known) }
+    second_evaluated c.args.span c.args.cond (eval_part c.args.self.now c.args.span c.args.e.now) (given false) known (expr_behind _ c.args.self.now c.args.span c.args.e.now c.in_ok-pass_expr-in-Some-false.ensures) (given_evaluated c.requires.stands c.requires.cond (bit_stands c.args.dag.now c.args.cond c.requires.cond) known)
 
-pub also-returns-in_ok-r-in-None : goal.also-returns-in_ok-r-in-None
-also-returns-in_ok-r-in-None t c = record { evaluated = also_evaluated c.args.span c.in_ok-y-in-None.ensures.guarded c.in_ok-r-in-None.ensures.keeps (bit_stands c.and.new.dag _ c.in_ok-r-in-None.ensures.there) c.in_ok-r-in-None.ensures.value }
+pub also-returns-in_ok-r-in-None-clause-keeps : goal.also-returns-in_ok-r-in-None-clause-keeps
+also-returns-in_ok-r-in-None-clause-keeps t c = Keeps-trans c.in_ok-y-in-None.ensures.keeps c.in_ok-r-in-None.ensures.keeps
+
+pub also-returns-in_ok-r-in-None-clause-evaluated : goal.also-returns-in_ok-r-in-None-clause-evaluated
+also-returns-in_ok-r-in-None-clause-evaluated t c = also_evaluated c.args.span c.in_ok-y-in-None.ensures.guarded c.in_ok-r-in-None.ensures.keeps (bit_stands c.and.new.dag _ c.in_ok-r-in-None.ensures.there) c.in_ok-r-in-None.ensures.value
 
 pub otherwise-eval-requires : goal.otherwise-eval-requires
 otherwise-eval-requires t c = (omega arith, c.requires.stands)
@@ -238,18 +274,21 @@ otherwise-or-requires-clause-a t c = c.in_ok-y-in-None.ensures.guarded.does.move
 pub otherwise-or-requires-clause-b : goal.otherwise-or-requires-clause-b
 otherwise-or-requires-clause-b t c = c.in_ok-y-in-None.ensures.guarded.there
 
-pub otherwise-returns-in_ok-pass_expr-in-Some-true : goal.otherwise-returns-in_ok-pass_expr-in-Some-true
-otherwise-returns-in_ok-pass_expr-in-Some-true t c =
+pub otherwise-returns-in_ok-pass_expr-in-Some-true-clause-evaluated : goal.otherwise-returns-in_ok-pass_expr-in-Some-true-clause-evaluated
+otherwise-returns-in_ok-pass_expr-in-Some-true-clause-evaluated t c =
     let known : (g : Graph) → Grows c.args.dag.now g → (e : Env) → bool_value g e c.args.cond ≡ true = λ g more e. c.in-Some-true.ensures g more e ∙ c.in-Some-true.field-0-test in
-    record { evaluated = first_evaluated c.args.span c.args.cond (given true) (eval_part c.args.self.now c.args.span c.args.e.now) known (given_evaluated c.requires.stands c.requires.cond (bit_stands c.args.dag.now c.args.cond c.requires.cond) known) (expr_behind _ c.args.self.now c.args.span c.args.e.now c.in_ok-pass_expr-in-Some-true.ensures) }
+    first_evaluated c.args.span c.args.cond (given true) (eval_part c.args.self.now c.args.span c.args.e.now) known (given_evaluated c.requires.stands c.requires.cond (bit_stands c.args.dag.now c.args.cond c.requires.cond) known) (expr_behind _ c.args.self.now c.args.span c.args.e.now c.in_ok-pass_expr-in-Some-true.ensures)
 
-pub otherwise-returns-in-Some-false : goal.otherwise-returns-in-Some-false
-otherwise-returns-in-Some-false t c = record { evaluated = ok_more c.eval.result (λ r h. second_evaluated c.args.span c.args.cond (given true) (eval_part c.args.self.now c.args.span c.args.e.now) (λ g more e. c.in-Some-false.ensures g (h.evaluates.does.moves.keeps.later g more) e ∙ c.in-Some-false.field-0-test) (λ e. omega arith) h) c.eval.ensures.evaluated }
+pub otherwise-returns-in-Some-false-clause-evaluated : goal.otherwise-returns-in-Some-false-clause-evaluated
+otherwise-returns-in-Some-false-clause-evaluated t c = ok_more c.eval.result (λ r h. second_evaluated c.args.span c.args.cond (given true) (eval_part c.args.self.now c.args.span c.args.e.now) (λ g more e. c.in-Some-false.ensures g (h.evaluates.does.moves.keeps.later g more) e ∙ c.in-Some-false.field-0-test) (λ e. omega arith) h) c.eval.ensures.evaluated
 
-pub otherwise-returns-in_ok-r-in-None : goal.otherwise-returns-in_ok-r-in-None
-otherwise-returns-in_ok-r-in-None t c =
+pub otherwise-returns-in_ok-r-in-None-clause-keeps : goal.otherwise-returns-in_ok-r-in-None-clause-keeps
+otherwise-returns-in_ok-r-in-None-clause-keeps t c = Keeps-trans c.in_ok-other-in-None.ensures.keeps (Keeps-trans c.in_ok-y-in-None.ensures.keeps c.in_ok-r-in-None.ensures.keeps)
+
+pub otherwise-returns-in_ok-r-in-None-clause-evaluated : goal.otherwise-returns-in_ok-r-in-None-clause-evaluated
+otherwise-returns-in_ok-r-in-None-clause-evaluated t c =
     let other = c.in_ok-other-in-None.ensures in
-    record { evaluated = otherwise_evaluated c.args.span c.args.cond other.keeps c.requires.stands other.value c.in_ok-y-in-None.ensures.guarded c.in_ok-r-in-None.ensures.keeps (bit_stands c.or.new.dag _ c.in_ok-r-in-None.ensures.there) c.in_ok-r-in-None.ensures.value }
+    otherwise_evaluated c.args.span c.args.cond other.keeps c.requires.stands other.value c.in_ok-y-in-None.ensures.guarded c.in_ok-r-in-None.ensures.keeps (bit_stands c.or.new.dag _ c.in_ok-r-in-None.ensures.there) c.in_ok-r-in-None.ensures.value
 
 pub guarded-eval-requires : goal.guarded-eval-requires
 guarded-eval-requires t c = (omega arith, c.in_ok-waits.ensures.forked.stands)
@@ -267,12 +306,21 @@ guarded-join-requires-clause-gone t c =
     let a = c.in_ok-v.ensures.evaluated.evaluates.does.moves in
     gone_stands c.turn-gone.ensures (SideStands-keeps a.keeps c.in_ok-waits.ensures.forked.waits) a.stands
 
-pub guarded-returns : goal.guarded-returns
-guarded-returns t c =
+pub guarded-returns-in_err-v-clause-keeps : goal.guarded-returns-in_err-v-clause-keeps
+guarded-returns-in_err-v-clause-keeps t c = Keeps-trans c.in_ok-waits.ensures.keeps c.eval.ensures.keeps
+
+pub guarded-returns-in_err-join-clause-keeps : goal.guarded-returns-in_err-join-clause-keeps
+guarded-returns-in_err-join-clause-keeps t c = Keeps-trans c.in_ok-waits.ensures.keeps (Keeps-trans c.in_ok-v.ensures.keeps c.join.ensures.keeps)
+
+pub guarded-returns-clause-keeps : goal.guarded-returns-clause-keeps
+guarded-returns-clause-keeps t c = Keeps-trans c.in_ok-waits.ensures.keeps (Keeps-trans c.in_ok-v.ensures.keeps c.in_ok-join.ensures.keeps)
+
+pub guarded-returns-clause-guarded : goal.guarded-returns-clause-guarded
+guarded-returns-clause-guarded t c =
     let f = c.in_ok-waits.ensures.forked in
     let v = rw c.in-Bit.is at c.in_ok-v.ensures.evaluated in
     let a = v.evaluates.does.moves in
-    record { guarded = guarded_is c.args.span f v c.turn-gone.ensures (turned_stands c.turn-gone.ensures (SideStands-keeps a.keeps f.waits) a.stands) c.in_ok-join.ensures.joined (c.in_ok-join.ensures.joined.keeps.sorts _ BoolSort (bit_there v.evaluates.there refl)) }
+    guarded_is c.args.span f v c.turn-gone.ensures (turned_stands c.turn-gone.ensures (SideStands-keeps a.keeps f.waits) a.stands) c.in_ok-join.ensures.joined (c.in_ok-join.ensures.joined.keeps.sorts _ BoolSort (bit_there v.evaluates.there refl))
 
 -- ---- `?:`
 
@@ -282,10 +330,13 @@ cond-eval-requires t c = (omega arith, c.requires.stands)
 pub cond-pick-requires : goal.cond-pick-requires
 cond-pick-requires t c = let v = c.in_ok-v.ensures.evaluated.evaluates in (omega arith, (v.does.moves.stands, bit_there v.there c.in-Bit.is))
 
-pub cond-returns : goal.cond-returns
-cond-returns t c =
+pub cond-returns-clause-keeps : goal.cond-returns-clause-keeps
+cond-returns-clause-keeps t c = Keeps-trans c.in_ok-v.ensures.keeps c.pick.ensures.keeps
+
+pub cond-returns-clause-evaluated : goal.cond-returns-clause-evaluated
+cond-returns-clause-evaluated t c =
     let v = rw c.in-Bit.is at c.in_ok-v.ensures.evaluated in
-    record { evaluated = ok_more c.pick.result (λ r. evaluated_parts (λ g e v w. bit_worth w) v) c.pick.ensures.evaluated }
+    ok_more c.pick.result (λ r. evaluated_parts (λ g e v w. bit_worth w) v) c.pick.ensures.evaluated
 
 pub pick-eval-requires : goal.pick-eval-requires
 pick-eval-requires t c = (omega arith, c.requires.stands)
@@ -296,15 +347,15 @@ pick-eval-requires-in-Some-false t c = (omega arith, c.requires.stands)
 pub pick-both-requires : goal.pick-both-requires
 pick-both-requires t c = (omega arith, (c.requires.stands, c.requires.cond))
 
-pub pick-returns-in_ok-pass_expr-in-Some-true : goal.pick-returns-in_ok-pass_expr-in-Some-true
-pick-returns-in_ok-pass_expr-in-Some-true t c =
+pub pick-returns-in_ok-pass_expr-in-Some-true-clause-evaluated : goal.pick-returns-in_ok-pass_expr-in-Some-true-clause-evaluated
+pick-returns-in_ok-pass_expr-in-Some-true-clause-evaluated t c =
     let h = c.in_ok-r-in-Some-true.ensures.evaluated in
-    record { evaluated = first_evaluated c.args.span c.args.cond (eval_part c.args.self.now c.args.span c.args.a.now) (eval_part c.args.self.now c.args.span c.args.b.now) (λ g more e. c.in-Some-true.ensures g (h.evaluates.does.moves.keeps.later g more) e ∙ c.in-Some-true.field-0-test) h (expr_behind _ c.args.self.now c.args.span c.args.b.now c.in_ok-pass_expr-in-Some-true.ensures) }
+    first_evaluated c.args.span c.args.cond (eval_part c.args.self.now c.args.span c.args.a.now) (eval_part c.args.self.now c.args.span c.args.b.now) (λ g more e. c.in-Some-true.ensures g (h.evaluates.does.moves.keeps.later g more) e ∙ c.in-Some-true.field-0-test) h (expr_behind _ c.args.self.now c.args.span c.args.b.now c.in_ok-pass_expr-in-Some-true.ensures)
 
-pub pick-returns-in_ok-pass_expr-in-Some-false : goal.pick-returns-in_ok-pass_expr-in-Some-false
-pick-returns-in_ok-pass_expr-in-Some-false t c =
+pub pick-returns-in_ok-pass_expr-in-Some-false-clause-evaluated : goal.pick-returns-in_ok-pass_expr-in-Some-false-clause-evaluated
+pick-returns-in_ok-pass_expr-in-Some-false-clause-evaluated t c =
     let p = c.in_ok-pass_expr-in-Some-false.ensures in
-    record { evaluated = ok_more c.eval-in-Some-false.result (λ r h. second_evaluated c.args.span c.args.cond (eval_part c.args.self.now c.args.span c.args.a.now) (eval_part c.args.self.now c.args.span c.args.b.now) (λ g more e. c.in-Some-false.ensures g (h.evaluates.does.moves.keeps.later g more) e ∙ c.in-Some-false.field-0-test) (expr_behind _ c.args.self.now c.args.span c.args.a.now p) h) c.eval-in-Some-false.ensures.evaluated }
+    ok_more c.eval-in-Some-false.result (λ r h. second_evaluated c.args.span c.args.cond (eval_part c.args.self.now c.args.span c.args.a.now) (eval_part c.args.self.now c.args.span c.args.b.now) (λ g more e. c.in-Some-false.ensures g (h.evaluates.does.moves.keeps.later g more) e ∙ c.in-Some-false.field-0-test) (expr_behind _ c.args.self.now c.args.span c.args.a.now p) h) c.eval-in-Some-false.ensures.evaluated
 
 pub both-eval-requires : goal.both-eval-requires
 both-eval-requires t c = (omega arith, c.in_ok-waits.ensures.forked.stands)
@@ -337,18 +388,24 @@ both-joined-requires-clause-a t c = Stands-keeps c.in_ok-y.ensures.evaluated.eva
 pub both-joined-requires-clause-b : goal.both-joined-requires-clause-b
 both-joined-requires-clause-b t c = c.in_ok-y.ensures.evaluated.evaluates.there
 
-pub both-returns : goal.both-returns
-both-returns t c = record { evaluated = both_evaluated c.args.span c.in_ok-waits.ensures.forked c.in_ok-x.ensures.evaluated c.turn-gone.ensures c.in_ok-y.ensures.evaluated c.in_ok-r.ensures.joined }
+pub both-returns-in_err-r-clause-keeps : goal.both-returns-in_err-r-clause-keeps
+both-returns-in_err-r-clause-keeps t c = Keeps_four c.in_ok-waits.ensures.keeps c.in_ok-x.ensures.keeps c.in_ok-y.ensures.keeps c.joined.ensures.keeps
+
+pub both-returns-clause-keeps : goal.both-returns-clause-keeps
+both-returns-clause-keeps t c = Keeps_four c.in_ok-waits.ensures.keeps c.in_ok-x.ensures.keeps c.in_ok-y.ensures.keeps c.in_ok-r.ensures.keeps
+
+pub both-returns-clause-evaluated : goal.both-returns-clause-evaluated
+both-returns-clause-evaluated t c = both_evaluated c.args.span c.in_ok-waits.ensures.forked c.in_ok-x.ensures.evaluated c.turn-gone.ensures c.in_ok-y.ensures.evaluated c.in_ok-r.ensures.joined
 
 -- ---- calls
 
 pub eval-call-requires : goal.eval-call-requires
 eval-call-requires t c = (omega arith, c.requires.stands)
 
-pub eval-returns-in-Call : goal.eval-returns-in-Call
-eval-returns-in-Call t c =
+pub eval-returns-in-Call-clause-evaluated : goal.eval-returns-in-Call-clause-evaluated
+eval-returns-in-Call-clause-evaluated t c =
     let is = rw (← c.as_slice-in-Call.ensures) at c.in-Call.is in
-    record { evaluated = ok_more c.call.result (λ r. evaluated_as (same_calling c.args.self.now c.args.span c.args.e.now c.in-Call.f c.as_slice-in-Call.result.now is)) c.call.ensures.evaluated }
+    ok_more c.call.result (λ r. evaluated_as (same_calling c.args.self.now c.args.span c.args.e.now c.in-Call.f c.as_slice-in-Call.result.now is)) c.call.ensures.evaluated
 
 pub call-all-requires : goal.call-all-requires
 call-all-requires t c = (omega arith, c.requires.stands)
@@ -362,22 +419,35 @@ within-leave-requires-clause-stands t c = subst (λ (x : Expanded). StateStands 
 pub within-leave-requires-clause-caller : goal.within-leave-requires-clause-caller
 within-leave-requires-clause-caller t c = CallerStands-keeps c.in_ok-exec_all.ensures.executes.moves.keeps c.in_ok-caller.ensures.entered.waits
 
-pub within-returns : goal.within-returns
-within-returns t c =
+pub within-returns-in_err-exec_all-clause-keeps : goal.within-returns-in_err-exec_all-clause-keeps
+within-returns-in_err-exec_all-clause-keeps t c = Keeps-trans c.in_ok-caller.ensures.keeps c.exec_all.ensures.keeps
+
+pub within-returns-in_err-ended-clause-keeps : goal.within-returns-in_err-ended-clause-keeps
+within-returns-in_err-ended-clause-keeps t c = Keeps-trans c.in_ok-caller.ensures.keeps (Keeps-trans c.in_ok-exec_all.ensures.keeps c.leave.ensures.keeps)
+
+pub within-returns-clause-keeps : goal.within-returns-clause-keeps
+within-returns-clause-keeps t c = Keeps-trans c.in_ok-caller.ensures.keeps (Keeps-trans c.in_ok-exec_all.ensures.keeps c.in_ok-ended.ensures.keeps)
+
+pub within-returns-clause-called : goal.within-returns-clause-called
+within-returns-clause-called t c =
     let inner = c.args.inner.now in
-    record {
-      called = called_is c.requires.inside c.in_ok-caller.ensures.entered
-          (subst (λ ss. Executes inner.setting c.enter.new.dag c.exec_all.new.dag c.enter.new.state c.exec_all.new.state (exec_all_at inner c.args.start ss)) c.as_slice.ensures c.in_ok-exec_all.ensures.executes)
-          c.in_ok-ended.ensures.left;
-    }
+    called_is c.requires.inside c.in_ok-caller.ensures.entered
+    (subst (λ ss. Executes inner.setting c.enter.new.dag c.exec_all.new.dag c.enter.new.state c.exec_all.new.state (exec_all_at inner c.args.start ss)) c.as_slice.ensures c.in_ok-exec_all.ensures.executes)
+    c.in_ok-ended.ensures.left
 
 -- ---- statements of one expression
 
 pub act-eval-requires : goal.act-eval-requires
 act-eval-requires t c = (omega arith, c.requires.stands)
 
-pub act-returns : goal.act-returns
-act-returns t c = record { executed = executed_then c.in_ok-v.ensures.evaluated c.in_ok-perform.ensures.executes }
+pub act-returns-in_err-perform-clause-keeps : goal.act-returns-in_err-perform-clause-keeps
+act-returns-in_err-perform-clause-keeps t c = Keeps-trans c.in_ok-v.ensures.keeps c.perform.ensures.keeps
+
+pub act-returns-clause-keeps : goal.act-returns-clause-keeps
+act-returns-clause-keeps t c = Keeps-trans c.in_ok-v.ensures.keeps c.in_ok-perform.ensures.keeps
+
+pub act-returns-clause-executed : goal.act-returns-clause-executed
+act-returns-clause-executed t c = executed_then c.in_ok-v.ensures.evaluated c.in_ok-perform.ensures.executes
 
 pub branches-eval-requires : goal.branches-eval-requires
 branches-eval-requires t c = (omega arith, c.requires.stands)
@@ -403,15 +473,13 @@ exec-act-requires-in-Some-value t c = (omega arith, c.requires.stands)
 pub block-exec_all-requires : goal.block-exec_all-requires
 block-exec_all-requires t c = (omega arith, c.requires.stands)
 
-pub block-returns : goal.block-returns
-block-returns t c =
+pub block-returns-clause-executed : goal.block-returns-clause-executed
+block-returns-clause-executed t c =
     let self = c.args.self.now in
     let h = c.in_ok-exec_all.ensures in
     record {
-      executed = record {
-        executes = subst (λ s. Executes self.setting c.args.dag.now c.exec_all.new.dag c.args.state.now s (exec_all_at self c.args.at.now c.args.stmts.now)) (sym c.forget.ensures) (executes_cut _ h.executes);
-        place = h.place;
-      };
+      executes = subst (λ s. Executes self.setting c.args.dag.now c.exec_all.new.dag c.args.state.now s (exec_all_at self c.args.at.now c.args.stmts.now)) (sym c.forget.ensures) (executes_cut _ h.executes);
+      place = h.place;
     }
 
 pub both_ways-exec-requires : goal.both_ways-exec-requires
@@ -439,19 +507,34 @@ both_ways-join-requires-clause-gone t c =
     let b = c.in_ok-other.ensures.executed.executes.moves in
     SideStands-keeps b.keeps (gone_stands c.turn-gone.ensures (SideStands-keeps a.keeps f.waits) a.stands)
 
-pub both_ways-returns : goal.both_ways-returns
-both_ways-returns t c = record { executed = both_executed c.args.span c.in_ok-waits.ensures.forked c.in_ok-exec.ensures.executed c.turn-gone.ensures c.in_ok-other.ensures.executed c.in_ok-join.ensures.joined }
+pub both_ways-returns-in_err-exec-clause-keeps : goal.both_ways-returns-in_err-exec-clause-keeps
+both_ways-returns-in_err-exec-clause-keeps t c = Keeps-trans c.in_ok-waits.ensures.keeps c.exec.ensures.keeps
+
+pub both_ways-returns-in_err-other-clause-keeps : goal.both_ways-returns-in_err-other-clause-keeps
+both_ways-returns-in_err-other-clause-keeps t c = Keeps-trans c.in_ok-waits.ensures.keeps (Keeps-trans c.in_ok-exec.ensures.keeps c.other.ensures.keeps)
+
+pub both_ways-returns-in_err-join-clause-keeps : goal.both_ways-returns-in_err-join-clause-keeps
+both_ways-returns-in_err-join-clause-keeps t c = Keeps_four c.in_ok-waits.ensures.keeps c.in_ok-exec.ensures.keeps c.in_ok-other.ensures.keeps c.join.ensures.keeps
+
+pub both_ways-returns-clause-keeps : goal.both_ways-returns-clause-keeps
+both_ways-returns-clause-keeps t c = Keeps_four c.in_ok-waits.ensures.keeps c.in_ok-exec.ensures.keeps c.in_ok-other.ensures.keeps c.in_ok-join.ensures.keeps
+
+pub both_ways-returns-clause-executed : goal.both_ways-returns-clause-executed
+both_ways-returns-clause-executed t c = both_executed c.args.span c.in_ok-waits.ensures.forked c.in_ok-exec.ensures.executed c.turn-gone.ensures c.in_ok-other.ensures.executed c.in_ok-join.ensures.joined
 
 pub branches-ways-requires : goal.branches-ways-requires
 branches-ways-requires t c = let v = c.in_ok-v.ensures.evaluated.evaluates in (omega arith, (v.does.moves.stands, bit_there v.there c.in-Bit.is))
 
-pub branches-returns : goal.branches-returns
-branches-returns t c =
-    let v = rw c.in-Bit.is at c.in_ok-v.ensures.evaluated in
-    record { executed = on_ok c.ways.result (executed_parts (λ g e v w. bit_worth w) v) c.ways.ensures.executed }
+pub branches-returns-clause-keeps : goal.branches-returns-clause-keeps
+branches-returns-clause-keeps t c = Keeps-trans c.in_ok-v.ensures.keeps c.ways.ensures.keeps
 
-pub exec-returns-then-is_over : goal.exec-returns-then-is_over
-exec-returns-then-is_over t c = record { executed = on_ok c.pass_stmt.result (λ p. executed_over c.requires.stands (c.is_over.ensures c.if-is_over.true) (stmt_behind _ c.args.self.now c.args.stmt.now p)) c.pass_stmt.ensures }
+pub branches-returns-clause-executed : goal.branches-returns-clause-executed
+branches-returns-clause-executed t c =
+    let v = rw c.in-Bit.is at c.in_ok-v.ensures.evaluated in
+    on_ok c.ways.result (executed_parts (λ g e v w. bit_worth w) v) c.ways.ensures.executed
+
+pub exec-returns-then-is_over-clause-executed : goal.exec-returns-then-is_over-clause-executed
+exec-returns-then-is_over-clause-executed t c = on_ok c.pass_stmt.result (λ p. executed_over c.requires.stands (c.is_over.ensures c.if-is_over.true) (stmt_behind _ c.args.self.now c.args.stmt.now p)) c.pass_stmt.ensures
 
 pub exec-block-requires : goal.exec-block-requires
 exec-block-requires t c = (omega arith, c.requires.stands)
@@ -459,47 +542,47 @@ exec-block-requires t c = (omega arith, c.requires.stands)
 pub exec-branches-requires : goal.exec-branches-requires
 exec-branches-requires t c = (omega arith, c.requires.stands)
 
-pub exec-returns-in-Block : goal.exec-returns-in-Block
-exec-returns-in-Block t c =
+pub exec-returns-in-Block-clause-executed : goal.exec-returns-in-Block-clause-executed
+exec-returns-in-Block-clause-executed t c =
     let is = rw (← c.as_slice.ensures) at c.in-Block.is in
-    record { executed = on_ok c.block.result (executed_as (same_block c.args.self.now c.args.stmt.now c.as_slice.result.now is)) c.block.ensures.executed }
+    on_ok c.block.result (executed_as (same_block c.args.self.now c.args.stmt.now c.as_slice.result.now is)) c.block.ensures.executed
 
-pub exec-returns-in-Assert : goal.exec-returns-in-Assert
-exec-returns-in-Assert t c = record { executed = on_ok c.act.result (executed_as (same_assert c.args.self.now c.args.stmt.now c.in-Assert.e c.in-Assert.is)) c.act.ensures.executed }
+pub exec-returns-in-Assert-clause-executed : goal.exec-returns-in-Assert-clause-executed
+exec-returns-in-Assert-clause-executed t c = on_ok c.act.result (executed_as (same_assert c.args.self.now c.args.stmt.now c.in-Assert.e c.in-Assert.is)) c.act.ensures.executed
 
-pub exec-returns-in-Assume : goal.exec-returns-in-Assume
-exec-returns-in-Assume t c = record { executed = on_ok c.act-in-Assume.result (executed_as (same_assume c.args.self.now c.args.stmt.now c.in-Assume.e c.in-Assume.is)) c.act-in-Assume.ensures.executed }
+pub exec-returns-in-Assume-clause-executed : goal.exec-returns-in-Assume-clause-executed
+exec-returns-in-Assume-clause-executed t c = on_ok c.act-in-Assume.result (executed_as (same_assume c.args.self.now c.args.stmt.now c.in-Assume.e c.in-Assume.is)) c.act-in-Assume.ensures.executed
 
-pub exec-returns-in-Minimize : goal.exec-returns-in-Minimize
-exec-returns-in-Minimize t c = record { executed = on_ok c.act-in-Minimize.result (executed_as (same_minimize c.args.self.now c.args.stmt.now c.in-Minimize.e c.in-Minimize.is)) c.act-in-Minimize.ensures.executed }
+pub exec-returns-in-Minimize-clause-executed : goal.exec-returns-in-Minimize-clause-executed
+exec-returns-in-Minimize-clause-executed t c = on_ok c.act-in-Minimize.result (executed_as (same_minimize c.args.self.now c.args.stmt.now c.in-Minimize.e c.in-Minimize.is)) c.act-in-Minimize.ensures.executed
 
-pub exec-returns-in-Call : goal.exec-returns-in-Call
-exec-returns-in-Call t c = record { executed = on_ok c.act-in-Call.result (executed_as (same_call c.args.self.now c.args.stmt.now c.in-Call.e c.in-Call.is)) c.act-in-Call.ensures.executed }
+pub exec-returns-in-Call-clause-executed : goal.exec-returns-in-Call-clause-executed
+exec-returns-in-Call-clause-executed t c = on_ok c.act-in-Call.result (executed_as (same_call c.args.self.now c.args.stmt.now c.in-Call.e c.in-Call.is)) c.act-in-Call.ensures.executed
 
-pub exec-returns-in-Some : goal.exec-returns-in-Some
-exec-returns-in-Some t c =
+pub exec-returns-in-Some-clause-executed : goal.exec-returns-in-Some-clause-executed
+exec-returns-in-Some-clause-executed t c =
     let is = rw c.in-Some.is at c.in-Return.is in
-    record { executed = on_ok c.act-in-Some.result (executed_as (same_return c.args.self.now c.args.stmt.now c.in-Some.e is)) c.act-in-Some.ensures.executed }
+    on_ok c.act-in-Some.result (executed_as (same_return c.args.self.now c.args.stmt.now c.in-Some.e is)) c.act-in-Some.ensures.executed
 
-pub exec-returns-in-None : goal.exec-returns-in-None
-exec-returns-in-None t c =
+pub exec-returns-in-None-clause-executed : goal.exec-returns-in-None-clause-executed
+exec-returns-in-None-clause-executed t c =
     let is = rw c.in-None.is at c.in-Return.is in
-    record { executed = on_ok c.give_nothing.result (λ h. executed_as (same_end c.args.self.now c.args.stmt.now is) (siteless_executed h)) c.give_nothing.ensures.executes }
+    on_ok c.give_nothing.result (λ h. executed_as (same_end c.args.self.now c.args.stmt.now is) (siteless_executed h)) c.give_nothing.ensures.executes
 
-pub exec-returns-in-Some-value : goal.exec-returns-in-Some-value
-exec-returns-in-Some-value t c =
+pub exec-returns-in-Some-value-clause-executed : goal.exec-returns-in-Some-value-clause-executed
+exec-returns-in-Some-value-clause-executed t c =
     let is = rw c.in-Some-value.is at c.in-Declare.is in
-    record { executed = on_ok c.act-in-Some-value.result (executed_as (same_declare c.args.self.now c.args.stmt.now c.in-Declare.slot c.in-Declare.name c.in-Declare.ty c.in-Some-value.e is)) c.act-in-Some-value.ensures.executed }
+    on_ok c.act-in-Some-value.result (executed_as (same_declare c.args.self.now c.args.stmt.now c.in-Declare.slot c.in-Declare.name c.in-Declare.ty c.in-Some-value.e is)) c.act-in-Some-value.ensures.executed
 
-pub exec-returns-in-None-value : goal.exec-returns-in-None-value
-exec-returns-in-None-value t c =
+pub exec-returns-in-None-value-clause-executed : goal.exec-returns-in-None-value-clause-executed
+exec-returns-in-None-value-clause-executed t c =
     let is = rw c.in-None-value.is at c.in-Declare.is in
-    record { executed = on_ok c.declare_zero.result (λ h. executed_as (same_zero c.args.self.now c.args.stmt.now c.in-Declare.slot c.in-Declare.name c.in-Declare.ty is) (siteless_executed h)) c.declare_zero.ensures.executes }
+    on_ok c.declare_zero.result (λ h. executed_as (same_zero c.args.self.now c.args.stmt.now c.in-Declare.slot c.in-Declare.name c.in-Declare.ty is) (siteless_executed h)) c.declare_zero.ensures.executes
 
-pub exec-returns-in-If : goal.exec-returns-in-If
-exec-returns-in-If t c =
+pub exec-returns-in-If-clause-executed : goal.exec-returns-in-If-clause-executed
+exec-returns-in-If-clause-executed t c =
     let is = rw (← c.get.ensures) at c.in-If.is in
-    record { executed = on_ok c.branches.result (executed_as (same_branch c.args.self.now c.args.stmt.now c.in-If.cond c.get.result.now c.in-If.other is)) c.branches.ensures.executed }
+    on_ok c.branches.result (executed_as (same_branch c.args.self.now c.args.stmt.now c.in-If.cond c.get.result.now c.in-If.other is)) c.branches.ensures.executed
 
 pub exec_all-exec-requires : goal.exec_all-exec-requires
 exec_all-exec-requires t c = (omega arith, c.loop-stmt.invariant.executes.moves.stands)
@@ -522,6 +605,12 @@ exec_all-loop-stmt-preserved t c =
       place = record { place = λ e. omega (arith, inv.place.place e, h.place.place e, all_count self c.args.stmts.now i stmt c.loop-stmt-test.true c.stmt-item.is e) };
     }
 
+pub exec_all-returns-in_err-exec-clause-keeps : goal.exec_all-returns-in_err-exec-clause-keeps
+exec_all-returns-in_err-exec-clause-keeps t c = Keeps-trans c.loop-stmt.invariant.executes.moves.keeps c.exec.ensures.keeps
+
+pub exec_all-returns-clause-keeps : goal.exec_all-returns-clause-keeps
+exec_all-returns-clause-keeps t c = c.loop-stmt.invariant.executes.moves.keeps
+
 pub exec_all-returns-clause-executes : goal.exec_all-returns-clause-executes
 exec_all-returns-clause-executes t c =
     let whole = take_all c.loop-stmt.stmt-index c.args.stmts.now (omega arith) in
@@ -535,13 +624,13 @@ exec_all-returns-clause-place t c =
 pub other-exec-requires : goal.other-exec-requires
 other-exec-requires t c = (omega arith, c.requires.stands)
 
-pub other-returns-in-Some : goal.other-returns-in-Some
-other-returns-in-Some t c =
+pub other-returns-in-Some-clause-executed : goal.other-returns-in-Some-clause-executed
+other-returns-in-Some-clause-executed t c =
     let is = rw (← c.get.ensures) at c.in-Some.is in
-    record { executed = on_ok c.exec.result (executed_as (same_part (λ e. ap (λ o. other_part c.args.self.now o e) is))) c.exec.ensures.executed }
+    on_ok c.exec.result (executed_as (same_part (λ e. ap (λ o. other_part c.args.self.now o e) is))) c.exec.ensures.executed
 
-pub other-returns-in-None : goal.other-returns-in-None
-other-returns-in-None t c = record { executed = executed_as (same_part (λ e. ap (λ o. other_part c.args.self.now o e) c.in-None.is)) (executed_none c.requires.stands) }
+pub other-returns-in-None-clause-executed : goal.other-returns-in-None-clause-executed
+other-returns-in-None-clause-executed t c = executed_as (same_part (λ e. ap (λ o. other_part c.args.self.now o e) c.in-None.is)) (executed_none c.requires.stands)
 
 pub ways-exec-requires : goal.ways-exec-requires
 ways-exec-requires t c = (omega arith, c.requires.stands)
@@ -552,15 +641,15 @@ ways-other-requires t c = (omega arith, c.requires.stands)
 pub ways-both_ways-requires : goal.ways-both_ways-requires
 ways-both_ways-requires t c = (omega arith, (c.requires.stands, c.requires.cond))
 
-pub ways-returns-in_ok-exec-in-Some-true : goal.ways-returns-in_ok-exec-in-Some-true
-ways-returns-in_ok-exec-in-Some-true t c =
+pub ways-returns-in_ok-exec-in-Some-true-clause-executed : goal.ways-returns-in_ok-exec-in-Some-true-clause-executed
+ways-returns-in_ok-exec-in-Some-true-clause-executed t c =
     let h = c.in_ok-exec-in-Some-true.ensures.executed in
-    record { executed = on_ok c.pass_other.result (λ p. first_executed c.args.span c.args.cond (stmt_part c.args.self.now c.args.a.now) (other_part c.args.self.now c.args.other.now) (λ g more e. c.in-Some-true.ensures g (h.executes.moves.keeps.later g more) e ∙ c.in-Some-true.field-0-test) h (other_behind _ c.args.self.now c.args.other.now p)) c.pass_other.ensures }
+    on_ok c.pass_other.result (λ p. first_executed c.args.span c.args.cond (stmt_part c.args.self.now c.args.a.now) (other_part c.args.self.now c.args.other.now) (λ g more e. c.in-Some-true.ensures g (h.executes.moves.keeps.later g more) e ∙ c.in-Some-true.field-0-test) h (other_behind _ c.args.self.now c.args.other.now p)) c.pass_other.ensures
 
-pub ways-returns-in_ok-pass_stmt-in-Some-false : goal.ways-returns-in_ok-pass_stmt-in-Some-false
-ways-returns-in_ok-pass_stmt-in-Some-false t c =
+pub ways-returns-in_ok-pass_stmt-in-Some-false-clause-executed : goal.ways-returns-in_ok-pass_stmt-in-Some-false-clause-executed
+ways-returns-in_ok-pass_stmt-in-Some-false-clause-executed t c =
     let p = c.in_ok-pass_stmt-in-Some-false.ensures in
-    record { executed = on_ok c.other.result (λ h. second_executed c.args.span c.args.cond (stmt_part c.args.self.now c.args.a.now) (other_part c.args.self.now c.args.other.now) (λ g more e. c.in-Some-false.ensures g (h.executes.moves.keeps.later g more) e ∙ c.in-Some-false.field-0-test) (stmt_behind _ c.args.self.now c.args.a.now p) h) c.other.ensures.executed }
+    on_ok c.other.result (λ h. second_executed c.args.span c.args.cond (stmt_part c.args.self.now c.args.a.now) (other_part c.args.self.now c.args.other.now) (λ g more e. c.in-Some-false.ensures g (h.executes.moves.keeps.later g more) e ∙ c.in-Some-false.field-0-test) (stmt_behind _ c.args.self.now c.args.a.now p) h) c.other.ensures.executed
 
 pub exec-turns-requires : goal.exec-turns-requires
 exec-turns-requires t c = (omega arith, c.requires.stands)
@@ -571,33 +660,36 @@ exec-repeat-requires t c = (omega arith, c.requires.stands)
 pub exec-copies-requires : goal.exec-copies-requires
 exec-copies-requires t c = (omega arith, c.requires.stands)
 
-pub exec-returns-in-While : goal.exec-returns-in-While
-exec-returns-in-While t c =
+pub exec-returns-in-While-clause-executed : goal.exec-returns-in-While-clause-executed
+exec-returns-in-While-clause-executed t c =
     let is = rw (← c.get-in-While.ensures) at c.in-While.is in
-    record { executed = on_ok c.turns.result (executed_as (same_while c.args.self.now c.args.stmt.now c.in-While.cond c.get-in-While.result.now is)) c.turns.ensures.executed }
+    on_ok c.turns.result (executed_as (same_while c.args.self.now c.args.stmt.now c.in-While.cond c.get-in-While.result.now is)) c.turns.ensures.executed
 
-pub exec-returns-in-Repeat : goal.exec-returns-in-Repeat
-exec-returns-in-Repeat t c =
+pub exec-returns-in-Repeat-clause-executed : goal.exec-returns-in-Repeat-clause-executed
+exec-returns-in-Repeat-clause-executed t c =
     let is = rw (← c.as_slice-in-Repeat.ensures) at c.in-Repeat.is in
-    record { executed = on_ok c.repeat.result (executed_as (same_repeat c.args.self.now c.args.stmt.now c.in-Repeat.count c.as_slice-in-Repeat.result.now is)) c.repeat.ensures.executed }
+    on_ok c.repeat.result (executed_as (same_repeat c.args.self.now c.args.stmt.now c.in-Repeat.count c.as_slice-in-Repeat.result.now is)) c.repeat.ensures.executed
 
-pub exec-returns-in-MinRepeat : goal.exec-returns-in-MinRepeat
-exec-returns-in-MinRepeat t c =
+pub exec-returns-in-MinRepeat-clause-executed : goal.exec-returns-in-MinRepeat-clause-executed
+exec-returns-in-MinRepeat-clause-executed t c =
     let is = rw (← c.as_slice-in-MinRepeat.ensures) at c.in-MinRepeat.is in
-    record { executed = on_ok c.copies.result (executed_as (same_minrepeat c.args.self.now c.args.stmt.now c.as_slice-in-MinRepeat.result.now is)) c.copies.ensures.executed }
+    on_ok c.copies.result (executed_as (same_minrepeat c.args.self.now c.args.stmt.now c.as_slice-in-MinRepeat.result.now is)) c.copies.ensures.executed
 
 pub turns-decided-requires : goal.turns-decided-requires
 turns-decided-requires t c =
     let v = c.in_ok-v.ensures.evaluated in
     (omega arith, (v.evaluates.does.moves.stands, (bit_there v.evaluates.there c.in-Bit.is, v.place)))
 
-pub turns-returns-then-is_over : goal.turns-returns-then-is_over
-turns-returns-then-is_over t c = record { executed = on_ok c.pass_loop.result (λ p. executed_over c.requires.stands (c.is_over.ensures c.if-is_over.true) (loop_behind c.args.self.now c.args.span c.args.left c.args.cond.now c.args.body.now _ p)) c.pass_loop.ensures }
+pub turns-returns-then-is_over-clause-executed : goal.turns-returns-then-is_over-clause-executed
+turns-returns-then-is_over-clause-executed t c = on_ok c.pass_loop.result (λ p. executed_over c.requires.stands (c.is_over.ensures c.if-is_over.true) (loop_behind c.args.self.now c.args.span c.args.left c.args.cond.now c.args.body.now _ p)) c.pass_loop.ensures
 
-pub turns-returns : goal.turns-returns
-turns-returns t c =
+pub turns-returns-clause-keeps : goal.turns-returns-clause-keeps
+turns-returns-clause-keeps t c = Keeps-trans c.in_ok-v.ensures.keeps c.decided.ensures.keeps
+
+pub turns-returns-clause-executed : goal.turns-returns-clause-executed
+turns-returns-clause-executed t c =
     let v = rw c.in-Bit.is at c.in_ok-v.ensures.evaluated in
-    record { executed = on_ok c.decided.result (turns_executed c.args.self.now c.args.span c.args.left c.args.cond.now c.args.body.now v) c.decided.ensures.executed }
+    on_ok c.decided.result (turns_executed c.args.self.now c.args.span c.args.left c.args.cond.now c.args.body.now v) c.decided.ensures.executed
 
 pub decided-turn-requires : goal.decided-turn-requires
 decided-turn-requires t c = (omega arith, (c.requires.stands, c.requires.start))
@@ -605,13 +697,13 @@ decided-turn-requires t c = (omega arith, (c.requires.stands, c.requires.start))
 pub decided-may_turn-requires : goal.decided-may_turn-requires
 decided-may_turn-requires t c = (omega arith, (c.requires.stands, (c.requires.bit, c.requires.start)))
 
-pub decided-returns-in-Some-true : goal.decided-returns-in-Some-true
-decided-returns-in-Some-true t c =
-    record { executed = on_ok c.turn.result (λ h. decided_on c.args.self.now c.args.span c.args.left c.args.cond.now c.args.body.now c.args.start c.args.bit (λ g more e. c.in-Some-true.ensures g (h.executes.moves.keeps.later g more) e ∙ c.in-Some-true.field-0-test) h) c.turn.ensures.executed }
+pub decided-returns-in-Some-true-clause-executed : goal.decided-returns-in-Some-true-clause-executed
+decided-returns-in-Some-true-clause-executed t c =
+    on_ok c.turn.result (λ h. decided_on c.args.self.now c.args.span c.args.left c.args.cond.now c.args.body.now c.args.start c.args.bit (λ g more e. c.in-Some-true.ensures g (h.executes.moves.keeps.later g more) e ∙ c.in-Some-true.field-0-test) h) c.turn.ensures.executed
 
-pub decided-returns-in-Some-false : goal.decided-returns-in-Some-false
-decided-returns-in-Some-false t c =
-    record { executed = on_ok c.pass_stmt.result (λ p. decided_off c.args.self.now c.args.span c.args.left c.args.cond.now c.args.body.now c.args.start c.args.bit c.requires.stands (λ g more e. c.in-Some-false.ensures g more e ∙ c.in-Some-false.field-0-test) (stmt_behind _ c.args.self.now c.args.body.now p)) c.pass_stmt.ensures }
+pub decided-returns-in-Some-false-clause-executed : goal.decided-returns-in-Some-false-clause-executed
+decided-returns-in-Some-false-clause-executed t c =
+    on_ok c.pass_stmt.result (λ p. decided_off c.args.self.now c.args.span c.args.left c.args.cond.now c.args.body.now c.args.start c.args.bit c.requires.stands (λ g more e. c.in-Some-false.ensures g more e ∙ c.in-Some-false.field-0-test) (stmt_behind _ c.args.self.now c.args.body.now p)) c.pass_stmt.ensures
 
 pub may_turn-turn-requires : goal.may_turn-turn-requires
 may_turn-turn-requires t c = (omega arith, (c.in_ok-waits.ensures.forked.stands, c.requires.start))
@@ -633,11 +725,20 @@ may_turn-join-requires-clause-gone t c =
     let a = c.in_ok-turn.ensures.executed.executes.moves in
     gone_stands c.turn-gone.ensures (SideStands-keeps a.keeps f.waits) a.stands
 
-pub may_turn-returns : goal.may_turn-returns
-may_turn-returns t c =
+pub may_turn-returns-in_err-turn-clause-keeps : goal.may_turn-returns-in_err-turn-clause-keeps
+may_turn-returns-in_err-turn-clause-keeps t c = Keeps-trans c.in_ok-waits.ensures.keeps c.turn.ensures.keeps
+
+pub may_turn-returns-in_err-join-clause-keeps : goal.may_turn-returns-in_err-join-clause-keeps
+may_turn-returns-in_err-join-clause-keeps t c = Keeps-trans c.in_ok-waits.ensures.keeps (Keeps-trans c.in_ok-turn.ensures.keeps c.join.ensures.keeps)
+
+pub may_turn-returns-clause-keeps : goal.may_turn-returns-clause-keeps
+may_turn-returns-clause-keeps t c = Keeps-trans c.in_ok-waits.ensures.keeps (Keeps-trans c.in_ok-turn.ensures.keeps c.in_ok-join.ensures.keeps)
+
+pub may_turn-returns-clause-executed : goal.may_turn-returns-clause-executed
+may_turn-returns-clause-executed t c =
     let f = c.in_ok-waits.ensures.forked in
     let a = c.in_ok-turn.ensures.executed in
-    record { executed = decided_both c.args.self.now c.args.span c.args.left c.args.cond.now c.args.body.now c.args.start f a c.turn-gone.ensures (turned_stands c.turn-gone.ensures (SideStands-keeps a.executes.moves.keeps f.waits) a.executes.moves.stands) c.in_ok-join.ensures.joined }
+    decided_both c.args.self.now c.args.span c.args.left c.args.cond.now c.args.body.now c.args.start f a c.turn-gone.ensures (turned_stands c.turn-gone.ensures (SideStands-keeps a.executes.moves.keeps f.waits) a.executes.moves.stands) c.in_ok-join.ensures.joined
 
 pub turn-exec-requires : goal.turn-exec-requires
 turn-exec-requires t c = (omega arith, c.requires.stands)
@@ -645,13 +746,16 @@ turn-exec-requires t c = (omega arith, c.requires.stands)
 pub turn-turns-requires : goal.turn-turns-requires
 turn-turns-requires t c = (omega arith, c.in_ok-exec.ensures.executed.executes.moves.stands)
 
-pub turn-returns-then-left-eq0 : goal.turn-returns-then-left-eq0
-turn-returns-then-left-eq0 t c =
-    record { executed = on_ok c.pass_stmt.result (λ p. turn_fails c.args.self.now c.args.span c.args.left c.args.cond.now c.args.body.now c.args.start (omega arith) c.in_ok-fail_here.ensures.executes (stmt_behind _ c.args.self.now c.args.body.now p)) c.pass_stmt.ensures }
+pub turn-returns-then-left-eq0-clause-executed : goal.turn-returns-then-left-eq0-clause-executed
+turn-returns-then-left-eq0-clause-executed t c =
+    on_ok c.pass_stmt.result (λ p. turn_fails c.args.self.now c.args.span c.args.left c.args.cond.now c.args.body.now c.args.start (omega arith) c.in_ok-fail_here.ensures.executes (stmt_behind _ c.args.self.now c.args.body.now p)) c.pass_stmt.ensures
 
-pub turn-returns : goal.turn-returns
-turn-returns t c =
-    record { executed = on_ok c.turns.result (turn_executed c.args.self.now c.args.span c.args.left c.args.cond.now c.args.body.now (c.args.left - 1) (omega arith) c.requires.start c.in_ok-exec.ensures.executed) c.turns.ensures.executed }
+pub turn-returns-clause-keeps : goal.turn-returns-clause-keeps
+turn-returns-clause-keeps t c = Keeps-trans c.in_ok-exec.ensures.keeps c.turns.ensures.keeps
+
+pub turn-returns-clause-executed : goal.turn-returns-clause-executed
+turn-returns-clause-executed t c =
+    on_ok c.turns.result (turn_executed c.args.self.now c.args.span c.args.left c.args.cond.now c.args.body.now (c.args.left - 1) (omega arith) c.requires.start c.in_ok-exec.ensures.executed) c.turns.ensures.executed
 
 pub repeat-copies-requires : goal.repeat-copies-requires
 repeat-copies-requires t c = (omega arith, c.requires.stands)
@@ -659,17 +763,17 @@ repeat-copies-requires t c = (omega arith, c.requires.stands)
 pub repeat-block-requires : goal.repeat-block-requires
 repeat-block-requires t c = (omega arith, c.requires.stands)
 
-pub repeat-returns-then-is_hole : goal.repeat-returns-then-is_hole
-repeat-returns-then-is_hole t c = record { executed = on_ok c.copies.result (executed_as (some_copies c.args.self.now c.args.count.now c.args.copies.now (sym c.is_hole.ensures ∙ c.if-is_hole.true))) c.copies.ensures.executed }
+pub repeat-returns-then-is_hole-clause-executed : goal.repeat-returns-then-is_hole-clause-executed
+repeat-returns-then-is_hole-clause-executed t c = on_ok c.copies.result (executed_as (some_copies c.args.self.now c.args.count.now c.args.copies.now (sym c.is_hole.ensures ∙ c.if-is_hole.true))) c.copies.ensures.executed
 
-pub repeat-returns : goal.repeat-returns
-repeat-returns t c = record { executed = on_ok c.block.result (executed_as (all_copies c.args.self.now c.args.count.now c.args.copies.now (sym c.is_hole.ensures ∙ c.if-is_hole.false))) c.block.ensures.executed }
+pub repeat-returns-clause-executed : goal.repeat-returns-clause-executed
+repeat-returns-clause-executed t c = on_ok c.block.result (executed_as (all_copies c.args.self.now c.args.count.now c.args.copies.now (sym c.is_hole.ensures ∙ c.if-is_hole.false))) c.block.ensures.executed
 
 pub copies-some_copies-requires : goal.copies-some_copies-requires
 copies-some_copies-requires t c = (omega arith, c.requires.stands)
 
-pub copies-returns : goal.copies-returns
-copies-returns t c = record { executed = on_ok c.some_copies.result (copies_executed c.args.copies.now c.in_ok-pass_site.ensures) c.some_copies.ensures.executed }
+pub copies-returns-clause-executed : goal.copies-returns-clause-executed
+copies-returns-clause-executed t c = on_ok c.some_copies.result (copies_executed c.args.copies.now c.in_ok-pass_site.ensures) c.some_copies.ensures.executed
 
 pub some_copies-copy-requires : goal.some_copies-copy-requires
 some_copies-copy-requires t c = (omega arith, c.loop-stmt.invariant.executes.moves.stands)
@@ -700,45 +804,61 @@ some_copies-loop-stmt-preserved t c =
       count = omega (arith, inv.count);
     }
 
-pub some_copies-returns : goal.some_copies-returns
-some_copies-returns t c =
+pub some_copies-returns-in_err-copy-clause-keeps : goal.some_copies-returns-in_err-copy-clause-keeps
+some_copies-returns-in_err-copy-clause-keeps t c = Keeps-trans c.loop-stmt.invariant.executes.moves.keeps c.copy.ensures.keeps
+
+pub some_copies-returns-clause-keeps : goal.some_copies-returns-clause-keeps
+some_copies-returns-clause-keeps t c = c.loop-stmt.invariant.executes.moves.keeps
+
+pub some_copies-returns-clause-executed : goal.some_copies-returns-clause-executed
+some_copies-returns-clause-executed t c =
     let inv = c.loop-stmt.invariant in
     let self = c.args.self.now in
     let whole = take_all c.loop-stmt.stmt-index c.args.copies.now (omega arith) in
     record {
-      executed = record {
-        executes = executes_same (λ e s. ap (λ xs. copies_at self c.args.site c.args.at.now xs e s) (sym whole)) inv.executes;
-        place = record { place = λ e. inv.place.place e ∙ ap (λ xs. c.args.at.now + (all_part self xs e).count) whole };
-      };
+      executes = executes_same (λ e s. ap (λ xs. copies_at self c.args.site c.args.at.now xs e s) (sym whole)) inv.executes;
+      place = record { place = λ e. inv.place.place e ∙ ap (λ xs. c.args.at.now + (all_part self xs e).count) whole };
     }
 
 pub copy-ways-requires : goal.copy-ways-requires
 copy-ways-requires t c = (omega arith, (StateStands-keeps c.in_ok-here.ensures.keeps c.requires.stands, c.in_ok-here.ensures.there))
 
-pub copy-returns : goal.copy-returns
-copy-returns t c = record { executed = copy_executed c.in_ok-here.here c.args.span c.args.site c.args.k c.args.stmt.now c.requires.stands c.in_ok-here.ensures.keeps c.in_ok-here.ensures.value c.in_ok-ways.ensures.executed }
+pub copy-returns-in_err-ways-clause-keeps : goal.copy-returns-in_err-ways-clause-keeps
+copy-returns-in_err-ways-clause-keeps t c = Keeps-trans c.in_ok-here.ensures.keeps c.ways.ensures.keeps
+
+pub copy-returns-clause-keeps : goal.copy-returns-clause-keeps
+copy-returns-clause-keeps t c = Keeps-trans c.in_ok-here.ensures.keeps c.in_ok-ways.ensures.keeps
+
+pub copy-returns-clause-executed : goal.copy-returns-clause-executed
+copy-returns-clause-executed t c = copy_executed c.in_ok-here.here c.args.span c.args.site c.args.k c.args.stmt.now c.requires.stands c.in_ok-here.ensures.keeps c.in_ok-here.ensures.value c.in_ok-ways.ensures.executed
 
 pub exec-reorder-requires : goal.exec-reorder-requires
 exec-reorder-requires t c = (omega arith, c.requires.stands)
 
-pub exec-returns-in-Reorder : goal.exec-returns-in-Reorder
-exec-returns-in-Reorder t c =
+pub exec-returns-in-Reorder-clause-executed : goal.exec-returns-in-Reorder-clause-executed
+exec-returns-in-Reorder-clause-executed t c =
     let is = rw (← c.as_slice-in-Reorder.ensures) at c.in-Reorder.is in
-    record { executed = on_ok c.reorder.result (executed_as (same_reorder c.args.self.now c.args.stmt.now c.as_slice-in-Reorder.result.now is)) c.reorder.ensures.executed }
+    on_ok c.reorder.result (executed_as (same_reorder c.args.self.now c.args.stmt.now c.as_slice-in-Reorder.result.now is)) c.reorder.ensures.executed
 
 pub reorder-ordered-requires : goal.reorder-ordered-requires
 reorder-ordered-requires t c =
     let made = c.in_ok-columns.ensures in
     (omega arith, (StateStands-keeps made.keeps c.requires.stands, subst (λ cs. AreOrders c.args.self.now c.orders.new.dag c.args.at.now (length c.args.stmts.now) cs) (sym c.as_slice.ensures) made.columns))
 
-pub reorder-returns : goal.reorder-returns
-reorder-returns t c = record { executed = reorder_executed c.args.stmts.now c.requires.stands c.in_ok-columns.ensures.keeps c.in_ok-pass_digits.ensures c.in_ok-ordered.ensures.executed }
+pub reorder-returns-in_err-ordered-clause-keeps : goal.reorder-returns-in_err-ordered-clause-keeps
+reorder-returns-in_err-ordered-clause-keeps t c = Keeps-trans c.in_ok-columns.ensures.keeps c.ordered.ensures.keeps
+
+pub reorder-returns-clause-keeps : goal.reorder-returns-clause-keeps
+reorder-returns-clause-keeps t c = Keeps-trans c.in_ok-columns.ensures.keeps c.in_ok-ordered.ensures.keeps
+
+pub reorder-returns-clause-executed : goal.reorder-returns-clause-executed
+reorder-returns-clause-executed t c = reorder_executed c.args.stmts.now c.requires.stands c.in_ok-columns.ensures.keeps c.in_ok-pass_digits.ensures c.in_ok-ordered.ensures.executed
 
 pub ordered-all_turns-requires : goal.ordered-all_turns-requires
 ordered-all_turns-requires t c = (omega arith, (c.requires.stands, c.requires.columns))
 
-pub ordered-returns : goal.ordered-returns
-ordered-returns t c = record { executed = on_ok c.pass_stmts.result (λ p. record { executes = c.in_ok-all_turns.ensures.executes; place = record { place = all_behind _ c.args.self.now c.args.stmts.now p } }) c.pass_stmts.ensures }
+pub ordered-returns-clause-executed : goal.ordered-returns-clause-executed
+ordered-returns-clause-executed t c = on_ok c.pass_stmts.result (λ p. record { executes = c.in_ok-all_turns.ensures.executes; place = record { place = all_behind _ c.args.self.now c.args.stmts.now p } }) c.pass_stmts.ensures
 
 pub all_turns-one_turn-requires : goal.all_turns-one_turn-requires
 all_turns-one_turn-requires t c =
@@ -756,10 +876,16 @@ all_turns-loop-n-preserved t c =
       within = omega arith;
     }
 
-pub all_turns-returns : goal.all_turns-returns
-all_turns-returns t c =
+pub all_turns-returns-in_err-one_turn-clause-keeps : goal.all_turns-returns-in_err-one_turn-clause-keeps
+all_turns-returns-in_err-one_turn-clause-keeps t c = Keeps-trans c.loop-n.invariant.executes.moves.keeps c.one_turn.ensures.keeps
+
+pub all_turns-returns-clause-keeps : goal.all_turns-returns-clause-keeps
+all_turns-returns-clause-keeps t c = c.loop-n.invariant.executes.moves.keeps
+
+pub all_turns-returns-clause-executes : goal.all_turns-returns-clause-executes
+all_turns-returns-clause-executes t c =
     let inv = c.loop-n.invariant in
-    record { executes = executes_same (λ e s. turns_whole c.args.self.now c.args.first c.loop-n.n c.args.start c.args.stmts.now (omega (arith, inv.within, c.loop-n-test.false)) e s) inv.executes }
+    executes_same (λ e s. turns_whole c.args.self.now c.args.first c.loop-n.n c.args.start c.args.stmts.now (omega (arith, inv.within, c.loop-n-test.false)) e s) inv.executes
 
 pub one_turn-ways-requires : goal.one_turn-ways-requires
 one_turn-ways-requires t c =
@@ -792,16 +918,23 @@ one_turn-loop-stmt-preserved t c =
       count = omega (arith, inv.count);
     }
 
-pub one_turn-returns : goal.one_turn-returns
-one_turn-returns t c =
+pub one_turn-returns-in_err-node-clause-keeps : goal.one_turn-returns-in_err-node-clause-keeps
+one_turn-returns-in_err-node-clause-keeps t c = c.loop-stmt.invariant.executes.moves.keeps
+
+pub one_turn-returns-in_err-ways-clause-keeps : goal.one_turn-returns-in_err-ways-clause-keeps
+one_turn-returns-in_err-ways-clause-keeps t c = Keeps-trans c.loop-stmt.invariant.executes.moves.keeps c.ways.ensures.keeps
+
+pub one_turn-returns-clause-keeps : goal.one_turn-returns-clause-keeps
+one_turn-returns-clause-keeps t c = c.loop-stmt.invariant.executes.moves.keeps
+
+pub one_turn-returns-clause-executed : goal.one_turn-returns-clause-executed
+one_turn-returns-clause-executed t c =
     let inv = c.loop-stmt.invariant in
     let self = c.args.self.now in
     let whole = take_all c.loop-stmt.stmt-index c.args.stmts.now (omega arith) in
     record {
-      executed = record {
-        executes = executes_same (λ e s. ap (λ xs. turn_at self c.args.first (length c.args.stmts.now) c.args.n xs c.args.at.now e s) (sym whole)) inv.executes;
-        place = record { place = λ e. inv.place.place e ∙ ap (λ xs. c.args.at.now + (all_part self xs e).count) whole };
-      };
+      executes = executes_same (λ e s. ap (λ xs. turn_at self c.args.first (length c.args.stmts.now) c.args.n xs c.args.at.now e s) (sym whole)) inv.executes;
+      place = record { place = λ e. inv.place.place e ∙ ap (λ xs. c.args.at.now + (all_part self xs e).count) whole };
     }
 
 pub turns-eval-requires : goal.turns-eval-requires
@@ -815,24 +948,24 @@ target-field_target-requires t c = (omega arith, c.requires.stands)
 pub target-index_target-requires : goal.target-index_target-requires
 target-index_target-requires t c = (omega arith, c.requires.stands)
 
-pub target-returns-in-Var : goal.target-returns-in-Var
-target-returns-in-Var t c = record { located = located_as (same_variable_target c.args.self.now c.args.span c.args.e.now c.in-Var.slot c.in-Var.name c.in-Var.is) (variable_located c.requires.stands c.variable.ensures) }
+pub target-returns-in-Var-clause-located : goal.target-returns-in-Var-clause-located
+target-returns-in-Var-clause-located t c = located_as (same_variable_target c.args.self.now c.args.span c.args.e.now c.in-Var.slot c.in-Var.name c.in-Var.is) (variable_located c.requires.stands c.variable.ensures)
 
-pub target-returns-in-Member : goal.target-returns-in-Member
-target-returns-in-Member t c =
+pub target-returns-in-Member-clause-located : goal.target-returns-in-Member-clause-located
+target-returns-in-Member-clause-located t c =
     let is = rw (← c.get.ensures) at c.in-Member.is in
-    record { located = ok_more c.field_target.result (λ l. located_as (same_field_target c.args.self.now c.args.span c.args.e.now c.get.result.now c.in-Member.s c.in-Member.field is)) c.field_target.ensures.located }
+    ok_more c.field_target.result (λ l. located_as (same_field_target c.args.self.now c.args.span c.args.e.now c.get.result.now c.in-Member.s c.in-Member.field is)) c.field_target.ensures.located
 
-pub target-returns-in-Index : goal.target-returns-in-Index
-target-returns-in-Index t c =
+pub target-returns-in-Index-clause-located : goal.target-returns-in-Index-clause-located
+target-returns-in-Index-clause-located t c =
     let is = rw (← c.get-in-Index.ensures, ← c.get-in-Index-2.ensures) at c.in-Index.is in
-    record { located = ok_more c.index_target.result (λ l. located_as (same_index_target c.args.self.now c.args.span c.args.e.now c.get-in-Index.result.now c.get-in-Index-2.result.now is)) c.index_target.ensures.located }
+    ok_more c.index_target.result (λ l. located_as (same_index_target c.args.self.now c.args.span c.args.e.now c.get-in-Index.result.now c.get-in-Index-2.result.now is)) c.index_target.ensures.located
 
 pub field_target-eval-requires : goal.field_target-eval-requires
 field_target-eval-requires t c = (omega arith, c.requires.stands)
 
-pub field_target-returns : goal.field_target-returns
-field_target-returns t c = record { located = field_located c.args.span c.args.base.now c.in_ok-reference.ensures.evaluated c.field.ensures }
+pub field_target-returns-clause-located : goal.field_target-returns-clause-located
+field_target-returns-clause-located t c = field_located c.args.span c.args.base.now c.in_ok-reference.ensures.evaluated c.field.ensures
 
 pub index_target-target-requires : goal.index_target-target-requires
 index_target-target-requires t c = (omega arith, c.requires.stands)
@@ -840,14 +973,23 @@ index_target-target-requires t c = (omega arith, c.requires.stands)
 pub index_target-eval-requires : goal.index_target-eval-requires
 index_target-eval-requires t c = (omega arith, c.in_ok-location.ensures.located.locates.does.moves.stands)
 
-pub index_target-returns : goal.index_target-returns
-index_target-returns t c = record { located = index_located c.args.span c.args.base.now c.args.index.now c.in_ok-location.ensures.located c.in_ok-i.ensures.evaluated c.in_ok-push_index.ensures }
+pub index_target-returns-in_err-i-clause-keeps : goal.index_target-returns-in_err-i-clause-keeps
+index_target-returns-in_err-i-clause-keeps t c = Keeps-trans c.in_ok-location.ensures.keeps c.eval.ensures.keeps
+
+pub index_target-returns-in_err-push_index-clause-keeps : goal.index_target-returns-in_err-push_index-clause-keeps
+index_target-returns-in_err-push_index-clause-keeps t c = Keeps-trans c.in_ok-location.ensures.keeps c.in_ok-i.ensures.keeps
+
+pub index_target-returns-clause-keeps : goal.index_target-returns-clause-keeps
+index_target-returns-clause-keeps t c = Keeps-trans c.in_ok-location.ensures.keeps c.in_ok-i.ensures.keeps
+
+pub index_target-returns-clause-located : goal.index_target-returns-clause-located
+index_target-returns-clause-located t c = index_located c.args.span c.args.base.now c.args.index.now c.in_ok-location.ensures.located c.in_ok-i.ensures.evaluated c.in_ok-push_index.ensures
 
 pub exec-assign-requires : goal.exec-assign-requires
 exec-assign-requires t c = (omega arith, c.requires.stands)
 
-pub exec-returns-in-Assign : goal.exec-returns-in-Assign
-exec-returns-in-Assign t c = record { executed = on_ok c.assign.result (executed_as (same_assign c.args.self.now c.args.stmt.now c.in-Assign.target c.in-Assign.value c.in-Assign.is)) c.assign.ensures.executed }
+pub exec-returns-in-Assign-clause-executed : goal.exec-returns-in-Assign-clause-executed
+exec-returns-in-Assign-clause-executed t c = on_ok c.assign.result (executed_as (same_assign c.args.self.now c.args.stmt.now c.in-Assign.target c.in-Assign.value c.in-Assign.is)) c.assign.ensures.executed
 
 pub fields-eval-requires : goal.fields-eval-requires
 fields-eval-requires t c = (omega arith, c.loop-x.invariant.evaluate.does.moves.stands)
@@ -858,10 +1000,19 @@ fields-loop-x-init t c = rw c.new-made.ensures (fields_none c.args.span c.requir
 pub fields-loop-x-preserved : goal.fields-loop-x-preserved
 fields-loop-x-preserved t c = rw c.in_ok-push.ensures.ok (fields_more c.args.self.now c.args.span c.args.given.now c.loop-x.x-index c.x-item.result c.loop-x-test.true c.x-item.is c.loop-x.invariant c.in_ok-value.ensures.evaluated)
 
-pub fields-returns : goal.fields-returns
-fields-returns t c =
+pub fields-returns-in_err-value-clause-keeps : goal.fields-returns-in_err-value-clause-keeps
+fields-returns-in_err-value-clause-keeps t c = Keeps-trans c.loop-x.invariant.evaluate.does.moves.keeps c.eval.ensures.keeps
+
+pub fields-returns-in_err-push-clause-keeps : goal.fields-returns-in_err-push-clause-keeps
+fields-returns-in_err-push-clause-keeps t c = Keeps-trans c.loop-x.invariant.evaluate.does.moves.keeps c.in_ok-value.ensures.keeps
+
+pub fields-returns-clause-keeps : goal.fields-returns-clause-keeps
+fields-returns-clause-keeps t c = c.loop-x.invariant.evaluate.does.moves.keeps
+
+pub fields-returns-clause-set : goal.fields-returns-clause-set
+fields-returns-clause-set t c =
     let whole = take_all c.loop-x.x-index c.args.given.now (omega arith) in
-    record { set = subst (λ xs. AreSetTo c.args.self.now c.args.dag.now c.loop-x.dag c.args.state.now c.loop-x.state c.args.at.now c.loop-x.at (fields_part c.args.self.now c.args.span xs) c.loop-x.made) whole c.loop-x.invariant }
+    subst (λ xs. AreSetTo c.args.self.now c.args.dag.now c.loop-x.dag c.args.state.now c.loop-x.state c.args.at.now c.loop-x.at (fields_part c.args.self.now c.args.span xs) c.loop-x.made) whole c.loop-x.invariant
 
 pub new_record-fields-requires : goal.new_record-fields-requires
 new_record-fields-requires t c = (omega arith, c.requires.stands)
@@ -869,41 +1020,51 @@ new_record-fields-requires t c = (omega arith, c.requires.stands)
 pub new_record-make-requires-clause-inits : goal.new_record-make-requires-clause-inits
 new_record-make-requires-clause-inits t c = subst (InitsStand c.fields.new.dag) (sym c.as_slice.ensures) c.in_ok-inits.ensures.set.evaluate.there
 
-pub new_record-returns : goal.new_record-returns
-new_record-returns t c = record {
-  evaluated = new_evaluated c.args.span c.args.s c.args.given.now c.in_ok-inits.ensures.set
-      (subst (λ l. EvaluatesOn c.args.self.now.setting c.fields.new.dag c.make.new.dag c.fields.new.state c.make.new.state (λ g e. InitsAre g e c.fields.new.state.heap l) c.in_ok-r.r (λ e. allocate c.args.self.now.setting.expanded.now.prog c.args.s)) c.as_slice.ensures c.in_ok-r.ensures.evaluates);
-}
+pub new_record-returns-in_err-r-clause-keeps : goal.new_record-returns-in_err-r-clause-keeps
+new_record-returns-in_err-r-clause-keeps t c = Keeps-trans c.in_ok-inits.ensures.keeps c.make.ensures.keeps
+
+pub new_record-returns-clause-keeps : goal.new_record-returns-clause-keeps
+new_record-returns-clause-keeps t c = Keeps-trans c.in_ok-inits.ensures.keeps c.in_ok-r.ensures.keeps
+
+pub new_record-returns-clause-evaluated : goal.new_record-returns-clause-evaluated
+new_record-returns-clause-evaluated t c = new_evaluated c.args.span c.args.s c.args.given.now c.in_ok-inits.ensures.set
+    (subst (λ l. EvaluatesOn c.args.self.now.setting c.fields.new.dag c.make.new.dag c.fields.new.state c.make.new.state (λ g e. InitsAre g e c.fields.new.state.heap l) c.in_ok-r.r (λ e. allocate c.args.self.now.setting.expanded.now.prog c.args.s)) c.as_slice.ensures c.in_ok-r.ensures.evaluates)
 
 pub eval-new_record-requires : goal.eval-new_record-requires
 eval-new_record-requires t c = (omega arith, c.requires.stands)
 
-pub eval-returns-in-New : goal.eval-returns-in-New
-eval-returns-in-New t c =
+pub eval-returns-in-New-clause-evaluated : goal.eval-returns-in-New-clause-evaluated
+eval-returns-in-New-clause-evaluated t c =
     let is = rw (← c.as_slice-in-New.ensures) at c.in-New.is in
-    record { evaluated = ok_more c.new_record.result (λ r. evaluated_as (same_new c.args.self.now c.args.span c.args.e.now c.in-New.s c.as_slice-in-New.result.now is)) c.new_record.ensures.evaluated }
+    ok_more c.new_record.result (λ r. evaluated_as (same_new c.args.self.now c.args.span c.args.e.now c.in-New.s c.as_slice-in-New.result.now is)) c.new_record.ensures.evaluated
 
 -- ---- patterns
 
 pub eval-pattern-requires : goal.eval-pattern-requires
 eval-pattern-requires t c = (omega arith, c.requires.stands)
 
-pub eval-returns-in-Pattern : goal.eval-returns-in-Pattern
-eval-returns-in-Pattern t c =
+pub eval-returns-in-Pattern-clause-evaluated : goal.eval-returns-in-Pattern-clause-evaluated
+eval-returns-in-Pattern-clause-evaluated t c =
     let is = rw (← c.as_slice-in-Pattern.ensures) at c.in-Pattern.is in
-    record { evaluated = ok_more c.pattern.result (λ r. evaluated_as (same_pattern c.args.self.now c.args.span c.args.e.now c.as_slice-in-Pattern.result.now is)) c.pattern.ensures.evaluated }
+    ok_more c.pattern.result (λ r. evaluated_as (same_pattern c.args.self.now c.args.span c.args.e.now c.as_slice-in-Pattern.result.now is)) c.pattern.ensures.evaluated
 
 pub pattern-strings-requires : goal.pattern-strings-requires
 pattern-strings-requires t c = (omega arith, c.requires.stands)
 
-pub pattern-returns : goal.pattern-returns
-pattern-returns t c = record { evaluated = pattern_evaluated c.args.span c.args.list.now c.in_ok-pass_site.ensures c.in_ok-r.ensures.evaluated }
+pub pattern-returns-clause-evaluated : goal.pattern-returns-clause-evaluated
+pattern-returns-clause-evaluated t c = pattern_evaluated c.args.span c.args.list.now c.in_ok-pass_site.ensures c.in_ok-r.ensures.evaluated
 
 pub strings-string-requires : goal.strings-string-requires
 strings-string-requires t c = (omega arith, (StateStands-keeps c.in_ok-here.ensures.keeps c.requires.stands, c.in_ok-here.ensures.there))
 
-pub strings-returns : goal.strings-returns
-strings-returns t c = record { evaluated = strings_evaluated c.in_ok-here.here c.args.span c.args.site c.args.k c.in_ok-next.next c.in-Some.ensures c.in_ok-next.ensures c.requires.stands c.in_ok-here.ensures.keeps c.in_ok-here.ensures.value c.in_ok-r.ensures.evaluated }
+pub strings-returns-in_err-r-clause-keeps : goal.strings-returns-in_err-r-clause-keeps
+strings-returns-in_err-r-clause-keeps t c = Keeps-trans c.in_ok-here.ensures.keeps c.string.ensures.keeps
+
+pub strings-returns-clause-keeps : goal.strings-returns-clause-keeps
+strings-returns-clause-keeps t c = Keeps-trans c.in_ok-here.ensures.keeps c.in_ok-r.ensures.keeps
+
+pub strings-returns-clause-evaluated : goal.strings-returns-clause-evaluated
+strings-returns-clause-evaluated t c = strings_evaluated c.in_ok-here.here c.args.span c.args.site c.args.k c.in_ok-next.next c.in-Some.ensures c.in_ok-next.ensures c.requires.stands c.in_ok-here.ensures.keeps c.in_ok-here.ensures.value c.in_ok-r.ensures.evaluated
 
 pub string-eval-requires : goal.string-eval-requires
 string-eval-requires t c = (omega arith, c.requires.stands)
@@ -914,15 +1075,15 @@ string-strings-requires t c = (omega arith, c.requires.stands)
 pub string-both_strings-requires : goal.string-both_strings-requires
 string-both_strings-requires t c = (omega arith, (c.requires.stands, c.requires.here))
 
-pub string-returns-in_ok-pass_exprs-in-Some-true : goal.string-returns-in_ok-pass_exprs-in-Some-true
-string-returns-in_ok-pass_exprs-in-Some-true t c =
+pub string-returns-in_ok-pass_exprs-in-Some-true-clause-evaluated : goal.string-returns-in_ok-pass_exprs-in-Some-true-clause-evaluated
+string-returns-in_ok-pass_exprs-in-Some-true-clause-evaluated t c =
     let h = c.in_ok-r-in-Some-true.ensures.evaluated in
-    record { evaluated = first_evaluated c.args.span c.args.here (eval_part c.args.self.now c.args.span c.args.first.now) (strings_part c.args.self.now c.args.span c.args.site c.args.next c.args.more.now) (λ g more e. c.in-Some-true.ensures g (h.evaluates.does.moves.keeps.later g more) e ∙ c.in-Some-true.field-0-test) h (strings_behind _ c.args.self.now c.args.span c.args.site c.args.next c.args.more.now c.in_ok-pass_exprs-in-Some-true.ensures) }
+    first_evaluated c.args.span c.args.here (eval_part c.args.self.now c.args.span c.args.first.now) (strings_part c.args.self.now c.args.span c.args.site c.args.next c.args.more.now) (λ g more e. c.in-Some-true.ensures g (h.evaluates.does.moves.keeps.later g more) e ∙ c.in-Some-true.field-0-test) h (strings_behind _ c.args.self.now c.args.span c.args.site c.args.next c.args.more.now c.in_ok-pass_exprs-in-Some-true.ensures)
 
-pub string-returns-in_ok-pass_expr-in-Some-false : goal.string-returns-in_ok-pass_expr-in-Some-false
-string-returns-in_ok-pass_expr-in-Some-false t c =
+pub string-returns-in_ok-pass_expr-in-Some-false-clause-evaluated : goal.string-returns-in_ok-pass_expr-in-Some-false-clause-evaluated
+string-returns-in_ok-pass_expr-in-Some-false-clause-evaluated t c =
     let p = c.in_ok-pass_expr-in-Some-false.ensures in
-    record { evaluated = ok_more c.strings.result (λ r h. second_evaluated c.args.span c.args.here (eval_part c.args.self.now c.args.span c.args.first.now) (strings_part c.args.self.now c.args.span c.args.site c.args.next c.args.more.now) (λ g more e. c.in-Some-false.ensures g (h.evaluates.does.moves.keeps.later g more) e ∙ c.in-Some-false.field-0-test) (expr_behind _ c.args.self.now c.args.span c.args.first.now p) h) c.strings.ensures.evaluated }
+    ok_more c.strings.result (λ r h. second_evaluated c.args.span c.args.here (eval_part c.args.self.now c.args.span c.args.first.now) (strings_part c.args.self.now c.args.span c.args.site c.args.next c.args.more.now) (λ g more e. c.in-Some-false.ensures g (h.evaluates.does.moves.keeps.later g more) e ∙ c.in-Some-false.field-0-test) (expr_behind _ c.args.self.now c.args.span c.args.first.now p) h) c.strings.ensures.evaluated
 
 pub both_strings-eval-requires : goal.both_strings-eval-requires
 both_strings-eval-requires t c = (omega arith, c.in_ok-waits.ensures.forked.stands)
@@ -955,25 +1116,46 @@ both_strings-joined-requires-clause-a t c = Stands-keeps c.in_ok-y.ensures.evalu
 pub both_strings-joined-requires-clause-b : goal.both_strings-joined-requires-clause-b
 both_strings-joined-requires-clause-b t c = c.in_ok-y.ensures.evaluated.evaluates.there
 
-pub both_strings-returns : goal.both_strings-returns
-both_strings-returns t c = record { evaluated = both_evaluated c.args.span c.in_ok-waits.ensures.forked c.in_ok-x.ensures.evaluated c.turn-gone.ensures c.in_ok-y.ensures.evaluated c.in_ok-r.ensures.joined }
+pub both_strings-returns-in_err-x-clause-keeps : goal.both_strings-returns-in_err-x-clause-keeps
+both_strings-returns-in_err-x-clause-keeps t c = Keeps-trans c.in_ok-waits.ensures.keeps c.eval.ensures.keeps
+
+pub both_strings-returns-in_err-y-clause-keeps : goal.both_strings-returns-in_err-y-clause-keeps
+both_strings-returns-in_err-y-clause-keeps t c = Keeps-trans c.in_ok-waits.ensures.keeps (Keeps-trans c.in_ok-x.ensures.keeps c.strings.ensures.keeps)
+
+pub both_strings-returns-in_err-r-clause-keeps : goal.both_strings-returns-in_err-r-clause-keeps
+both_strings-returns-in_err-r-clause-keeps t c = Keeps_four c.in_ok-waits.ensures.keeps c.in_ok-x.ensures.keeps c.in_ok-y.ensures.keeps c.joined.ensures.keeps
+
+pub both_strings-returns-clause-keeps : goal.both_strings-returns-clause-keeps
+both_strings-returns-clause-keeps t c = Keeps_four c.in_ok-waits.ensures.keeps c.in_ok-x.ensures.keeps c.in_ok-y.ensures.keeps c.in_ok-r.ensures.keeps
+
+pub both_strings-returns-clause-evaluated : goal.both_strings-returns-clause-evaluated
+both_strings-returns-clause-evaluated t c = both_evaluated c.args.span c.in_ok-waits.ensures.forked c.in_ok-x.ensures.evaluated c.turn-gone.ensures c.in_ok-y.ensures.evaluated c.in_ok-r.ensures.joined
 
 -- ---- calls, and the values that go back to their arguments
 
 pub call-call_with-requires : goal.call-call_with-requires
 call-call_with-requires t c = let v = c.in_ok-values.ensures.evaluated.evaluate in (omega arith, (v.does.moves.stands, v.there))
 
-pub call-returns : goal.call-returns
-call-returns t c = record { evaluated = call_evaluated c.args.span c.args.f c.args.args.now c.in_ok-values.ensures.evaluated c.in_ok-r.ensures.evaluates }
+pub call-returns-in_err-r-clause-keeps : goal.call-returns-in_err-r-clause-keeps
+call-returns-in_err-r-clause-keeps t c = Keeps-trans c.in_ok-values.ensures.keeps c.call_with.ensures.keeps
+
+pub call-returns-clause-keeps : goal.call-returns-clause-keeps
+call-returns-clause-keeps t c = Keeps-trans c.in_ok-values.ensures.keeps c.in_ok-r.ensures.keeps
+
+pub call-returns-clause-evaluated : goal.call-returns-clause-evaluated
+call-returns-clause-evaluated t c = call_evaluated c.args.span c.args.f c.args.args.now c.in_ok-values.ensures.evaluated c.in_ok-r.ensures.evaluates
 
 pub call_with-call_of-requires : goal.call_with-call_of-requires
 call_with-call_of-requires t c = (omega arith, (c.requires.stands, (c.requires.values, sym c.callee.ensures ∙ ap option_copied c.in-Some.is)))
 
-pub call_with-returns-then-is_over : goal.call_with-returns-then-is_over
-call_with-returns-then-is_over t c = record { evaluates = over_evaluates c.requires.stands (c.is_over.ensures c.if-is_over.true) c.in_ok-r.ensures.keeps c.in_ok-r.ensures.stands }
+pub call_with-returns-then-is_over-clause-evaluates : goal.call_with-returns-then-is_over-clause-evaluates
+call_with-returns-then-is_over-clause-evaluates t c = over_evaluates c.requires.stands (c.is_over.ensures c.if-is_over.true) c.in_ok-r.ensures.keeps c.in_ok-r.ensures.stands
 
-pub call_with-returns-in_ok-r-in-None : goal.call_with-returns-in_ok-r-in-None
-call_with-returns-in_ok-r-in-None t c = record { evaluates = refused_evaluates c.args.self.now c.args.f c.args.span c.args.args.now c.args.first c.in_ok-fail_here-in-None.ensures.executes c.in_ok-r-in-None.ensures.keeps c.in_ok-r-in-None.ensures.stands (sym c.callee.ensures ∙ ap option_copied c.in-None.is) }
+pub call_with-returns-in_ok-r-in-None-clause-keeps : goal.call_with-returns-in_ok-r-in-None-clause-keeps
+call_with-returns-in_ok-r-in-None-clause-keeps t c = Keeps-trans c.in_ok-fail_here-in-None.ensures.keeps c.in_ok-r-in-None.ensures.keeps
+
+pub call_with-returns-in_ok-r-in-None-clause-evaluates : goal.call_with-returns-in_ok-r-in-None-clause-evaluates
+call_with-returns-in_ok-r-in-None-clause-evaluates t c = refused_evaluates c.args.self.now c.args.f c.args.span c.args.args.now c.args.first c.in_ok-fail_here-in-None.ensures.executes c.in_ok-r-in-None.ensures.keeps c.in_ok-r-in-None.ensures.stands (sym c.callee.ensures ∙ ap option_copied c.in-None.is)
 
 pub call_of-within-requires : goal.call_of-within-requires
 call_of-within-requires t c = (omega arith, (c.requires.stands, (c.requires.values, record { expanded = refl; choice = refl })))
@@ -981,12 +1163,16 @@ call_of-within-requires t c = (omega arith, (c.requires.stands, (c.requires.valu
 pub call_of-end_call-requires : goal.call_of-end_call-requires
 call_of-end_call-requires t c = let h = c.in_ok-ended.ensures.called in (omega arith, (h.does.moves.stands, h.there))
 
-pub call_of-returns : goal.call_of-returns
-call_of-returns t c = record {
-  evaluates = call_evaluates c.args.span c.args.fun.now c.args.args.now c.args.first c.in_ok-ended.ensures.called c.in_ok-r.ensures.evaluates c.requires.callee
-      (record { inside = record { expanded = refl; choice = refl }; bounds = refl; left = c.saturating_sub-left.ensures; active = c.as_slice.ensures.value ∙ c.in_ok-active.ensures; of = refl })
-      c.in_ok-pays_nothing.ensures c.in_ok-start.ensures;
-}
+pub call_of-returns-in_err-r-clause-keeps : goal.call_of-returns-in_err-r-clause-keeps
+call_of-returns-in_err-r-clause-keeps t c = Keeps-trans c.in_ok-ended.ensures.keeps c.end_call.ensures.keeps
+
+pub call_of-returns-clause-keeps : goal.call_of-returns-clause-keeps
+call_of-returns-clause-keeps t c = Keeps-trans c.in_ok-ended.ensures.keeps c.in_ok-r.ensures.keeps
+
+pub call_of-returns-clause-evaluates : goal.call_of-returns-clause-evaluates
+call_of-returns-clause-evaluates t c = call_evaluates c.args.span c.args.fun.now c.args.args.now c.args.first c.in_ok-ended.ensures.called c.in_ok-r.ensures.evaluates c.requires.callee
+    (record { inside = record { expanded = refl; choice = refl }; bounds = refl; left = c.saturating_sub-left.ensures; active = c.as_slice.ensures.value ∙ c.in_ok-active.ensures; of = refl })
+    c.in_ok-pays_nothing.ensures c.in_ok-start.ensures
 
 pub end_call-copy_back-requires : goal.end_call-copy_back-requires
 end_call-copy_back-requires t c = (omega arith, (c.requires.stands, subst (AllStand c.args.dag.now) (sym c.as_slice-refs.ensures) c.requires.ended.refs))
@@ -1011,46 +1197,61 @@ copy_one-target-requires t c = (omega arith, c.requires.stands)
 pub copy_one-store-requires-clause-value : goal.copy_one-store-requires-clause-value
 copy_one-store-requires-clause-value t c = Stands-keeps c.in_ok-location.ensures.located.locates.does.moves.keeps c.requires.value
 
-pub copy_one-returns : goal.copy_one-returns
-copy_one-returns t c = let l = c.in_ok-location.ensures.located in record { copied = record { does = given_stored c.args.span l.locates c.in_ok-store.ensures.stores; place = l.place } }
+pub copy_one-returns-in_err-store-clause-keeps : goal.copy_one-returns-in_err-store-clause-keeps
+copy_one-returns-in_err-store-clause-keeps t c = Keeps-trans c.in_ok-location.ensures.keeps c.store.ensures.keeps
+
+pub copy_one-returns-clause-keeps : goal.copy_one-returns-clause-keeps
+copy_one-returns-clause-keeps t c = Keeps-trans c.in_ok-location.ensures.keeps c.in_ok-store.ensures.keeps
+
+pub copy_one-returns-clause-copied : goal.copy_one-returns-clause-copied
+copy_one-returns-clause-copied t c = let l = c.in_ok-location.ensures.located in record { does = given_stored c.args.span l.locates c.in_ok-store.ensures.stores; place = l.place }
 
 -- ---- values that go back to arguments
 
-pub copy_back-returns-in_default : goal.copy_back-returns-in_default
-copy_back-returns-in_default t c = record { copied = back_no_params c.args.span c.args.args.now c.args.first c.requires.stands c.in_default.ensures }
+pub copy_back-returns-in_default-clause-copied : goal.copy_back-returns-in_default-clause-copied
+copy_back-returns-in_default-clause-copied t c = back_no_params c.args.span c.args.args.now c.args.first c.requires.stands c.in_default.ensures
 
-pub copy_back-returns-in_default-first_expr : goal.copy_back-returns-in_default-first_expr
-copy_back-returns-in_default-first_expr t c = record { copied = back_no_args c.args.span c.args.params.now c.args.first c.requires.stands c.in_default-first_expr.ensures }
+pub copy_back-returns-in_default-first_expr-clause-copied : goal.copy_back-returns-in_default-first_expr-clause-copied
+copy_back-returns-in_default-first_expr-clause-copied t c = back_no_args c.args.span c.args.params.now c.args.first c.requires.stands c.in_default-first_expr.ensures
 
-pub copy_back-returns : goal.copy_back-returns
-copy_back-returns t c = record { copied = back_arg c.args.span c.args.first c.in-Some.ensures c.in-Some-first_expr.ensures c.in_ok-copy_arg.ensures.copied }
+pub copy_back-returns-clause-copied : goal.copy_back-returns-clause-copied
+copy_back-returns-clause-copied t c = back_arg c.args.span c.args.first c.in-Some.ensures c.in-Some-first_expr.ensures c.in_ok-copy_arg.ensures.copied
 
-pub copy_arg-returns-then-not-by_ref : goal.copy_arg-returns-then-not-by_ref
-copy_arg-returns-then-not-by_ref t c = record { copied = back_passed c.args.span c.args.arg.now c.args.params.now c.args.args.now c.args.first c.if-not-by_ref.true c.in_ok-pass_expr.ensures c.in_ok-copy_back.ensures.copied }
+pub copy_arg-returns-then-not-by_ref-clause-copied : goal.copy_arg-returns-then-not-by_ref-clause-copied
+copy_arg-returns-then-not-by_ref-clause-copied t c = back_passed c.args.span c.args.arg.now c.args.params.now c.args.args.now c.args.first c.if-not-by_ref.true c.in_ok-pass_expr.ensures c.in_ok-copy_back.ensures.copied
 
-pub copy_arg-returns-in_default : goal.copy_arg-returns-in_default
-copy_arg-returns-in_default t c = record { copied = back_no_values c.args.span c.args.by_ref c.args.arg.now c.args.params.now c.args.args.now c.args.first c.requires.stands c.in_default.ensures }
+pub copy_arg-returns-in_default-clause-copied : goal.copy_arg-returns-in_default-clause-copied
+copy_arg-returns-in_default-clause-copied t c = back_no_values c.args.span c.args.by_ref c.args.arg.now c.args.params.now c.args.args.now c.args.first c.requires.stands c.in_default.ensures
 
-pub copy_arg-returns : goal.copy_arg-returns
-copy_arg-returns t c = record { copied = one_back c.args.span c.args.arg.now c.args.params.now c.args.args.now c.if-not-by_ref.false c.in-Some.ensures c.in_ok-copy_one.ensures.copied c.in_ok-copy_back-2.ensures.copied }
+pub copy_arg-returns-clause-keeps : goal.copy_arg-returns-clause-keeps
+copy_arg-returns-clause-keeps t c = Keeps-trans c.in_ok-copy_one.ensures.keeps c.in_ok-copy_back-2.ensures.keeps
+
+pub copy_arg-returns-clause-copied : goal.copy_arg-returns-clause-copied
+copy_arg-returns-clause-copied t c = one_back c.args.span c.args.arg.now c.args.params.now c.args.args.now c.if-not-by_ref.false c.in-Some.ensures c.in_ok-copy_one.ensures.copied c.in_ok-copy_back-2.ensures.copied
 
 pub end_call-value_of-requires : goal.end_call-value_of-requires
 end_call-value_of-requires t c = record { given = AnyStands-keeps c.in_ok-copy_back.ensures.copied.does.moves.keeps c.args.ended.result c.requires.ended.result }
 
-pub end_call-returns : goal.end_call-returns
-end_call-returns t c =
+pub end_call-returns-in_err-r-clause-keeps : goal.end_call-returns-in_err-r-clause-keeps
+end_call-returns-in_err-r-clause-keeps t c = Keeps-trans c.in_ok-copy_back.ensures.keeps c.value_of.ensures.keeps
+
+pub end_call-returns-clause-keeps : goal.end_call-returns-clause-keeps
+end_call-returns-clause-keeps t c = Keeps-trans c.in_ok-copy_back.ensures.keeps c.in_ok-r.ensures.keeps
+
+pub end_call-returns-clause-evaluates : goal.end_call-returns-clause-evaluates
+end_call-returns-clause-evaluates t c =
     let self = c.args.self.now in
     let params = subst (λ ps. AreCopiedBack self c.args.dag.now c.copy_back.new.dag c.args.state.now c.copy_back.new.state c.as_slice-refs.result.now (copied_at self c.args.span ps c.args.args.now c.args.first)) c.as_slice-params.ensures c.in_ok-copy_back.ensures.copied in
     let copied = subst (λ rs. AreCopiedBack self c.args.dag.now c.copy_back.new.dag c.args.state.now c.copy_back.new.state rs (copied_at self c.args.span c.args.fun.now.params c.args.args.now c.args.first)) c.as_slice-refs.ensures params in
-    record { evaluates = ended_evaluates {ended = c.args.ended} c.args.span c.args.fun.now.result c.args.fun.now.params c.args.args.now c.args.first copied c.in_ok-r.ensures.keeps c.in_ok-r.ensures.result }
+    ended_evaluates {ended = c.args.ended} c.args.span c.args.fun.now.result c.args.fun.now.params c.args.args.now c.args.first copied c.in_ok-r.ensures.keeps c.in_ok-r.ensures.result
 
 -- ---- assignments, also to patterns
 
 pub assign-assign_at-requires : goal.assign-assign_at-requires
 assign-assign_at-requires t c = (omega arith, c.requires.stands)
 
-pub assign-returns : goal.assign-returns
-assign-returns t c = record { executed = assign_executed c.args.span c.args.target.now c.args.value.now c.in_ok-pass_expr.ensures c.in_ok-assign_at.ensures.executed c.in_ok-pass_expr-2.ensures }
+pub assign-returns-clause-executed : goal.assign-returns-clause-executed
+assign-returns-clause-executed t c = assign_executed c.args.span c.args.target.now c.args.value.now c.in_ok-pass_expr.ensures c.in_ok-assign_at.ensures.executed c.in_ok-pass_expr-2.ensures
 
 pub assign_at-assign_pattern-requires : goal.assign_at-assign_pattern-requires
 assign_at-assign_pattern-requires t c = (omega arith, c.requires.stands)
@@ -1058,10 +1259,10 @@ assign_at-assign_pattern-requires t c = (omega arith, c.requires.stands)
 pub assign_at-assign_one-requires : goal.assign_at-assign_one-requires
 assign_at-assign_one-requires t c = (omega arith, c.requires.stands)
 
-pub assign_at-returns-in-Pattern : goal.assign_at-returns-in-Pattern
-assign_at-returns-in-Pattern t c =
+pub assign_at-returns-in-Pattern-clause-executed : goal.assign_at-returns-in-Pattern-clause-executed
+assign_at-returns-in-Pattern-clause-executed t c =
     let is = rw (← c.as_slice-list.ensures) at c.in-Pattern.is in
-    record { executed = on_ok c.assign_pattern.result (executed_as (same_pattern_target c.args.self.now c.args.span c.args.start c.args.target.now c.args.value.now c.as_slice-list.result.now is)) c.assign_pattern.ensures.executed }
+    on_ok c.assign_pattern.result (executed_as (same_pattern_target c.args.self.now c.args.span c.args.start c.args.target.now c.args.value.now c.as_slice-list.result.now is)) c.assign_pattern.ensures.executed
 
 pub assign_one-target-requires : goal.assign_one-target-requires
 assign_one-target-requires t c = (omega arith, c.requires.stands)
@@ -1072,20 +1273,35 @@ assign_one-eval-requires t c = (omega arith, c.in_ok-location.ensures.located.lo
 pub assign_one-assign-requires-clause-location : goal.assign_one-assign-requires-clause-location
 assign_one-assign-requires-clause-location t c = LocationStands-keeps c.in_ok-v.ensures.evaluated.evaluates.does.moves.keeps c.in_ok-location.ensures.located.locates.there
 
-pub assign_one-returns : goal.assign_one-returns
-assign_one-returns t c = record { executed = one_assigned c.args.span c.args.target.now c.args.value.now c.in_ok-location.ensures.located c.in_ok-v.ensures.evaluated c.in_ok-assign.ensures.executes }
+pub assign_one-returns-in_err-v-clause-keeps : goal.assign_one-returns-in_err-v-clause-keeps
+assign_one-returns-in_err-v-clause-keeps t c = Keeps-trans c.in_ok-location.ensures.keeps c.eval.ensures.keeps
+
+pub assign_one-returns-in_err-assign-clause-keeps : goal.assign_one-returns-in_err-assign-clause-keeps
+assign_one-returns-in_err-assign-clause-keeps t c = Keeps-trans c.in_ok-location.ensures.keeps (Keeps-trans c.in_ok-v.ensures.keeps c.assign.ensures.keeps)
+
+pub assign_one-returns-clause-keeps : goal.assign_one-returns-clause-keeps
+assign_one-returns-clause-keeps t c = Keeps-trans c.in_ok-location.ensures.keeps (Keeps-trans c.in_ok-v.ensures.keeps c.in_ok-assign.ensures.keeps)
+
+pub assign_one-returns-clause-executed : goal.assign_one-returns-clause-executed
+assign_one-returns-clause-executed t c = one_assigned c.args.span c.args.target.now c.args.value.now c.in_ok-location.ensures.located c.in_ok-v.ensures.evaluated c.in_ok-assign.ensures.executes
 
 pub assign_pattern-assign_strings-requires : goal.assign_pattern-assign_strings-requires
 assign_pattern-assign_strings-requires t c = (omega arith, c.requires.stands)
 
-pub assign_pattern-returns : goal.assign_pattern-returns
-assign_pattern-returns t c = record { executed = pattern_assigned c.args.span c.args.start c.args.list.now c.args.value.now c.in_ok-pass_site.ensures c.in_ok-assign_strings.ensures.executed }
+pub assign_pattern-returns-clause-executed : goal.assign_pattern-returns-clause-executed
+assign_pattern-returns-clause-executed t c = pattern_assigned c.args.span c.args.start c.args.list.now c.args.value.now c.in_ok-pass_site.ensures c.in_ok-assign_strings.ensures.executed
 
 pub assign_strings-assign_string-requires : goal.assign_strings-assign_string-requires
 assign_strings-assign_string-requires t c = (omega arith, (StateStands-keeps c.in_ok-here.ensures.keeps c.requires.stands, c.in_ok-here.ensures.there))
 
-pub assign_strings-returns : goal.assign_strings-returns
-assign_strings-returns t c = record { executed = strings_assigned c.in_ok-here.here c.args.span c.args.start c.args.site c.args.k c.in_ok-next.next c.args.value.now c.in-Some.ensures c.in_ok-next.ensures c.requires.stands c.in_ok-here.ensures.keeps c.in_ok-here.ensures.value c.in_ok-assign_string.ensures.executed }
+pub assign_strings-returns-in_err-assign_string-clause-keeps : goal.assign_strings-returns-in_err-assign_string-clause-keeps
+assign_strings-returns-in_err-assign_string-clause-keeps t c = Keeps-trans c.in_ok-here.ensures.keeps c.assign_string.ensures.keeps
+
+pub assign_strings-returns-clause-keeps : goal.assign_strings-returns-clause-keeps
+assign_strings-returns-clause-keeps t c = Keeps-trans c.in_ok-here.ensures.keeps c.in_ok-assign_string.ensures.keeps
+
+pub assign_strings-returns-clause-executed : goal.assign_strings-returns-clause-executed
+assign_strings-returns-clause-executed t c = strings_assigned c.in_ok-here.here c.args.span c.args.start c.args.site c.args.k c.in_ok-next.next c.args.value.now c.in-Some.ensures c.in_ok-next.ensures c.requires.stands c.in_ok-here.ensures.keeps c.in_ok-here.ensures.value c.in_ok-assign_string.ensures.executed
 
 pub assign_string-assign_at-requires : goal.assign_string-assign_at-requires
 assign_string-assign_at-requires t c = (omega arith, c.requires.stands)
@@ -1096,15 +1312,15 @@ assign_string-assign_strings-requires t c = (omega arith, c.requires.stands)
 pub assign_string-assign_either-requires : goal.assign_string-assign_either-requires
 assign_string-assign_either-requires t c = (omega arith, (c.requires.stands, c.requires.here))
 
-pub assign_string-returns-in_ok-assign_at-in-Some-true : goal.assign_string-returns-in_ok-assign_at-in-Some-true
-assign_string-returns-in_ok-assign_at-in-Some-true t c =
+pub assign_string-returns-in_ok-assign_at-in-Some-true-clause-executed : goal.assign_string-returns-in_ok-assign_at-in-Some-true-clause-executed
+assign_string-returns-in_ok-assign_at-in-Some-true-clause-executed t c =
     let h = c.in_ok-assign_at-in-Some-true.ensures.executed in
-    record { executed = on_ok c.pass_exprs.result (λ p. first_executed c.args.span c.args.here (assign_at_part c.args.self.now c.args.span c.args.start c.args.first.now c.args.value.now) (assign_strings_part c.args.self.now c.args.span c.args.start c.args.site c.args.next c.args.more.now c.args.value.now) (λ g more e. c.in-Some-true.ensures g (h.executes.moves.keeps.later g more) e ∙ c.in-Some-true.field-0-test) h (assigned_behind _ c.args.self.now c.args.span c.args.start c.args.site c.args.next c.args.more.now c.args.value.now p)) c.pass_exprs.ensures }
+    on_ok c.pass_exprs.result (λ p. first_executed c.args.span c.args.here (assign_at_part c.args.self.now c.args.span c.args.start c.args.first.now c.args.value.now) (assign_strings_part c.args.self.now c.args.span c.args.start c.args.site c.args.next c.args.more.now c.args.value.now) (λ g more e. c.in-Some-true.ensures g (h.executes.moves.keeps.later g more) e ∙ c.in-Some-true.field-0-test) h (assigned_behind _ c.args.self.now c.args.span c.args.start c.args.site c.args.next c.args.more.now c.args.value.now p)) c.pass_exprs.ensures
 
-pub assign_string-returns-in_ok-pass_expr-in-Some-false : goal.assign_string-returns-in_ok-pass_expr-in-Some-false
-assign_string-returns-in_ok-pass_expr-in-Some-false t c =
+pub assign_string-returns-in_ok-pass_expr-in-Some-false-clause-executed : goal.assign_string-returns-in_ok-pass_expr-in-Some-false-clause-executed
+assign_string-returns-in_ok-pass_expr-in-Some-false-clause-executed t c =
     let p = c.in_ok-pass_expr-in-Some-false.ensures in
-    record { executed = on_ok c.assign_strings.result (λ h. second_executed c.args.span c.args.here (assign_at_part c.args.self.now c.args.span c.args.start c.args.first.now c.args.value.now) (assign_strings_part c.args.self.now c.args.span c.args.start c.args.site c.args.next c.args.more.now c.args.value.now) (λ g more e. c.in-Some-false.ensures g (h.executes.moves.keeps.later g more) e ∙ c.in-Some-false.field-0-test) (string_behind _ c.args.self.now c.args.span c.args.start c.args.first.now c.args.value.now p) h) c.assign_strings.ensures.executed }
+    on_ok c.assign_strings.result (λ h. second_executed c.args.span c.args.here (assign_at_part c.args.self.now c.args.span c.args.start c.args.first.now c.args.value.now) (assign_strings_part c.args.self.now c.args.span c.args.start c.args.site c.args.next c.args.more.now c.args.value.now) (λ g more e. c.in-Some-false.ensures g (h.executes.moves.keeps.later g more) e ∙ c.in-Some-false.field-0-test) (string_behind _ c.args.self.now c.args.span c.args.start c.args.first.now c.args.value.now p) h) c.assign_strings.ensures.executed
 
 pub assign_either-assign_at-requires : goal.assign_either-assign_at-requires
 assign_either-assign_at-requires t c = (omega arith, c.in_ok-waits.ensures.forked.stands)
@@ -1131,5 +1347,17 @@ assign_either-join-requires-clause-gone t c =
     let b = c.in_ok-assign_strings.ensures.executed.executes.moves in
     SideStands-keeps b.keeps (gone_stands c.turn-gone.ensures (SideStands-keeps a.keeps f.waits) a.stands)
 
-pub assign_either-returns : goal.assign_either-returns
-assign_either-returns t c = record { executed = both_executed c.args.span c.in_ok-waits.ensures.forked c.in_ok-assign_at.ensures.executed c.turn-gone.ensures c.in_ok-assign_strings.ensures.executed c.in_ok-join.ensures.joined }
+pub assign_either-returns-in_err-assign_at-clause-keeps : goal.assign_either-returns-in_err-assign_at-clause-keeps
+assign_either-returns-in_err-assign_at-clause-keeps t c = Keeps-trans c.in_ok-waits.ensures.keeps c.assign_at.ensures.keeps
+
+pub assign_either-returns-in_err-assign_strings-clause-keeps : goal.assign_either-returns-in_err-assign_strings-clause-keeps
+assign_either-returns-in_err-assign_strings-clause-keeps t c = Keeps-trans c.in_ok-waits.ensures.keeps (Keeps-trans c.in_ok-assign_at.ensures.keeps c.assign_strings.ensures.keeps)
+
+pub assign_either-returns-in_err-join-clause-keeps : goal.assign_either-returns-in_err-join-clause-keeps
+assign_either-returns-in_err-join-clause-keeps t c = Keeps_four c.in_ok-waits.ensures.keeps c.in_ok-assign_at.ensures.keeps c.in_ok-assign_strings.ensures.keeps c.join.ensures.keeps
+
+pub assign_either-returns-clause-keeps : goal.assign_either-returns-clause-keeps
+assign_either-returns-clause-keeps t c = Keeps_four c.in_ok-waits.ensures.keeps c.in_ok-assign_at.ensures.keeps c.in_ok-assign_strings.ensures.keeps c.in_ok-join.ensures.keeps
+
+pub assign_either-returns-clause-executed : goal.assign_either-returns-clause-executed
+assign_either-returns-clause-executed t c = both_executed c.args.span c.in_ok-waits.ensures.forked c.in_ok-assign_at.ensures.executed c.turn-gone.ensures c.in_ok-assign_strings.ensures.executed c.in_ok-join.ensures.joined
