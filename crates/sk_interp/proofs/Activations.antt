@@ -97,7 +97,7 @@ turn_on active n k span cond body s h =
     ap (λ m. turns kept active m span cond body s) e
 
 -- no argument is left
-pub no_args : (params : List ParamDef) → ref_args params [] ≡ []
+pub no_args : (params : List ParamDef) → ref_args {L = Log} params [] ≡ []
 no_args [] = refl
 no_args (p ∷ ps) = refl
 

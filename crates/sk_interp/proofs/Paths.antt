@@ -32,7 +32,7 @@ no e = absurd (true≢false (sym e))
 -- ---- what keeps memory and log
 
 module _ (span : Span) (s : Recorded Log) where
-  failed : {A : Type 0} → Keeps span s (Fails {A = A} span s.log)
+  failed : (span ≡ span) × (s.log ≡ s.log)
   failed = (refl, refl)
 
   keeps_then : {A B : Type 0} (m : Going Log A) (k : A → Traced Log B) → Keeps span s m → ((a : A) → Keeps span s (k a s)) → Keeps span s (and_then m k)
@@ -80,7 +80,7 @@ module _ (span : Span) (s : Recorded Log) where
   binary_keeps width op.Mul a b e ha hb = both_keep a b (operator width span op.Mul) ha hb (λ v w. operands_keep width op.Mul (λ x y. refl) (λ x y. failed) (λ x y. failed) (λ x n. failed) (operand v) (operand w))
   binary_keeps width op.Div a b e ha hb = both_keep a b (operator width span op.Div) ha hb (λ v w. operands_keep width op.Div (λ x y. divided_keeps y _) (λ x y. failed) (λ x y. failed) (λ x n. failed) (operand v) (operand w))
   binary_keeps width op.Rem a b e ha hb = both_keep a b (operator width span op.Rem) ha hb (λ v w. operands_keep width op.Rem (λ x y. divided_keeps y _) (λ x y. failed) (λ x y. failed) (λ x n. failed) (operand v) (operand w))
-  binary_keeps width op.Add a b e ha hb = both_keep a b (operator width span op.Add) ha hb (λ v w. operands_keep width op.Add (λ x y. refl) (λ x y. failed) (λ x y. failed) (λ x n. failed) (operand v) (operand w))
+  binary_keeps width op.Add a b e ha hb = both_keep a b (operator width span op.Add) ha hb (λ v w. operands_keep width op.Add (λ x y. refl) (λ x y. failed) (λ x y. refl) (λ x n. failed) (operand v) (operand w))
   binary_keeps width op.Sub a b e ha hb = both_keep a b (operator width span op.Sub) ha hb (λ v w. operands_keep width op.Sub (λ x y. refl) (λ x y. failed) (λ x y. failed) (λ x n. failed) (operand v) (operand w))
   binary_keeps width op.Shl a b e ha hb = no e
   binary_keeps width op.Shr a b e ha hb = no e
@@ -98,7 +98,7 @@ module _ (span : Span) (s : Recorded Log) where
 
   to_int_keeps : (v : Value) → Keeps span s (lift (to_int span v) s)
   to_int_keeps (value.Bit b) = refl
-  to_int_keeps (value.Int n) = refl
+  to_int_keeps (value.Int n) = failed
   to_int_keeps value.Null = failed
   to_int_keeps (value.Place p) = failed
   to_int_keeps (value.Array' shape vs) = failed
@@ -209,7 +209,10 @@ module _ (span : Span) where
   number_whole is z (step.Skips at) = refl
 
   -- the end of a step that keeps memory and log
-  same_end : {A : Type 0} (t : Recorded Log) (at : Span) (log : Log) → (at ≡ span) × (log ≡ t.log) → Fails {A = A} at log ≡ Fails span t.log
+  abbrev ended : {A : Type 0} → Span → Log → Going Log A
+  ended at log = Fails at log
+
+  same_end : {A : Type 0} (t : Recorded Log) (at : Span) (log : Log) → (at ≡ span) × (log ≡ t.log) → ended {A = A} at log ≡ ended span t.log
   same_end t at log h = ap (λ x. Fails x log) h.0 ∙ ap (λ x. Fails span x) h.1
 
   all_fail : (t : Recorded Log) (m : Going Log Value) → Keeps span t m → and_then {B = Value} m (λ v. fail span) ≡ Fails span t.log
