@@ -3,6 +3,7 @@ pub mod Equal
 pub mod Ripples
 pub mod Operating
 pub mod Memories
+pub mod Machines
 pub mod Paths
 pub mod Activations
 pub mod Running
