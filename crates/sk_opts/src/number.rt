@@ -90,8 +90,8 @@ fn long_number(word: &[u8]) -> Option<u64>
     number_to(9_999_999_999, word)
 }
 
-// What stands between the commas of a word.
-fn pieces_of(alloc: Global, word: &[u8]) -> Result<Vec<&[u8]>, AllocError>
+/// What stands between the commas of a word.
+pub fn pieces_of(alloc: Global, word: &[u8]) -> Result<Vec<&[u8]>, AllocError>
     ensures { IfOk result (λ pieces. map (λ piece. piece.now) pieces.items ≡ between_commas word.now) }
 {
     word.split(|b| *b == b',').collect(alloc)
