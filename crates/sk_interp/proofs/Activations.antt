@@ -12,7 +12,6 @@ use Rattle.sk_path.specs.Recording.{Recorded, Going, Goes, Fails, Skips, Traced,
 use Rattle.sk_model.specs.Operators.{operator}
 use Rattle.std.proofs.lemmas.List.{drop_all}
 use Rattle.std.proofs.lemmas.Bool.{lt-ltb}
-use Rattle.sk_prog.specs.declared.value.Value.TheVariants as value
 use Rattle.sk_prog.specs.declared.ids.FunId.{FunId}
 use Rattle.sk_prog.specs.declared.ids.StructId.{StructId}
 use Rattle.sk_prog.specs.declared.expr.PExpr.{PExpr}

@@ -6,4 +6,5 @@ pub mod Memories
 pub mod Machines
 pub mod Paths
 pub mod Activations
+pub mod Forms
 pub mod Running

@@ -4,7 +4,7 @@ use Rattle.sk_model.specs.Step.{State, Comp}
 use Rattle.sk_model.specs.Step as step
 use Rattle.sk_path.specs.declared.log.Log.{Log}
 use Rattle.sk_path.specs.declared.step.Step.{Step}
-use Rattle.sk_path.specs.Recording.{Recorded, Going, Goes, Fails, Skips, lifted, lift}
+use Rattle.sk_path.specs.Recording.{Goes, lifted}
 use Rattle.sk_path.specs.Kept.{has_room, kept}
 use Rattle.sk_interp.specs.declared.stop.Stop.{Stop}
 use Rattle.sk_interp.specs.declared.stop.Stop.TheVariants.{Failed, Skipped, NoMemory}

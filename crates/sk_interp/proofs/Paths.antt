@@ -1,5 +1,5 @@
 -- Expressions that leave the state as it is, and paths.
-use Rattle.std.proofs.Common.{◌≡◌, ℕ, zero, suc, ℤ, pos, negsuc, true, false, true≢false, List, [], ◌∷◌, ◌++◌, refl, sym, ap, subst, ◌∙◌, Option, Some, None}
+use Rattle.std.proofs.Common.{◌≡◌, ℕ, zero, suc, ℤ, pos, negsuc, false, true≢false, List, [], ◌∷◌, ◌++◌, refl, sym, ap, subst, ◌∙◌, Option, Some, None}
 use Rattle.std.specs.Prelude.{Bool, IsTrue, option_and_then, slice_index_or}
 use Rattle.sk_base.specs.declared.span.Span.{Span}
 use Rattle.sk_base.specs.declared.name.Name.{Name}
@@ -15,7 +15,7 @@ use Rattle.sk_prog.specs.declared.expr.PEForm.TheVariants as eform
 use Rattle.sk_model.specs.Step.{Comp}
 use Rattle.sk_model.specs.Step as step
 use Rattle.sk_path.specs.declared.log.Log.{Log}
-use Rattle.sk_path.specs.Recording.{Recorded, Going, Goes, Fails, Skips, Traced, and_then, pure, fail, lifted, lift}
+use Rattle.sk_path.specs.Recording.{Recorded, Going, Goes, Fails, Skips, Traced, and_then, fail, lifted, lift}
 use Rattle.sk_model.specs.Values.{element}
 use Rattle.sk_model.specs.Operators.{Operand, Number, OneBit, Bits, Reference, operand, divided, number_operator, bit_operator, bits_operator, shift, on_operands, operator, to_int}
 use Rattle.sk_model.specs.Heap.{blank, record_at, Root, Variable, Field, Location, at_root, read_root, read_field}

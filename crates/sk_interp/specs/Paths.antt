@@ -3,7 +3,7 @@
 -- An expression is steady where it leaves memory and log as they are, and fails, if it does, with the span of the statement that it
 -- stands in. A variable, a field of what an expression stands for, and an element by a steady index of such a thing, are
 -- paths: what a path gives is what stands where it names a location as a target.
-use Rattle.std.specs.Prelude.{◌≡◌, Bool, true, false, ℤ, List, [], ◌∷◌, Option, Some, None, option_and_then}
+use Rattle.std.specs.Prelude.{◌≡◌, Bool, true, false, ℤ, List, [], ◌∷◌, Option, Some, option_and_then}
 use Rattle.sk_base.specs.declared.span.Span.{Span}
 use Rattle.sk_prog.specs.declared.value.Value.{Value}
 use Rattle.sk_prog.specs.declared.expr.BinOp.{BinOp}

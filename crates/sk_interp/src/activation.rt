@@ -864,7 +864,13 @@ impl Activation<'_> {
     /// Adds a number to the cost.
     #[cycle(run)]
     #[inline(never)]
-    fn minimize(&self, room: u32, machine: &mut Machine, span: Span, e: &PExpr) -> Result<Flow, Stop>
+    fn minimize(
+        &self,
+        room: u32,
+        machine: &mut Machine,
+        span: Span,
+        e: &PExpr,
+    ) -> Result<Flow, Stop>
         requires bits_low { 2 ≤ self.now.bounds.int_bits }
         requires bits_high { self.now.bounds.int_bits ≤ 32 }
         ensures { RecordsAs flow_of result machine.new (minimize kept self.now.depth span (does_in self.now e.now) machine.old) }

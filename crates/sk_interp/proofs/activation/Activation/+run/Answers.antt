@@ -1,9 +1,11 @@
-use Rattle.std.proofs.Common.{◌≡◌, Some, None, sym, ap, subst, ◌∙◌, arith}
+use Rattle.std.proofs.Common.{◌≡◌, Some, None, length, sym, ap, subst, ◌∙◌, arith}
+use Rattle.std.specs.Prelude.{nat_le}
 use Rattle.std.specs.Option.{option_copied}
 use Rattle.std.proofs.lemmas.Result.{err_from_is_err_and}
-use Rattle.sk_interp.specs.Records.{Records}
+use Rattle.sk_interp.specs.Records.{Records, RecordsAs}
 use Rattle.sk_interp.specs.Calling.{callee, called_of, flow_of, does_in}
 use Rattle.sk_interp.proofs.Activations.{index_gives, slice_gives, path_goes, path_stops, call_fails, call_goes, call_stops, with_slots, back_over, call_does, new_does, braces_does}
+use Rattle.sk_interp.proofs.Forms.{number_gives, member_gives, unary_gives, cond_gives, to_int_gives, pad_gives, declare_does, assign_does, reorder_fails}
 use Rattle.sk_interp.proofs.activation.Activation.+run.Goals as goal
 
 pub call-returns-in-None : goal.call-returns-in-None
@@ -53,3 +55,32 @@ eval-returns-else-is_path t c = index_gives c.args.self.now c.args.e.now c.args.
 
 pub eval-returns-in-Slice : goal.eval-returns-in-Slice
 eval-returns-in-Slice t c = slice_gives c.args.self.now c.args.e.now c.args.span c.args.machine.now c.slice.result c.slice.new.machine c.in-Slice.base c.in-Slice.from _ _ c.in-Slice.length c.in-Slice.is c.get-in-Slice.ensures c.get-in-Slice-2.ensures c.slice.ensures
+
+pub eval-returns-in-Number : goal.eval-returns-in-Number
+eval-returns-in-Number t c = number_gives c.args.self.now c.args.e.now c.args.span c.args.machine.now c.literal_value.result c.in-Number.n c.in-Number.is c.literal_value.ensures
+
+pub eval-returns-in-Member : goal.eval-returns-in-Member
+eval-returns-in-Member t c = member_gives c.args.self.now c.args.e.now c.args.span c.args.machine.now c.member.result c.member.new.machine c.in-Member.base _ c.in-Member.s c.in-Member.field c.in-Member.is c.get-in-Member.ensures c.member.ensures
+
+pub eval-returns-in-Unary : goal.eval-returns-in-Unary
+eval-returns-in-Unary t c = unary_gives c.args.self.now c.args.e.now c.args.span c.args.machine.now c.unary.result c.unary.new.machine c.in-Unary.op c.in-Unary.of _ c.in-Unary.is c.get-in-Unary.ensures c.unary.ensures
+
+pub eval-returns-in-Cond : goal.eval-returns-in-Cond
+eval-returns-in-Cond t c = cond_gives c.args.self.now c.args.e.now c.args.span c.args.machine.now c.cond.result c.cond.new.machine c.in-Cond.cond c.in-Cond.then c.in-Cond.other _ _ _ c.in-Cond.is c.get-in-Cond.ensures c.get-in-Cond-2.ensures c.get-in-Cond-3.ensures c.cond.ensures
+
+pub eval-returns-in-ToInt : goal.eval-returns-in-ToInt
+eval-returns-in-ToInt t c = to_int_gives c.args.self.now c.args.e.now c.args.span c.args.machine.now c.number_of.result c.number_of.new.machine c.in-ToInt.a _ c.in-ToInt.is c.get-in-ToInt.ensures c.number_of.ensures
+
+pub eval-returns-in-Pad : goal.eval-returns-in-Pad
+eval-returns-in-Pad t c = pad_gives c.args.self.now c.args.e.now c.args.span c.args.machine.now c.pad.result c.pad.new.machine c.in-Pad.a _ c.in-Pad.is c.get-in-Pad.ensures c.pad.ensures
+
+pub exec-returns-in-Some : goal.exec-returns-in-Some
+exec-returns-in-Some t c = subst (λ m. RecordsAs flow_of c.set.result c.set.new.machine m) (sym (declare_does c.args.self.now c.args.stmt.now c.args.machine.now c.in-Declare.slot c.in-Declare.name c.in-Declare.ty c.in-Declare.value c.in-Some.e c.in-Declare.is c.in-Some.is)) c.set.ensures
+
+pub exec-returns-in-Assign : goal.exec-returns-in-Assign
+exec-returns-in-Assign t c = subst (λ m. RecordsAs flow_of c.assign.result c.assign.new.machine m) (sym (assign_does c.args.self.now c.args.stmt.now c.args.machine.now c.in-Assign.target c.in-Assign.value c.in-Assign.is)) c.assign.ensures
+
+pub exec-returns-else-has_one_order : goal.exec-returns-else-has_one_order
+exec-returns-else-has_one_order t c =
+    let many = ap (λ l. nat_le (length l) 1) (sym c.as_slice-in-Reorder.ensures) ∙ sym c.has_one_order.ensures ∙ c.if-has_one_order.false in
+    reorder_fails c.args.self.now c.args.stmt.now c.args.machine.now c.in-Reorder.stmts c.in-Reorder.is many
