@@ -18,7 +18,7 @@ use Rattle.sk_values.specs.Arguments.{arguments}
 use Rattle.sk_values.specs.declared.fault.ArgumentFault.{ArgumentFault}
 use Rattle.sk_values.specs.declared.fault.ArgumentFault.TheVariants as argument
 use Rattle.sk_front.specs.Front.{IsExpandedTo}
-use Rattle.sk_direct.specs.declared.callee.Callee.{Callee}
+use Rattle.sk_direct.specs.declared.names.Callee.{Callee}
 use Rattle.sk_direct.specs.declared.fault.ExecFault.{ExecFault}
 use Rattle.sk_direct.specs.declared.fault.ExecFault.TheVariants as fault
 use Rattle.sk_direct.specs.declared.executing.Executed.{Executed}

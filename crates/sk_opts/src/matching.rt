@@ -108,11 +108,7 @@ fn value_match(alloc: Global, setting: Setting, text: &str) -> Result<Matched, A
 }
 
 /// What the text of an option in the matches says of it.
-pub fn match_of(
-    alloc: Global,
-    setting: Setting,
-    text: Option<&str>,
-) -> Result<Matched, AllocError>
+pub fn match_of(alloc: Global, setting: Setting, text: Option<&str>) -> Result<Matched, AllocError>
     ensures { IfOk result (λ matched. matched ≡ match_of setting (option_map (λ s. s.now) text.entry)) }
 {
     match text {

@@ -132,7 +132,7 @@ fn answer(
 }
 
 /// The same, of an expansion and the numbers of a line.
-fn traced(
+fn of_expansion(
     alloc: Global,
     it: &Expansion,
     holes: &Option<List<u64>>,
@@ -177,7 +177,7 @@ pub fn trace_text(
         Ok(it) => it,
         Err(fault) => return Err(fault),
     };
-    match traced(alloc, &it, holes, name, words) {
+    match of_expansion(alloc, &it, holes, name, words) {
         Ok(traced) => Ok(traced),
         Err(_) => Err(SketchFault::Memory),
     }

@@ -1,7 +1,7 @@
 use Rattle.std.proofs.Common.{refl, sym, ◌∙◌}
 use Rattle.sk_model.specs.Expand.{are_ordinary}
 use Rattle.sk_direct.proofs.Ranks.{rank_zero, rank_at, named_at, callee_at, none_named}
-use Rattle.sk_direct.proofs.callee.callee_of.Goals as goal
+use Rattle.sk_direct.proofs.names.callee_of.Goals as goal
 
 pub loop-place-init : goal.loop-place-init
 loop-place-init c = record {

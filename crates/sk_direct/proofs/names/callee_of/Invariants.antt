@@ -2,7 +2,7 @@ use Rattle.std.proofs.Common.{◌≡◌, drop}
 use Rattle.sk_model.specs.Parts.{rank}
 use Rattle.sk_model.specs.Expand.{are_ordinary}
 use Rattle.sk_direct.specs.Direct.{named_from}
-use Rattle.sk_direct.proofs.callee.callee_of.Given as goal
+use Rattle.sk_direct.proofs.names.callee_of.Given as goal
 
 -- no function so far has the name, and the number is the rank of the next
 abbrev pub invariant-loop-place : goal.invariant-loop-place
