@@ -8,7 +8,7 @@ usage_text =
     ++ codes "\n"
     ++ codes "sketch synth [OPTION].. < SKETCH               writes the completed sketch, or the line //@ none\n"
     ++ codes "sketch exec [OPTION].. NAME VALUE.. < PROGRAM  writes what the function NAME gives for the values\n"
-    ++ codes "sketch trace [OPTION].. NAME VALUE.. < SKETCH  writes the same of a filling, and before it each step of the run\n"
+    ++ codes "sketch trace [OPTION].. NAME VALUE.. < SKETCH  writes each step of that run, in a filling\n"
     ++ codes "sketch --help                                  writes this help\n"
     ++ codes "sketch --version                               writes the version\n"
     ++ codes "\n"

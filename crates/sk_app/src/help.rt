@@ -13,7 +13,7 @@ fn usage() -> &'static [u8]
 
 sketch synth [OPTION].. < SKETCH               writes the completed sketch, or the line //@ none
 sketch exec [OPTION].. NAME VALUE.. < PROGRAM  writes what the function NAME gives for the values
-sketch trace [OPTION].. NAME VALUE.. < SKETCH  writes the same of a filling, and before it each step of the run
+sketch trace [OPTION].. NAME VALUE.. < SKETCH  writes each step of that run, in a filling
 sketch --help                                  writes this help
 sketch --version                               writes the version
 
