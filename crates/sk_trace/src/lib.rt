@@ -1,28 +1,22 @@
 //! A run, step by step.
 #![tactic(auto)]
 
+mod shown;
+
 ghost use Rattle.std.specs.Prelude.{◌≡◌, ◌≤◌, IfOk, length, nat_lt, take};
 ghost use Rattle.sk_model.specs.Run.{run};
 ghost use Rattle.sk_path.specs.Path.{path};
 ghost use Rattle.sk_trace.specs.Most.{most_steps};
 
-use sk_base::{Bounds, List};
-use sk_interp::run_with_log;
-use sk_model::Outcome;
-use sk_path::Step;
+pub use shown::Trace;
+use sk_base::Bounds;
+use sk_interp::{Logged, run_with_log};
+use sk_path::Log;
 use sk_prog::{FunId, Prog, Value};
 use std::alloc::{AllocError, Global};
 
 /// The most steps that are shown.
 const MOST_STEPS: usize = 65_536;
-
-/// A run: its first steps, whether there are others, and how it ends.
-#[derive(Debug, Drop)]
-pub struct Trace {
-    pub steps: List<Step>,
-    pub more: bool,
-    pub outcome: Outcome,
-}
 
 /// Runs a function of a program on arguments, one for each of its parameters. The outcome is that of the run. The steps are
 /// the first 65,536 of the run, or all where there are fewer.
@@ -43,10 +37,11 @@ pub fn trace(
     ensures steps { IfOk result (λ trace. trace.steps ≡ take most_steps (path prog.now f args.now bounds.now)) }
     ensures more { IfOk result (λ trace. trace.more ≡ nat_lt most_steps (length (path prog.now f args.now bounds.now))) }
 {
-    let run = run_with_log(alloc, prog, f, args, bounds, MOST_STEPS)?;
+    let Logged { outcome, log } = run_with_log(alloc, prog, f, args, bounds, MOST_STEPS)?;
+    let Log { steps, more, .. } = log;
     Ok(Trace {
-        steps: run.log.steps,
-        more: run.log.more,
-        outcome: run.outcome,
+        steps,
+        more,
+        outcome,
     })
 }
