@@ -329,14 +329,20 @@ fn tell_false(out: &mut Vec<u8>, line: &[u8], who: &[u8], holds: bool) -> Result
 }
 
 // Tells what searches do otherwise than a line says.
-fn judge_found(
-    line: &[u8],
-    searches: Searches,
-    out: &mut Vec<u8>,
-) -> Result<(), AllocError> {
+fn judge_found(line: &[u8], searches: Searches, out: &mut Vec<u8>) -> Result<(), AllocError> {
     tell_false(out, line, b"first call of a session", searches.calls.first)?;
-    tell_false(out, line, b"second call of a session", searches.calls.second)?;
-    tell_false(out, line, b"clauses of the first call first", searches.calls.begins)?;
+    tell_false(
+        out,
+        line,
+        b"second call of a session",
+        searches.calls.second,
+    )?;
+    tell_false(
+        out,
+        line,
+        b"clauses of the first call first",
+        searches.calls.begins,
+    )?;
     tell_false(out, line, b"search of its own", searches.alone)
 }
 

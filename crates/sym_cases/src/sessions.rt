@@ -122,14 +122,7 @@ fn calls(
 {
     let mut session = Session::new(alloc, expanded, bounds)?;
     let mut pairs = List::new(alloc);
-    call_twice(
-        alloc,
-        &mut session,
-        expanded,
-        bounds,
-        &mut pairs,
-        wanted,
-    )
+    call_twice(alloc, &mut session, expanded, bounds, &mut pairs, wanted)
 }
 
 // Whether a search in a session of its own finds what is wanted.
@@ -143,14 +136,7 @@ fn finds(
     requires askable { IsAskable expanded.now bounds.now }
 {
     let mut pairs = List::new(alloc);
-    let found = synthesise(
-        alloc,
-        expanded,
-        bounds,
-        None,
-        &mut pairs,
-        &unbounded(),
-    )?;
+    let found = synthesise(alloc, expanded, bounds, None, &mut pairs, &unbounded())?;
     Ok(is_found(&found, wanted))
 }
 
