@@ -608,4 +608,3 @@ module _ {words : List (List ℕ)} {r : Ending} {f : Effect} (a : Answers words 
 -- a call for a line `synth` without a certificate
 pub serves_synth : (l : Line) (set : Set) (budget : Budget) (r : Ending) (f : Effect) → l ≡ line.Synth set budget false → Synthesises set budget r f → Serves l r f
 serves_synth l set budget r f is s = subst (λ x. Serves x r f) (sym is) s
-

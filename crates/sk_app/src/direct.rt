@@ -104,13 +104,7 @@ fn done(alloc: Global, set: &Set, job: &Job, text: &[u8]) -> Result<Traced, Sket
 }
 
 /// Does a job for a text, and writes what comes of it.
-fn run_text<K: Sink>(
-    alloc: Global,
-    set: &Set,
-    job: &Job,
-    text: &[u8],
-    sink: &mut K,
-) -> Ending
+fn run_text<K: Sink>(alloc: Global, set: &Set, job: &Job, text: &[u8], sink: &mut K) -> Ending
     requires short { length text.now ≤ most_bytes }
     requires set { IsInRanges set.now }
     ensures runs { RunsText set.now job.now text.now result (K.faults sink.old) (K.faults sink.new) (K.held sink.old) (K.held sink.new) }

@@ -6,10 +6,12 @@ use Rattle.sk_dag.specs.declared.node.BoolId.{BoolId}
 use Rattle.sk_dag.specs.Graph.{Graph, Grows, HasBool}
 use Rattle.sk_dag.specs.Eval.{bool_value}
 use Rattle.sk_dag.proofs.EvalLemmas.{Grows-refl}
+use Rattle.sk_arr.proofs.Makers.{Keeps-refl}
 use Rattle.sk_simplify.specs.Reduct.{KeepsRoots}
 use Rattle.sk_model.specs.declared.expanded.Expanded.{Expanded}
 use Rattle.sk_model.specs.declared.expanded.Input.{Input}
 use Rattle.sk_oblig.specs.Nodes.{SaysFine}
+use Rattle.sk_oblig.proofs.Whole.{root_there}
 
 pub moved_value : {old new to : Graph} (root simple r : BoolId) (made : List BoolId) → KeepsRoots old (root ∷ []) new made → made ≡ simple ∷ []
     → ((g : Graph) → Grows to g → (e : Env) → bool_value g e r ≡ bool_value new e simple)
@@ -26,3 +28,5 @@ fine_moved {d} fine r is there same = record {
       let both = is.value d e (Grows-refl d) range in
       (λ h. both.0 (sym (same g m e) ∙ h), λ h. same g m e ∙ both.1 h);
 }
+
+pub ruleset moving = (root_there, Keeps-refl)

@@ -1,6 +1,6 @@
 //! What an input asks of a choice, in a graph that holds more.
 
-ghost use Rattle.std.specs.Prelude.{◌≡◌, ◌∷◌, [], IfOk, OnOk};
+ghost use Rattle.std.specs.Prelude.{◌≡◌, ◌∷◌, [], IfOk};
 ghost use Rattle.sk_dag.specs.declared.env.Env.{Env};
 ghost use Rattle.sk_dag.specs.Graph.{Graph, Grows, HasBool};
 ghost use Rattle.sk_dag.specs.Eval.{bool_value, Keeps};
@@ -26,11 +26,11 @@ fn single(roots: &[BoolId]) -> Result<BoolId, AllocError>
 }
 
 // A node with the value of one of another graph, which is simplified on the way.
-#[tactic(auto, using(sk_oblig::proofs::Whole::put))]
+#[tactic(auto, using(crate::proofs::Moved::moving))]
 fn moved(alloc: Global, to: &mut Dag, dag: &Dag, root: BoolId) -> Result<BoolId, AllocError>
     requires width { dag.now.bits ≡ to.old.bits }
     requires root { HasBool dag.now.nodes root }
-    ensures keeps { OnOk result (Keeps to.old to.new) }
+    ensures keeps { Keeps to.old to.new }
     ensures there { IfOk result (λ r. HasBool to.new.nodes r) }
     ensures value { IfOk result (λ r. (g : Graph) → Grows to.new g → (e : Env) → bool_value g e r ≡ bool_value dag.now e root) }
 {
@@ -42,6 +42,7 @@ fn moved(alloc: Global, to: &mut Dag, dag: &Dag, root: BoolId) -> Result<BoolId,
 
 /// Whether an input does not speak against the choice, where that is in range. It is put in a graph of its own first, which
 /// is simplified.
+#[tactic(auto, using(crate::proofs::Moved::moving))]
 pub(crate) fn fine_in(
     alloc: Global,
     to: &mut Dag,
@@ -52,7 +53,7 @@ pub(crate) fn fine_in(
 ) -> Result<BoolId, AllocError>
     requires width { to.old.bits ≡ bounds.now.int_bits }
     requires askable { IsAskable expanded.now bounds.now }
-    ensures keeps { OnOk result (Keeps to.old to.new) }
+    ensures keeps { Keeps to.old to.new }
     ensures fine { IfOk result (λ r. SaysFine to.new expanded.now bounds.now limit input.now r) }
 {
     let mut dag = Dag::new(alloc, bounds.int_bits);

@@ -1,6 +1,6 @@
 //! Whether an input of an obligation speaks against a choice, as a node.
 
-ghost use Rattle.std.specs.Prelude.{◌≡◌, IfOk, OnOk};
+ghost use Rattle.std.specs.Prelude.{◌≡◌, IfOk};
 ghost use Rattle.std.specs.Option.{option_copied};
 ghost use Rattle.sk_dag.specs.Eval.{Keeps};
 ghost use Rattle.sk_arr.specs.Shapes.{AllStand};
@@ -31,7 +31,7 @@ fn check_harness(
     requires width { dag.old.bits ≡ bounds.now.int_bits }
     requires sites { HasItsSites expanded.now }
     requires args { AllStand dag.old args.now }
-    ensures keeps { OnOk result (Keeps dag.old dag.new) }
+    ensures keeps { Keeps dag.old dag.new }
     ensures check { IfOk result (λ r. IsCheck dag.new expanded.now (option_copied choice.entry) bounds.now limit (obligation.Harness f) args.now r) }
 {
     let made = execute(alloc, dag, expanded, f, args, bounds, choice)?;
@@ -55,7 +55,7 @@ fn check_implementation(
     requires width { dag.old.bits ≡ bounds.now.int_bits }
     requires sites { HasItsSites expanded.now }
     requires args { AllStand dag.old args.now }
-    ensures keeps { OnOk result (Keeps dag.old dag.new) }
+    ensures keeps { Keeps dag.old dag.new }
     ensures check { IfOk result (λ r. IsCheck dag.new expanded.now (option_copied choice.entry) bounds.now limit (obligation.Implements f g) args.now r) }
 {
     let reference = execute(alloc, dag, expanded, g, args, bounds, choice)?;
@@ -85,7 +85,7 @@ pub fn check(
     requires width { dag.old.bits ≡ bounds.now.int_bits }
     requires sites { HasItsSites expanded.now }
     requires args { AllStand dag.old args.now }
-    ensures keeps { OnOk result (Keeps dag.old dag.new) }
+    ensures keeps { Keeps dag.old dag.new }
     ensures check { IfOk result (λ r. IsCheck dag.new expanded.now (option_copied choice.entry) bounds.now limit obligation args.now r) }
 {
     match obligation {

@@ -9,8 +9,8 @@ ghost use Rattle.sk_front.specs.Front.{IsFaultOfExpansion, IsPlacedFault, IsCaus
 ghost use Rattle.sk_direct.specs.declared.fault.ExecFault.{ExecFault};
 ghost use Rattle.sk_direct.specs.Direct.{IsFilled, IsCalled, IsAnswer, IsNotRun, IsRunText, IsExecuted, IsRefusedAs, IsRunAs};
 
-use crate::names::{callee_of, is_ordinary};
 use crate::fault::ExecFault;
+use crate::names::{callee_of, is_ordinary};
 use sk_base::{Bounds, Name};
 use sk_front::{SketchFault, expansion_of};
 use sk_interp::exec;

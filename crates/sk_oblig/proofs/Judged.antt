@@ -1,5 +1,5 @@
 -- What runs on constants say of an input and a choice.
-use Rattle.std.proofs.Common.{◌≡◌, ℕ, Bool, true, false, true≢false, ◌⊎◌, List, slice_get, Option, Some, ◌↔◌, sym, ap, subst, ◌∙◌}
+use Rattle.std.proofs.Common.{◌≡◌, ℕ, Bool, true, List, slice_get, Option, Some, ◌↔◌, sym, ap, subst, ◌∙◌}
 use Rattle.sk_base.specs.declared.bounds.Bounds.{Bounds}
 use Rattle.sk_dag.specs.declared.env.Env.{Env}
 use Rattle.sk_dag.specs.declared.node.BoolId.{BoolId}
@@ -15,18 +15,15 @@ use Rattle.sk_model.specs.declared.expanded.Input.{Input}
 use Rattle.sk_model.specs.declared.expanded.Obligation.{Obligation}
 use Rattle.sk_model.specs.declared.outcome.Outcome.{Outcome}
 use Rattle.sk_model.specs.Obligations.{obligations}
-use Rattle.sk_model.specs.Inputs.{IsInput}
 use Rattle.sk_model.specs.Fill.{InRange, fill}
 use Rattle.sk_model.specs.Meets.{cost_of, cost_on}
 use Rattle.sk_model.specs.Open.{run_open}
-use Rattle.sk_chosen.specs.Meeting.{IsBrokenUnder, cost_of_obligation_under}
-use Rattle.sk_query.specs.Queries.{IsOver, IsBad}
+use Rattle.sk_chosen.specs.Meeting.{cost_of_obligation_under}
 use Rattle.sk_arguments.specs.Constants.{AreConstant}
 use Rattle.sk_sym.specs.declared.outcome.SymOutcome.{SymOutcome}
 use Rattle.sk_sym.specs.Outcome.{IsOutcome, Says}
 use Rattle.sk_checks.specs.Checks.{IsCheck, IsBadUnder}
 use Rattle.sk_oblig.specs.Formulas.{IsAskable}
-use Rattle.sk_oblig.proofs.Whole.{bad_filling}
 use Rattle.sk_oblig.proofs.Speaking.{keeps_width}
 
 -- Whether it speaks against the choice
@@ -39,24 +36,6 @@ judged {d0} {d1} {x} {a} {bounds} {limit} o args shapes slice r e test same rang
     let check : IsCheck d1 x (Some a) bounds limit o shapes r = subst (λ (ss : List Shape). IsCheck d1 x (Some a) bounds limit o ss r) same checks in
     let both = check.value d1 e args (Grows-refl d1) range (are.worth d1 e (keeps.later d1 (Grows-refl d1))) in
     (λ h. both.0 (sym is ∙ h), λ h. is ∙ both.1 h)
-
--- what is said of an obligation's arguments is said of the input
-pub spoken : {x : Expanded} {bounds : Bounds} {a : Choice} {limit : Option ℕ} (input : Input) (o : Obligation) (args : List Value) (test : Bool)
-    → IsAskable x bounds → InRange x a → IsInput x.prog bounds input → slice_get (obligations x.prog) input.obligation ≡ Some o → args ≡ input.args
-    → (test ≡ true) ↔ IsBadUnder x a bounds limit o args → (test ≡ true) ↔ IsBad x bounds a limit input
-spoken {x} {bounds} {a} {limit} input o args test askable range is_input at same says = (forth, back)
-  where
-    Under : Option Obligation → Type 0
-    Under q = IsBrokenUnder x a bounds input.args q ⊎ IsOver limit (cost_of_obligation_under x a bounds input.args q)
-
-    forth : test ≡ true → IsBad x bounds a limit input
-    forth h = record { is_input = is_input; bad = (bad_filling (askable.met a range) limit input).0 (subst Under (sym at) (subst (IsBadUnder x a bounds limit o) same (says.0 h))) }
-
-    back : IsBad x bounds a limit input → test ≡ true
-    back h = says.1 (subst (IsBadUnder x a bounds limit o) (sym same) (subst Under at ((bad_filling (askable.met a range) limit input).1 h.bad)))
-
-pub silent : {x : Expanded} {bounds : Bounds} {a : Choice} {limit : Option ℕ} {input : Input} (test : Bool) → (test ≡ true) ↔ IsBad x bounds a limit input → test ≡ false → IsBad x bounds a limit input → ⊥
-silent test says is h = true≢false (sym (says.1 h) ∙ is)
 
 -- What it costs
 

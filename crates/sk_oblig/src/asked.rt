@@ -1,6 +1,6 @@
 //! Whether the input speaks against a choice, as a node.
 
-ghost use Rattle.std.specs.Prelude.{◌≡◌, ◌-◌, ◌≤◌, ◌+◌, true, IfOk, OnOk};
+ghost use Rattle.std.specs.Prelude.{◌≡◌, ◌-◌, ◌≤◌, ◌+◌, true, IfOk};
 ghost use Rattle.sk_dag.specs.Eval.{Keeps};
 ghost use Rattle.sk_holes.specs.Needs.{HasItsSites};
 ghost use Rattle.sk_model.specs.Fill.{InRange};
@@ -34,7 +34,7 @@ fn judges(
     requires sites { HasItsSites expanded.now }
     requires range { InRange expanded.now choice.now }
     requires any { has expanded.now.prog obligation ≡ true }
-    ensures keeps { OnOk result (Keeps dag.old dag.new) }
+    ensures keeps { Keeps dag.old dag.new }
     ensures bad { IfOk result (λ r. SaysBad dag.new expanded.now choice.now bounds.now limit obligation first r) }
 {
     let args = arguments(alloc, dag, params_of(&expanded.prog, obligation), first)?;
@@ -68,7 +68,7 @@ fn speaks(
     requires inbits { bounds.now.inbits ≤ bounds.now.int_bits - 1 }
     requires sites { HasItsSites expanded.now }
     requires range { InRange expanded.now choice.now }
-    ensures keeps { OnOk result (Keeps dag.old dag.new) }
+    ensures keeps { Keeps dag.old dag.new }
     ensures bad { IfOk result (λ r. SaysBad dag.new expanded.now choice.now bounds.now limit obligation first r) }
 {
     if has_inputs(&expanded.prog, obligation) {
@@ -112,7 +112,7 @@ pub(crate) fn any_speaks(
     requires inbits { bounds.now.inbits ≤ bounds.now.int_bits - 1 }
     requires sites { HasItsSites expanded.now }
     requires range { InRange expanded.now choice.now }
-    ensures keeps { OnOk result (Keeps dag.old dag.new) }
+    ensures keeps { Keeps dag.old dag.new }
     ensures bad { IfOk result (λ r. SaysAnyBad dag.new expanded.now choice.now bounds.now limit obligations.now r) }
 {
     let mut any = flag(dag, false)?;

@@ -1,6 +1,6 @@
-//! Whether an input speaks against a choice, and what the choice costs on it.
+//! Whether arguments speak against a choice, and what the choice costs on an input.
 
-ghost use Rattle.std.specs.Prelude.{◌≡◌, ◌↔◌, true, false, slice_get, Some, IfOk, IsTrue};
+ghost use Rattle.std.specs.Prelude.{◌≡◌, ◌↔◌, true, slice_get, Some, IfOk};
 ghost use Rattle.sk_dag.specs.Graph.{HasBool, HasCost};
 ghost use Rattle.sk_model.specs.declared.outcome.Outcome.{Outcome};
 ghost use Rattle.sk_model.specs.Fill.{InRange, fill};
@@ -9,7 +9,6 @@ ghost use Rattle.sk_model.specs.Meets.{cost_of as cost_of_outcome, cost_on};
 ghost use Rattle.sk_model.specs.Obligations.{obligations};
 ghost use Rattle.sk_model.specs.Open.{run_open};
 ghost use Rattle.sk_chosen.specs.Meeting.{cost_of_obligation_under};
-ghost use Rattle.sk_query.specs.Queries.{IsBad};
 ghost use Rattle.sk_sym.specs.Outcome.{Says};
 ghost use Rattle.sk_checks.specs.Checks.{IsBadUnder};
 ghost use Rattle.sk_oblig.specs.Formulas.{IsAskable};
@@ -68,31 +67,6 @@ pub(crate) fn speaks(
         input: List::new(alloc),
     };
     let yes = dag.eval_bool(root, &env)?;
-    Ok(yes)
-}
-
-/// Whether an input speaks against a choice: it breaks the filling, or it is a harness's and costs more than the limit.
-///
-/// # Errors
-///
-/// Memory is wanting, or what `execute` counts as that; or the input has an `int` that is no word of the width.
-pub fn speaks_on(
-    alloc: Global,
-    expanded: &Expanded,
-    bounds: &Bounds,
-    choice: &Choice,
-    limit: Option<u64>,
-    input: &Input,
-) -> Result<bool, AllocError>
-    requires askable { IsAskable expanded.now bounds.now }
-    requires range { InRange expanded.now choice.now }
-    requires is_input { IsInput expanded.now.prog bounds.now input.now }
-    ensures yes { IfOk result (λ yes. IsTrue yes → IsBad expanded.now bounds.now choice.now limit input.now) }
-    ensures no { IfOk result (λ yes. (yes ≡ false) → IsBad expanded.now bounds.now choice.now limit input.now → ⊥) }
-{
-    let obligation = obligation_of(alloc, &expanded.prog, input)?;
-    let args = input.args.as_slice();
-    let yes = speaks(alloc, expanded, bounds, obligation, args, choice, limit)?;
     Ok(yes)
 }
 

@@ -11,6 +11,6 @@ mod wanted;
 
 pub use formulas::formula;
 pub use inputs::input_of;
-pub use judging::{cost_of, speaks_on};
+pub use judging::cost_of;
 pub use range::in_range;
 pub use wanted::is_fine;

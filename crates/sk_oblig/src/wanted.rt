@@ -1,6 +1,6 @@
 //! Whether no listed input speaks against a choice, as a node.
 
-ghost use Rattle.std.specs.Prelude.{◌≡◌, slice_get, Some, IfOk, OnOk};
+ghost use Rattle.std.specs.Prelude.{◌≡◌, slice_get, Some, IfOk};
 ghost use Rattle.sk_dag.specs.Eval.{Keeps};
 ghost use Rattle.sk_holes.specs.Needs.{HasItsSites};
 ghost use Rattle.sk_model.specs.Obligations.{obligations};
@@ -28,7 +28,7 @@ fn spares(
     requires width { dag.old.bits ≡ bounds.now.int_bits }
     requires sites { HasItsSites expanded.now }
     requires found { slice_get (obligations expanded.now.prog) input.now.obligation ≡ Some obligation }
-    ensures keeps { OnOk result (Keeps dag.old dag.new) }
+    ensures keeps { Keeps dag.old dag.new }
     ensures fine { IfOk result (λ r. SaysFine dag.new expanded.now bounds.now limit input.now r) }
 {
     let args = constants(alloc, dag, input.args.as_slice())?;
@@ -65,7 +65,7 @@ pub fn is_fine(
     requires width { dag.old.bits ≡ bounds.now.int_bits }
     requires sites { HasItsSites expanded.now }
     requires listed { listed.now ≡ obligations expanded.now.prog }
-    ensures keeps { OnOk result (Keeps dag.old dag.new) }
+    ensures keeps { Keeps dag.old dag.new }
     ensures fine { IfOk result (λ r. SaysFine dag.new expanded.now bounds.now limit input.now r) }
 {
     match listed.get(input.obligation as usize) {
@@ -94,7 +94,7 @@ pub(crate) fn all_fine(
     requires width { dag.old.bits ≡ bounds.now.int_bits }
     requires sites { HasItsSites expanded.now }
     requires listed { listed.now ≡ obligations expanded.now.prog }
-    ensures keeps { OnOk result (Keeps dag.old dag.new) }
+    ensures keeps { Keeps dag.old dag.new }
     ensures fine { IfOk result (λ r. SaysAllFine dag.new expanded.now bounds.now limit inputs.now r) }
 {
     let mut all = flag(dag, true)?;

@@ -111,8 +111,7 @@ module _ (bounds : Bounds) (e : Expanded) (c : Choice) (fun : Fun) (words : List
   one_trace_of : (f : FunId) (o p : Outcome) (out other : List ℕ) → IsTraceOf bounds e c f fun words o out → IsTraceOf bounds e c f fun words p other → (o ≡ p) × (out ≡ other)
   one_trace_of f o p out other x y =
       let same : x.args ≡ y.args = cc (x.arguments_are, y.arguments_are) in
-      let ends : o ≡ p = x.outcome_is ∙ ap (λ args. run (fill e c) f args bounds) same ∙ sym y.outcome_is in
-      (
+      let ends : o ≡ p = x.outcome_is ∙ ap (λ args. run (fill e c) f args bounds) same ∙ sym y.outcome_is in (
         ends,
         x.out_is ∙ ap (λ args. trace_text fun (path (fill e c) f args bounds) o) same ∙ ap (trace_text fun (path (fill e c) f y.args bounds)) ends ∙ sym y.out_is,
       )

@@ -146,7 +146,15 @@ fn of_expansion(
     ensures { IfOk result (IsAnswer it.now.bounds it.now.prog it.now.expanded (choice_of holes.now) name.now words.now) }
 {
     let choice = choice_of(alloc, holes)?;
-    let traced = answer(alloc, &it.bounds, &it.prog, &it.expanded, &choice, name, words)?;
+    let traced = answer(
+        alloc,
+        &it.bounds,
+        &it.prog,
+        &it.expanded,
+        &choice,
+        name,
+        words,
+    )?;
     Ok(traced)
 }
 

@@ -1,2 +1,3 @@
 pub mod Fillable
 pub mod Inputs
+pub mod Sessions
