@@ -125,9 +125,9 @@ built_by (way.Trace holes) set name values = refl
 pub job_is_built : (set : Set) (job : Job) → is_unbuilt (line_of set job) ≡ false
 job_is_built set job = built_by job.way set job.name job.values
 
-record Same (s t : Set) (a b : Job) : Type 0 where
-  sets : s ≡ t
-  jobs : a ≡ b
+pub record Same (s t : Set) (a b : Job) : Type 0 where
+  pub sets : s ≡ t
+  pub jobs : a ≡ b
 
 same_jobs : (v w : Way) (s t : Set) (n m : List ℕ) (vs us : List (List ℕ)) → line_by v s n vs ≡ line_by w t m us → Same s t (record { name = n; values = vs; way = v }) (record { name = m; values = us; way = w })
 same_jobs way.Exec way.Exec s t n m vs us is =
