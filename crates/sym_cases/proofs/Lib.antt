@@ -1,3 +1,2 @@
 pub mod Fillable
 pub mod Inputs
-pub mod Sessions
