@@ -1,0 +1,172 @@
+//! Words that are no command line.
+use crate::near::nearest;
+use crate::note::Told;
+use crate::options::{CHOICES, Choice, Command, Range, number_of};
+use crate::slips::{Slip, halves, slip_of};
+use std::alloc::{AllocError, Global};
+
+// The commands and the lines of one word.
+const COMMANDS: [&[u8]; 6] = [
+    b"synth",
+    b"exec",
+    b"check",
+    b"self",
+    b"--help",
+    b"--version",
+];
+
+// How the program is called.
+fn push_usage(told: &mut Told) -> Result<(), AllocError> {
+    told.note(&[b"usage: sketch synth [OPTION].. < SKETCH"])?;
+    told.note(&[b"       sketch exec [OPTION].. NAME VALUE.. < PROGRAM"])?;
+    told.note(&[b"       sketch --help"])
+}
+
+// A question for a name that is nearly a word.
+fn push_question(told: &mut Told, near: Option<&[u8]>) -> Result<(), AllocError> {
+    match near {
+        Some(name) => told.title(&[b"; is ", name, b" meant?"]),
+        None => Ok(()),
+    }
+}
+
+fn tell_no_command(alloc: Global, told: &mut Told, word: &[u8]) -> Result<(), AllocError> {
+    told.title(&[b"'", word, b"' is no command"])?;
+    let near = nearest(alloc, word, &COMMANDS)?;
+    push_question(told, near)?;
+    push_usage(told)
+}
+
+// The names of the options of a command.
+fn names_of(alloc: Global, command: Command) -> Result<Vec<&'static [u8]>, AllocError> {
+    let mut names = Vec::new(alloc);
+    for choice in CHOICES {
+        if command.has(choice) {
+            names.push(choice.name())?;
+        }
+    }
+    Ok(names)
+}
+
+// Whether a word is a minus sign and digits.
+fn is_below_zero(word: &[u8]) -> bool {
+    match word {
+        [b'-', digits @ ..] => number_of(digits).is_some(),
+        _ => false,
+    }
+}
+
+fn tell_no_option(
+    alloc: Global,
+    told: &mut Told,
+    command: Command,
+    word: &[u8],
+) -> Result<(), AllocError> {
+    if command == Command::Exec && is_below_zero(word) {
+        told.title(&[b"a value below 0 stands behind --"])?;
+        return told.note(&[b"as in: sketch exec NAME -- ", word]);
+    }
+    let (name, _) = halves(word);
+    told.title(&[b"unknown option ", name])?;
+    let names = names_of(alloc, command)?;
+    let near = nearest(alloc, name, names.as_slice())?;
+    push_question(told, near)?;
+    told.note(&[b"sketch --help lists the options"])
+}
+
+// Appends the numbers of a range to the title.
+fn push_range(told: &mut Told, range: Range) -> Result<(), AllocError> {
+    told.title.number(range.low)?;
+    told.title(&[b" to "])?;
+    told.title.number(range.high)
+}
+
+fn tell_bad_value(
+    told: &mut Told,
+    choice: Choice,
+    range: Range,
+    value: &[u8],
+) -> Result<(), AllocError> {
+    told.title(&[choice.name(), b" is "])?;
+    push_range(told, range)?;
+    match number_of(value) {
+        Some(_) => told.title(&[b", not ", value]),
+        None => told.title(&[b", not '", value, b"'"]),
+    }
+}
+
+fn tell_no_value(told: &mut Told, choice: Choice, range: Range) -> Result<(), AllocError> {
+    told.title(&[choice.name(), b" wants a number behind it, "])?;
+    push_range(told, range)
+}
+
+fn tell_extra(told: &mut Told, command: Command, word: &[u8]) -> Result<(), AllocError> {
+    match command {
+        Command::Itself => told.title(&[b"self takes one number, and not '", word, b"' too"]),
+        _ => {
+            told.title(&[b"'", word, b"' is no option, and "])?;
+            told.title(&[command.word(), b" takes no other words"])?;
+            told.notes
+                .say(&[command.word(), b" reads standard input: sketch "])?;
+            told.notes.word(command.word())?;
+            told.note(&[b" < ", word])
+        }
+    }
+}
+
+fn tell_missing(told: &mut Told, command: Command) -> Result<(), AllocError> {
+    match command {
+        Command::Exec => {
+            told.title(&[b"exec wants the name of a function"])?;
+            told.note(&[b"as in: sketch exec NAME VALUE.. < PROGRAM"])
+        }
+        _ => told.title(&[command.word(), b" wants a number, 0 to 60"]),
+    }
+}
+
+fn tell_no_words(told: &mut Told) -> Result<(), AllocError> {
+    told.title(&[b"the words are a command and its options, and there are none"])?;
+    push_usage(told)
+}
+
+/// Tells why words are no command line.
+pub fn tell_words(alloc: Global, told: &mut Told, words: &[String]) -> Result<(), AllocError> {
+    match slip_of(words) {
+        Slip::NoWords => tell_no_words(told),
+        Slip::NoCommand(word) => tell_no_command(alloc, told, word),
+        Slip::Early(choice) => {
+            told.title(&[choice.name(), b" stands before the command"])?;
+            push_usage(told)
+        }
+        Slip::NotAlone(word) => {
+            told.title(&[word, b" stands alone"])?;
+            told.note(&[b"as in: sketch ", word])
+        }
+        Slip::NoOption(command, word) => tell_no_option(alloc, told, command, word),
+        Slip::OfOthers(command, choice) => {
+            told.title(&[choice.name(), b" is no option of ", command.word()])
+        }
+        Slip::NoValue(choice, range) => tell_no_value(told, choice, range),
+        Slip::BadValue(choice, range, value) => tell_bad_value(told, choice, range, value),
+        Slip::Valued(choice) => told.title(&[choice.name(), b" takes no value"]),
+        Slip::Twice(choice) => told.title(&[choice.name(), b" stands twice"]),
+        Slip::Extra(command, word) => tell_extra(told, command, word),
+        Slip::Missing(command) => tell_missing(told, command),
+        Slip::BadNumber(word) => told.title(&[b"self takes a number, 0 to 60, not '", word, b"'"]),
+        Slip::Nothing => push_usage(told),
+    }
+}
+
+/// Tells what of a line the program does not do.
+pub fn tell_not_built(told: &mut Told, words: &[String]) -> Result<(), AllocError> {
+    let first = match words.first() {
+        Some(word) => word.as_bytes(),
+        None => b"",
+    };
+    match Command::of(first) {
+        Some(Command::Check | Command::Itself) => {
+            told.title(&[b"'", first, b"' is a command that this program does not do"])
+        }
+        _ => told.title(&[b"this program writes no certificates: leave --cert out"]),
+    }
+}
