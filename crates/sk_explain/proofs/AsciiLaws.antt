@@ -15,7 +15,7 @@ use Rattle.sk_place.specs.declared.places.Place.{Place}
 use Rattle.sk_place.specs.declared.spots.Spot.{Spot}
 use Rattle.sk_place.specs.Lines.{is_feed, IsPlace, IsLineOf}
 use Rattle.sk_place.specs.Spots.{IsSpotOf, pad, marks, line_text, mark_text, excerpt_text, place_text, longest_shown}
-use Rattle.sk_told.specs.Notes.{is_note}
+use Rattle.sk_notes.specs.Notes.{is_note}
 use Rattle.sk_explain.specs.declared.explanation.Explanation.{Explanation}
 use Rattle.sk_explain.specs.Explained.{span_of, IsShown, IsSpot, IsExplanation, head_text, shown_text, title_text, layout}
 

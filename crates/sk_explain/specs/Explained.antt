@@ -12,7 +12,7 @@ use Rattle.sk_parser.specs.declared.fault.ParseFault.{ParseFault}
 use Rattle.sk_parser.specs.declared.fault.ParseFault.TheVariants as parse
 use Rattle.sk_place.specs.declared.spots.Spot.{Spot}
 use Rattle.sk_place.specs.Spots.{IsSpotOf, place_text, excerpt_text}
-use Rattle.sk_told.specs.Notes.{is_note}
+use Rattle.sk_notes.specs.Notes.{is_note}
 use Rattle.sk_explain.specs.declared.explanation.Explanation.{Explanation}
 
 -- The bytes that an ending names: of a fault of a text that it is told at a byte, one that is empty

@@ -5,11 +5,12 @@ ghost use Rattle.sk_explain.specs.Explained.{point, lex_span, parse_span, some_s
 use sk_app::{Ending, TextFault};
 use sk_base::{Name, Span};
 use sk_lexer::LexFault;
+use sk_notes::{Note, Told, tell_not_built, tell_words};
 use sk_parser::ParseFault;
 use sk_place::{Spot, push_excerpt, push_place, spot_of};
 use sk_told::{
-    Note, Told, push_warnings, tell_failed, tell_none, tell_not_built, tell_not_run, tell_size,
-    tell_skipped, tell_spent, tell_text, tell_type, tell_words,
+    push_warnings, tell_failed, tell_none, tell_not_run, tell_size, tell_skipped, tell_spent,
+    tell_text, tell_type,
 };
 use std::alloc::{AllocError, Global};
 

@@ -2,12 +2,11 @@
 ghost use Rattle.sk_opts.specs.Ranges.{IsInRanges};
 
 use crate::lines::expanded;
-use crate::near::near_by;
-use crate::note::Told;
 use sk_base::Name;
 use sk_direct::ExecFault;
 use sk_front::Expansion;
 use sk_model::Site;
+use sk_notes::{Told, near_by};
 use sk_opts::{Line, Set, Usage, options};
 use sk_place::place_of;
 use sk_prog::{Elem, Fun, ParamDef, StructDef, Ty};

@@ -1,9 +1,9 @@
 //! Texts that have no tokens, or read as no tree.
-use crate::note::Told;
 use crate::pieces::{bytes_of, is_mark, token_from, tokens_before, tokens_of};
 use sk_base::List;
 use sk_front::TextFault;
 use sk_lexer::LexFault;
+use sk_notes::Told;
 use sk_parser::{ParseFault, parse};
 use sk_place::place_of;
 use sk_tree::{Mark, Token};

@@ -1,8 +1,8 @@
 //! Runs that failed or were skipped.
 use crate::lines::expanded;
-use crate::note::Told;
 use crate::pieces::{is_key, is_mark, is_word, tokens_of};
 use sk_base::{Bounds, List, Span};
+use sk_notes::Told;
 use sk_opts::{Line, Usage, options};
 use sk_tree::{Key, Mark, Token};
 use std::alloc::{AllocError, Global};

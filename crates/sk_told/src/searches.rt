@@ -1,9 +1,7 @@
 //! Searches that ended: what was asked, and what of the pragmas was passed over.
-use crate::near::nearest;
-use crate::note::Told;
-use crate::options::{CHOICES, Choice, Range};
 use crate::pieces::{has_key, is_key, tokens_of};
 use sk_base::List;
+use sk_notes::{CHOICES, Choice, Range, Told, nearest};
 use sk_place::place_of;
 use sk_tree::{Key, Kind, Token};
 use std::alloc::{AllocError, Global};

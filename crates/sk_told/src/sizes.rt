@@ -1,5 +1,5 @@
 //! Programs that are too large.
-use crate::note::Told;
+use sk_notes::Told;
 use sk_sizes::SizeFault;
 use std::alloc::AllocError;
 

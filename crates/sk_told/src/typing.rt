@@ -1,10 +1,9 @@
 //! Texts that break a rule of names and types.
 use crate::lines::{line_of, set_of};
-use crate::near::near_by;
-use crate::note::Told;
 use crate::pieces::{bytes_of, is_mark, is_word, tokens_of};
 use sk_base::{List, Span};
 use sk_check::{Rule, TypeFault};
+use sk_notes::{Told, near_by};
 use sk_tree::{Mark, Token};
 use std::alloc::{AllocError, Global};
 

@@ -1,7 +1,7 @@
 //! Text for people.
 ghost use Rattle.std.specs.Prelude.{◌≡◌, ◌++◌, [], ◌∷◌, map, true, IsTrue, OnOk};
 ghost use Rattle.std.specs.List.{list_all, flat_map};
-ghost use Rattle.sk_told.specs.Notes.{is_plain, is_note, plain};
+ghost use Rattle.sk_notes.specs.Notes.{is_plain, is_note, plain};
 
 use itoa::Buffer;
 use sk_place::Place;
