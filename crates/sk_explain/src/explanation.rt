@@ -9,7 +9,7 @@ use sk_notes::{Note, Told, tell_not_built, tell_words};
 use sk_parser::ParseFault;
 use sk_place::{Spot, push_excerpt, push_place, spot_of};
 use sk_told::{
-    push_warnings, tell_failed, tell_none, tell_not_run, tell_size, tell_skipped, tell_spent,
+    push_passed_over, push_warnings, tell_failed, tell_none, tell_not_run, tell_size, tell_skipped, tell_spent,
     tell_text, tell_type,
 };
 use std::alloc::{AllocError, Global};
@@ -152,9 +152,9 @@ fn tell_refusal(
         Ending::TooLong => tell_too_long(told),
         Ending::Memory => tell_memory(told),
         Ending::NotBuilt => tell_not_built(told, words),
+        Ending::ExecDone => push_passed_over(alloc, told, text),
         Ending::Completed | Ending::NoCompletion | Ending::HelpShown => Ok(()),
-        Ending::SpentRounds { .. } | Ending::SpentConflicts { .. } => Ok(()),
-        Ending::VersionShown | Ending::ExecDone => Ok(()),
+        Ending::SpentRounds { .. } | Ending::SpentConflicts { .. } | Ending::VersionShown => Ok(()),
     }
 }
 

@@ -12,6 +12,9 @@ use sk_place::place_of;
 use sk_prog::{Elem, Fun, ParamDef, StructDef, Ty};
 use std::alloc::{AllocError, Global};
 
+// An array of zeros is spelt where it has at most so many values.
+const MOST_ZEROS: u64 = 16;
+
 // The function of this name.
 fn fun_of<'a>(funs: &'a [Fun], name: &[u8]) -> Option<&'a Fun> {
     for fun in funs {
@@ -164,7 +167,20 @@ fn push_spelling(told: &mut Told, ty: Ty, bits: u32) -> Result<(), AllocError> {
     told.notes
         .say(&[b" values with commas between them, each "])?;
     push_scalar(told, elem, bits)?;
+    push_zeros(told, count)?;
     told.notes.end()
+}
+
+// Appends what spells an array of zeros, where it is not long.
+fn push_zeros(told: &mut Told, count: u64) -> Result<(), AllocError> {
+    if count > MOST_ZEROS {
+        return Ok(());
+    }
+    told.notes.say(&[b", as 0"])?;
+    for _zero in 1..count {
+        told.notes.say(&[b",0"])?;
+    }
+    Ok(())
 }
 
 // Tells which value spells none of the type of its parameter.

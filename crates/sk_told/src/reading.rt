@@ -203,6 +203,15 @@ fn push_no_reading(told: &mut Told, text: &[u8], token: Option<&Token>) -> Resul
     }
 }
 
+// Names the other cause that there can be where no word in front of the place helps.
+fn push_depth(told: &mut Told, tokens: &[Token], at: u32) -> Result<(), AllocError> {
+    if tokens_before(tokens, at) > FEW_TOKENS {
+        told.title(&[b", or parts nest deeper than 256"])
+    } else {
+        Ok(())
+    }
+}
+
 fn tell_no_reading(alloc: Global, told: &mut Told, text: &[u8], at: u32) -> Result<(), AllocError> {
     let tokens = match tokens_of(alloc, text)? {
         Some(tokens) => tokens,
@@ -210,10 +219,10 @@ fn tell_no_reading(alloc: Global, told: &mut Told, text: &[u8], at: u32) -> Resu
     };
     let token = token_from(tokens.as_slice(), at);
     push_no_reading(told, text, token)?;
-    if tokens_before(tokens.as_slice(), at) > FEW_TOKENS {
-        told.title(&[b", or parts nest deeper than 256"])?;
-    }
     let found = helpful(alloc, text, at as usize)?;
+    if found.is_empty() {
+        push_depth(told, tokens.as_slice(), at)?;
+    }
     push_helpful(told, found.as_slice(), token.is_none())?;
     match token {
         Some(_) => Ok(()),

@@ -1,5 +1,6 @@
 //! Searches that ended: what was asked, and what of the pragmas was passed over.
 use crate::pieces::{has_key, is_key, tokens_of};
+use crate::results::push_unreturned;
 use sk_base::List;
 use sk_notes::{CHOICES, Choice, Range, Told, nearest};
 use sk_place::place_of;
@@ -147,17 +148,29 @@ fn push_pragmas(
     Ok(())
 }
 
-/// Tells of a text that a search ended on: that nothing was asked, and what its pragmas pass over.
+// The tokens of a text; none where it has none.
+fn some_tokens(alloc: Global, text: &[u8]) -> Result<List<Token>, AllocError> {
+    match tokens_of(alloc, text)? {
+        Some(tokens) => Ok(tokens),
+        None => Ok(List::new(alloc)),
+    }
+}
+
+/// Warns of a text that was run or searched: what its pragmas pass over, and which functions end without a result.
+pub fn push_passed_over(alloc: Global, told: &mut Told, text: &[u8]) -> Result<(), AllocError> {
+    let tokens = some_tokens(alloc, text)?;
+    push_pragmas(alloc, told, text, tokens.as_slice())?;
+    push_unreturned(alloc, told, tokens.as_slice())
+}
+
+/// Warns of a text that a search ended on: that nothing was asked, and what it passes over.
 pub fn push_warnings(alloc: Global, told: &mut Told, text: &[u8]) -> Result<(), AllocError> {
-    let tokens = match tokens_of(alloc, text)? {
-        Some(tokens) => tokens,
-        None => List::new(alloc),
-    };
+    let tokens = some_tokens(alloc, text)?;
     let tokens = tokens.as_slice();
     if !has_key(tokens, Key::Harness) && !has_key(tokens, Key::Implements) {
         told.note(&[b"warning: nothing is asked: the text has no harness and no implements"])?;
     }
-    push_pragmas(alloc, told, text, tokens)
+    push_passed_over(alloc, told, text)
 }
 
 /// Tells that no completion meets what is asked.
