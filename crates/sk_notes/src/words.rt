@@ -124,6 +124,15 @@ fn tell_missing(told: &mut Told, command: Command) -> Result<(), AllocError> {
     }
 }
 
+fn tell_not_alone(told: &mut Told, word: &[u8]) -> Result<(), AllocError> {
+    told.title(&[word, b" stands alone"])?;
+    if word == b"--help".as_slice() {
+        push_usage(told)
+    } else {
+        told.note(&[b"as in: sketch ", word])
+    }
+}
+
 fn tell_no_words(told: &mut Told) -> Result<(), AllocError> {
     told.title(&[b"the words are a command and its options, and there are none"])?;
     push_usage(told)
@@ -138,10 +147,7 @@ pub fn tell_words(alloc: Global, told: &mut Told, words: &[String]) -> Result<()
             told.title(&[choice.name(), b" stands before the command"])?;
             push_usage(told)
         }
-        Slip::NotAlone(word) => {
-            told.title(&[word, b" stands alone"])?;
-            told.note(&[b"as in: sketch ", word])
-        }
+        Slip::NotAlone(word) => tell_not_alone(told, word),
         Slip::NoOption(command, word) => tell_no_option(alloc, told, command, word),
         Slip::OfOthers(command, choice) => {
             told.title(&[choice.name(), b" is no option of ", command.word()])
