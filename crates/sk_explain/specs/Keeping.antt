@@ -1,8 +1,12 @@
 -- What a source that keeps what was read has kept.
-use Rattle.std.specs.Prelude.{ℕ, ◌≡◌, List, [], ◌++◌, take, IsTrue}
+use Rattle.std.specs.Prelude.{ℕ, ◌≡◌, List, [], ◌++◌, take, Option, Some, None, if◌then◌else◌, IsTrue}
 use Rattle.sk_base.specs.declared.source.Got.{Got}
 use Rattle.sk_base.specs.declared.source.Got.TheVariants.{Bytes, End, Failed}
 use Rattle.sk_explain.specs.declared.kept.Kept.{Kept}
+
+-- what is kept: the bytes that were read, where there was memory for all of them
+abbrev pub kept_bytes : Kept → Option (List ℕ)
+kept_bytes kept = if kept.is_whole then Some kept.bytes.items else None
 
 -- the bytes that a read gave at the front of its buffer
 abbrev pub given : Got → List ℕ → List ℕ

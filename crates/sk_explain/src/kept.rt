@@ -1,7 +1,7 @@
 //! A source that keeps what was read of it.
-ghost use Rattle.std.specs.Prelude.{◌≡◌, ◌<◌, ◌++◌, [], length, take, true, IsTrue};
+ghost use Rattle.std.specs.Prelude.{◌≡◌, ◌<◌, ◌++◌, [], length, take, option_map, true, IsTrue};
 ghost use Rattle.sk_base.specs.Stream.{Counts, IsRead};
-ghost use Rattle.sk_explain.specs.Keeping.{Keeps};
+ghost use Rattle.sk_explain.specs.Keeping.{Keeps, kept_bytes};
 
 use sk_base::{Got, Source};
 use std::alloc::Global;
@@ -70,7 +70,9 @@ impl<S> KeptSource<S> {
     }
 
     /// The bytes that it gave, in order; none where memory was wanting for them.
-    pub fn kept(&self) -> Option<&[u8]> {
+    pub fn kept(&self) -> Option<&[u8]>
+        ensures { option_map (λ bytes. bytes.now) result ≡ kept_bytes self.now.kept }
+    {
         if self.kept.is_whole {
             Some(self.kept.bytes.as_slice())
         } else {
