@@ -227,6 +227,21 @@ fn typed_at(alloc: Global, tokens: &[Token]) -> Result<(Found<Piece>, &[Token]),
     Ok((Ok(Piece::Type(form)), rest))
 }
 
+// The form that was read, or the fault of a token that begins none.
+fn or_outside<'a>(
+    token: &Token,
+    after: &'a [Token],
+    read: Result<(Found<Piece>, &'a [Token]), Stop>,
+) -> Result<(Found<Piece>, &'a [Token]), AllocError>
+    ensures { (form : Option (Result Piece ℕ × List Token)) → Gives (λ x. (x.0, x.1.now)) read.entry form → IfOk result (λ r. with_rest r.0 r.1.now ≡ or_outside token.now after.now form) }
+{
+    match read {
+        Ok(found) => Ok(found),
+        Err(Stop::NoMemory) => Err(AllocError),
+        Err(Stop::NoReading(_)) => Ok((Err(token.span.from), after)),
+    }
+}
+
 // The item `adt` at the front, or the fault of a token that begins none.
 fn type_piece<'a>(
     alloc: Global,
@@ -236,11 +251,8 @@ fn type_piece<'a>(
 ) -> Result<(Found<Piece>, &'a [Token]), AllocError>
     ensures { IfOk result (λ r. with_rest r.0 r.1.now ≡ or_outside token.now after.now (typed_at tokens.now)) }
 {
-    match typed_at(alloc, tokens) {
-        Ok(found) => Ok(found),
-        Err(Stop::NoMemory) => Err(AllocError),
-        Err(Stop::NoReading(_)) => Ok((Err(token.span.from), after)),
-    }
+    let found = or_outside(token, after, typed_at(alloc, tokens))?;
+    Ok(found)
 }
 
 // The switch of these cases.
@@ -330,11 +342,8 @@ fn switch_piece<'a>(
 ) -> Result<(Found<Piece>, &'a [Token]), AllocError>
     ensures { IfOk result (λ r. with_rest r.0 r.1.now ≡ or_outside token.now after.now (switch_at (pieces_from left []) tokens.now)) }
 {
-    match switch_at(alloc, levels, left, tokens) {
-        Ok(found) => Ok(found),
-        Err(Stop::NoMemory) => Err(AllocError),
-        Err(Stop::NoReading(_)) => Ok((Err(token.span.from), after)),
-    }
+    let found = or_outside(token, after, switch_at(alloc, levels, left, tokens))?;
+    Ok(found)
 }
 
 // The statement `switch` at the front, and the tokens after it.
