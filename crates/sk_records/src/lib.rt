@@ -1,0 +1,3 @@
+//! Runs in which a record of an algebraic struct has the fields of one variant alone. There is nothing to run here: specs/ has the definitions and what
+//! is to hold of them.
+#![tactic(auto)]
