@@ -1,3 +1,3 @@
+pub mod Calling
 pub mod Fillable
 pub mod Inputs
-pub mod Sessions

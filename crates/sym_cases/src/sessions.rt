@@ -1,7 +1,7 @@
 //! Searches for a choice: by a session that is called twice, and by a search of its own.
 
 ghost use Rattle.std.specs.Prelude.{◌≡◌, None, OnOk};
-ghost use Rattle.sk_loop.specs.Session.{IsReady, StandsFor};
+ghost use Rattle.sk_loop.specs.Session.{IsReady};
 ghost use Rattle.sk_loop_laws.specs.Honest.{Honest, inputs_of};
 ghost use Rattle.sk_oblig.specs.Formulas.{IsAskable};
 
@@ -68,7 +68,7 @@ fn begin_with(clauses: &Clauses, front: &Clauses) -> bool {
 }
 
 // Whether a call of a session finds what is wanted.
-#[tactic(auto, using(crate::proofs::Sessions::calling))]
+#[tactic(auto, using(crate::proofs::Calling::calling))]
 fn call(
     session: &mut Session,
     expanded: &Expanded,
@@ -111,8 +111,8 @@ fn call_twice(
 }
 
 // What two calls of a new session do.
-#[tactic(auto, using(crate::proofs::Sessions::beginning))]
-fn calls(
+#[tactic(auto, using(crate::proofs::Calling::beginning))]
+fn call_new(
     alloc: Global,
     expanded: &Expanded,
     bounds: &Bounds,
@@ -126,8 +126,8 @@ fn calls(
 }
 
 // Whether a search in a session of its own finds what is wanted.
-#[tactic(auto, using(crate::proofs::Sessions::beginning))]
-fn finds(
+#[tactic(auto, using(crate::proofs::Calling::beginning))]
+fn find_alone(
     alloc: Global,
     expanded: &Expanded,
     bounds: &Bounds,
@@ -140,7 +140,7 @@ fn finds(
     Ok(is_found(&found, wanted))
 }
 
-fn searches(
+fn search(
     alloc: Global,
     expanded: &Expanded,
     bounds: &Bounds,
@@ -148,8 +148,8 @@ fn searches(
 ) -> Result<Option<Searches>, AllocError>
     requires askable { IsAskable expanded.now bounds.now }
 {
-    let calls = calls(alloc, expanded, bounds, wanted)?;
-    let alone = finds(alloc, expanded, bounds, wanted)?;
+    let calls = call_new(alloc, expanded, bounds, wanted)?;
+    let alone = find_alone(alloc, expanded, bounds, wanted)?;
     Ok(Some(Searches { calls, alone }))
 }
 
@@ -161,7 +161,7 @@ pub fn searches_of(
     wanted: Option<&Choice>,
 ) -> Result<Option<Searches>, AllocError> {
     match expansion_in(alloc, source) {
-        Some(it) => searches(alloc, &it.expanded, &it.bounds, wanted),
+        Some(it) => search(alloc, &it.expanded, &it.bounds, wanted),
         None => Ok(None),
     }
 }

@@ -1,5 +1,5 @@
 -- A session that was called can be called again.
-use Rattle.std.proofs.Common.{◌≡◌, ℕ, List, [], Option, Some, None, inl, sym, arith}
+use Rattle.std.proofs.Common.{◌≡◌, ℕ, List, [], Option, Some, None, inl, sym, subst, slice_get, arith}
 use Rattle.std.proofs.lemmas.List.{append-nil}
 use Rattle.std.proofs.lemmas.Option.{none-some}
 use Rattle.sk_base.specs.declared.bounds.Bounds.{Bounds}
@@ -20,8 +20,8 @@ ready_again s e bounds inputs limit stands = record { before = inputs; most = li
     above None = tt
     above (Some most) = omega arith
 
-pub honest_none : (e : Expanded) (bounds : Bounds) → Honest e bounds []
-honest_none e bounds = record { each = λ i p at. absurd (none-some p at) }
+pub honest_none : (e : Expanded) (bounds : Bounds) (pairs : List Pair) → pairs ≡ [] → Honest e bounds pairs
+honest_none e bounds pairs none = record { each = λ i p at. absurd (none-some p (subst (λ (l : List Pair). slice_get l i ≡ Some p) none at)) }
 
 pub room : (budget : Budget) (pairs : List Pair) → budget.rounds ≡ 0 → HasRoom budget pairs
 room budget pairs none = inl none
