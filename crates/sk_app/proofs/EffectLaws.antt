@@ -608,3 +608,9 @@ module _ {words : List (List ℕ)} {r : Ending} {f : Effect} (a : Answers words 
 -- a call for a line `synth` without a certificate
 pub serves_synth : (l : Line) (set : Set) (budget : Budget) (r : Ending) (f : Effect) → l ≡ line.Synth set budget false → Synthesises set budget r f → Serves l r f
 serves_synth l set budget r f is s = subst (λ x. Serves x r f) (sym is) s
+
+-- the same, where the parts of the line were taken out of it
+pub serves_synth_as : (l : Line) (set now : Set) (budget spent : Budget) (cert : Bool) (r : Ending) (f : Effect) → Synthesises now spent r f → l ≡ line.Synth set budget cert → cert ≡ false → now ≡ set → spent ≡ budget → Serves l r f
+serves_synth_as l set now budget spent cert r f s is off same_set same_budget =
+    let synth : l ≡ line.Synth now spent false = let a = is in let b = off in let d = same_set in let e = same_budget in cc in
+    serves_synth l now spent r f synth s

@@ -1,14 +1,11 @@
-use Rattle.std.proofs.Common.{◌≡◌, false}
-use Rattle.sk_opts.specs.declared.line.Line.TheVariants as line
-use Rattle.sk_app.proofs.EffectLaws.{serves_synth}
+use Rattle.sk_app.proofs.EffectLaws.{serves_synth_as}
 use Rattle.sk_app.proofs.command.serve.Goals as goal
 
 pub returns-in-Synth-default-default-false : goal.returns-in-Synth-default-default-false
 returns-in-Synth-default-default-false g c =
     let m = c.in-Synth-default-default-false in
     let s = c.synth.ensures in
-    let is : c.args.line ≡ line.Synth m.set m.budget false = let a = m.is in let b = m.cert-is in cc in
-    serves_synth c.args.line m.set m.budget c.synth.result _ is (record {
+    serves_synth_as c.args.line m.set _ m.budget _ m.cert c.synth.result _ (record {
       ends = s.ends;
       completed = s.completed;
       none = s.none;
@@ -21,4 +18,4 @@ returns-in-Synth-default-default-false g c =
       prefix = s.prefix;
       kept = s.kept;
       few = s.few;
-    })
+    }) m.is m.cert-is (let a = m.set-is in cc) (let a = m.budget-is in cc)
