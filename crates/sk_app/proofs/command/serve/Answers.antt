@@ -18,4 +18,4 @@ returns-in-Synth-default-default-false g c =
       prefix = s.prefix;
       kept = s.kept;
       few = s.few;
-    }) m.is m.cert-is (let a = m.set-is in cc) (let a = m.budget-is in cc)
+    }) m.is (let a = m.cert-is in let b = m.cert-test in cc) (let a = m.set-is in cc) (let a = m.budget-is in cc)
