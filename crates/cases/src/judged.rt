@@ -29,7 +29,7 @@ fn lines(alloc: Global, parts: &[&[u8]]) -> Result<Vec<u8>, AllocError> {
 
 // The status of the endings with this message.
 fn status_of(message: &[u8]) -> u8 {
-    const BEGINS: [(&[u8], u8); 10] = [
+    const BEGINS: [(&[u8], u8); 11] = [
         (b"usage", 10),
         (b"text ", 11),
         (b"type ", 12),
@@ -40,6 +40,7 @@ fn status_of(message: &[u8]) -> u8 {
         (b"no memory", 17),
         (b"exec ", 18),
         (b"not built", 20),
+        (b"fill ", 22),
     ];
     for (begin, status) in BEGINS {
         if message.starts_with(begin) {

@@ -37,6 +37,45 @@ pub fn tell(alloc: Global, lines: &mut Vec<u8>, line: &str, text: &[u8]) -> Resu
     Ok(())
 }
 
+/// Runs a line on a text, and writes its status, how many lines it wrote, and the last four of them.
+pub fn tell_last(
+    alloc: Global,
+    lines: &mut Vec<u8>,
+    line: &str,
+    text: &[u8],
+) -> Result<(), AllocError> {
+    let words = words_of(alloc, line)?;
+    let mut source = CalmSource::new(List::from_slice(alloc, text)?);
+    let mut sink = CalmSink::new(alloc);
+    let ending = run(alloc, words.as_slice(), &mut source, &mut sink);
+    let count = count_lines(sink.bytes());
+    push_number(lines, u64::from(status(&ending)))?;
+    lines.extend_from_slice(b", lines ")?;
+    push_number(lines, count as u64)?;
+    lines.push(b'\n')?;
+    lines.extend_from_slice(behind_lines(sink.bytes(), count.saturating_sub(4)))
+}
+
+fn count_lines(text: &[u8]) -> usize {
+    text.iter().filter(|byte| **byte == b'\n').count()
+}
+
+// What stands behind so many lines.
+fn behind_lines(text: &[u8], count: usize) -> &[u8] {
+    let mut rest = text;
+    let mut left = count;
+    while let [byte, after @ ..] = rest {
+        if left == 0 {
+            return rest;
+        }
+        if *byte == b'\n' {
+            left = left.saturating_sub(1);
+        }
+        rest = after;
+    }
+    rest
+}
+
 /// What becomes of a text: the message without its places, where no function is run.
 pub fn fate(alloc: Global, text: &[u8]) -> Result<Vec<u8>, AllocError> {
     let words = words_of(alloc, "exec none")?;

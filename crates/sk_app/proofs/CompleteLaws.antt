@@ -42,6 +42,7 @@ use Rattle.sk_front.specs.declared.expansion.Expansion.{Expansion}
 use Rattle.sk_front.specs.Front.{ExpandsWithin}
 use Rattle.sk_front.proofs.FrontLaws.{one_program, one_expansion}
 use Rattle.sk_meaning.proofs.Whole.{texts_keep, texts_fit}
+use Rattle.sk_traced.proofs.Fillable.{has_its_sites, narrow_sites}
 use Rattle.sk_app.specs.declared.completion.Completion.{Completion}
 use Rattle.sk_app.specs.Built.{IsBuilt, IsOnly}
 use Rattle.sk_app.specs.Completing.{IsLeast}
@@ -49,18 +50,6 @@ use Rattle.sk_app.specs.ResultText.{completed_text, none_text, IsCompletion, IsN
 use Rattle.sk_app.specs.SpentText.{spent_result, OfRounds, OfConflicts}
 use Rattle.sk_app.specs.Spent.{IsMeeting, IsSpentRounds, IsSpentConflicts}
 use Rattle.sk_app.specs.Prepared.{IsReady}
-
--- Sites
-
-has_its_sites : (e : Expanded) (p : Prog) (bounds : Bounds) → e ≡ expand p bounds → HasItsSites e
-unfolding expand
-has_its_sites e p bounds is = subst (λ x. HasItsSites x) (sym is) (record { bounds = bounds; listed = refl })
-
-narrow_sites : (ss : List Site) → AreSmall ss → IsTrue (are_narrow ss)
-narrow_sites [] h = refl
-narrow_sites (s ∷ ss) h =
-    let here : nat_lt s.size 4294967297 ≡ true = lt-ltb s.size 4294967297 (omega (arith, All-head IsSmallSite s ss h)) in
-    and_from (nat_lt s.size 4294967297) (are_narrow ss) here (narrow_sites ss (All-tail IsSmallSite s ss h))
 
 -- Completions
 

@@ -15,7 +15,15 @@ use Rattle.sk_model.specs.declared.expanded.Choice.{Choice}
 use Rattle.sk_model.specs.declared.expanded.Pair.{Pair}
 use Rattle.sk_model.specs.declared.outcome.Outcome.{Outcome}
 use Rattle.sk_direct.specs.declared.fault.ExecFault.{ExecFault}
-use Rattle.sk_direct.specs.Direct.{IsNotRun, IsRunText}
+use Rattle.sk_holes.specs.declared.fault.FillFault.{FillFault}
+use Rattle.sk_traced.specs.declared.fault.TraceFault.{TraceFault}
+use Rattle.sk_traced.specs.declared.fault.TraceFault.TheVariants as reason
+use Rattle.sk_traced.specs.Traced.{IsNotTraced}
+use Rattle.sk_app.specs.declared.direct.Way.{Way}
+use Rattle.sk_app.specs.declared.direct.Way.TheVariants as way
+use Rattle.sk_app.specs.declared.direct.Job.{Job}
+use Rattle.sk_app.specs.Jobs.{IsStopped, IsRunOfJob}
+use Rattle.sk_app.proofs.JobLaws.{not_of_job, job_is_built, one_job}
 use Rattle.sk_opts.specs.declared.line.Set.{Set}
 use Rattle.sk_opts.specs.declared.line.Line.{Line}
 use Rattle.sk_opts.specs.declared.line.Line.TheVariants as line
@@ -35,8 +43,8 @@ use Rattle.sk_app.specs.ResultText.{IsCompletion, IsNone}
 use Rattle.sk_app.specs.Spent.{AreLearnt, IsSpentRounds, IsSpentConflicts}
 use Rattle.sk_app.specs.Results.{IsResult}
 use Rattle.sk_app.specs.Help.{help_text, version_text}
-use Rattle.sk_app.specs.Lines.{IsNoLine, IsSearch, ForSearch, IsSynth, ForSynth, IsExec, ForExec, TakesText, ForText, is_unbuilt, IsUnbuiltLine}
-use Rattle.sk_app.specs.Ends.{delivered, cut, no_room, Writes, WritesPart, writes_nothing, IsToldOf, EndsBuilt, EndsFaulty, EndsUntyped, EndsLarge, EndsLong, EndsRun, EndsNotRun, EndsNoLine, EndsUnbuiltLine, EndsHelp, EndsVersion}
+use Rattle.sk_app.specs.Lines.{IsNoLine, IsSearch, ForSearch, IsSynth, ForSynth, line_by, line_of, IsJob, ForJob, ForTrace, TakesText, ForText, is_unbuilt, IsUnbuiltLine}
+use Rattle.sk_app.specs.Ends.{delivered, cut, no_room, Writes, WritesPart, writes_nothing, IsToldOf, stopped, EndsBuilt, EndsFaulty, EndsUntyped, EndsLarge, EndsLong, EndsRun, EndsStopped, EndsNoLine, EndsUnbuiltLine, EndsHelp, EndsVersion}
 use Rattle.sk_app.specs.Effects.{Effect, IsRefused, IsShown, is_of_synth, Synthesises, is_of_expansion, IsRunResult, IsRunOutput, Executes, Serves, Answers, no_line, served, no_memory, IsOutput}
 use Rattle.sk_app.specs.Effects as output
 use Rattle.sk_app.proofs.StreamLemmas.{front-nil}
@@ -54,12 +62,13 @@ mapped (Some text) P Q h k = h text k
 nothing_taken : (old new : Option (List ℕ)) → new ≡ old → TakesFew old new
 nothing_taken old new e = record { taken = []; few = omega arith; split = sym e ∙ front-nil new }
 
--- whether this is the ending of a line `exec` alone
+-- whether this is the ending of lines that run a function alone
 abbrev is_exec_alone : Ending → Bool
 is_exec_alone ending.ExecDone = true
 is_exec_alone (ending.ExecFailed span) = true
 is_exec_alone (ending.ExecSkipped span) = true
 is_exec_alone (ending.NotRun reason) = true
+is_exec_alone (ending.NotFilled reason) = true
 is_exec_alone _ = false
 
 -- whether this is an ending of lines that take a text alone
@@ -86,7 +95,7 @@ module _ (words : List (List ℕ)) (r : Ending) (f : Effect) where
     of_none : IsNoLine words → IsRefused ending.NotALine r f → Kind
     of_unbuilt : IsUnbuiltLine words → IsRefused ending.NotBuilt r f → Kind
     of_synth : (set : Set) (budget : Budget) → IsSearch words set budget → Synthesises set budget r f → Kind
-    of_exec : (set : Set) (name : List ℕ) (values : List (List ℕ)) → IsExec words set name values → Executes set name values r f → Kind
+    of_exec : (set : Set) (job : Job) → IsJob words set job → Executes set job r f → Kind
     of_help : IsLine words line.Help → IsShown help_text ending.HelpShown r f → Kind
     of_version : IsLine words line.Version → IsShown version_text ending.VersionShown r f → Kind
     of_memory : IsRefused ending.Memory r f → Kind
@@ -94,7 +103,8 @@ module _ (words : List (List ℕ)) (r : Ending) (f : Effect) where
   line_kind : (l : Line) → IsLine words l → Serves l r f → Kind
   line_kind (line.Synth set budget true) h s = of_unbuilt (record { line = line.Synth set budget true; is = h; unbuilt = refl }) s
   line_kind (line.Synth set budget false) h s = of_synth set budget h s
-  line_kind (line.Exec set name values) h s = of_exec set name values h s
+  line_kind (line.Exec set name values) h s = of_exec set (record { name = name; values = values; way = way.Exec }) h s
+  line_kind (line.Trace set name values holes) h s = of_exec set (record { name = name; values = values; way = way.Trace holes }) h s
   line_kind (line.Check set) h s = of_unbuilt (record { line = line.Check set; is = h; unbuilt = refl }) s
   line_kind (line.Itself n) h s = of_unbuilt (record { line = line.Itself n; is = h; unbuilt = refl }) s
   line_kind line.Help h s = of_help h s
@@ -135,6 +145,7 @@ module _ (words : List (List ℕ)) (r : Ending) (f : Effect) where
   synth_alone_not_exec (ending.NotTyped fault) a = absurd (false≢true a)
   synth_alone_not_exec (ending.TooLarge reason) a = absurd (false≢true a)
   synth_alone_not_exec (ending.NotRun reason) a = absurd (false≢true a)
+  synth_alone_not_exec (ending.NotFilled reason) a = absurd (false≢true a)
   synth_alone_not_exec ending.ReadFault a = absurd (false≢true a)
   synth_alone_not_exec ending.WriteFault a = absurd (false≢true a)
   synth_alone_not_exec ending.TooLong a = absurd (false≢true a)
@@ -145,27 +156,27 @@ module _ (words : List (List ℕ)) (r : Ending) (f : Effect) where
   synth_of x a (of_none n s) e = absurd (alone_not ending.NotALine x a refl (sym s.is ∙ e))
   synth_of x a (of_unbuilt u s) e = absurd (alone_not ending.NotBuilt x a refl (sym s.is ∙ e))
   synth_of x a (of_synth set budget h s) e = record { set = set; budget = budget; is = h; holds = s }
-  synth_of x a (of_exec set name values h s) e = by_exec.exec_not set name values r f x (synth_alone_not_exec x a) s.runs e
+  synth_of x a (of_exec set job h s) e = by_exec.exec_not set job r f x (synth_alone_not_exec x a) s.runs e
   synth_of x a (of_help h s) e = absurd (shown_not help_text ending.HelpShown s x (alone_not ending.HelpShown x a refl) (alone_not ending.WriteFault x a refl) (alone_not ending.Memory x a refl) e)
   synth_of x a (of_version h s) e = absurd (shown_not version_text ending.VersionShown s x (alone_not ending.VersionShown x a refl) (alone_not ending.WriteFault x a refl) (alone_not ending.Memory x a refl) e)
   synth_of x a (of_memory s) e = absurd (alone_not ending.Memory x a refl (sym s.is ∙ e))
 
   -- those of a line `exec` alone
-  exec_of : (x : Ending) → is_exec_alone x ≡ true → is_of_synth x ≡ false → Kind → r ≡ x → ForExec words (λ set name values. Executes set name values r f)
+  exec_of : (x : Ending) → is_exec_alone x ≡ true → is_of_synth x ≡ false → Kind → r ≡ x → ForJob words (λ set job. Executes set job r f)
   exec_of x a b (of_none n s) e = absurd (exec_alone_not ending.NotALine x a refl (sym s.is ∙ e))
   exec_of x a b (of_unbuilt u s) e = absurd (exec_alone_not ending.NotBuilt x a refl (sym s.is ∙ e))
   exec_of x a b (of_synth set budget h s) e = absurd (false≢true (sym b ∙ ap is_of_synth (sym e) ∙ s.ends))
-  exec_of x a b (of_exec set name values h s) e = record { set = set; name = name; values = values; is = h; holds = s }
+  exec_of x a b (of_exec set job h s) e = record { set = set; job = job; is = h; holds = s }
   exec_of x a b (of_help h s) e = absurd (shown_not help_text ending.HelpShown s x (exec_alone_not ending.HelpShown x a refl) (exec_alone_not ending.WriteFault x a refl) (exec_alone_not ending.Memory x a refl) e)
   exec_of x a b (of_version h s) e = absurd (shown_not version_text ending.VersionShown s x (exec_alone_not ending.VersionShown x a refl) (exec_alone_not ending.WriteFault x a refl) (exec_alone_not ending.Memory x a refl) e)
   exec_of x a b (of_memory s) e = absurd (exec_alone_not ending.Memory x a refl (sym s.is ∙ e))
 
   -- what follows for a line that takes a text from an ending of such lines alone
-  text_of : (x : Ending) → is_of_text x ≡ true → (P : Set → Type 0) → ((set : Set) (budget : Budget) → Synthesises set budget r f → P set) → ((set : Set) (name : List ℕ) (values : List (List ℕ)) → Executes set name values r f → P set) → Kind → r ≡ x → ForText words P
+  text_of : (x : Ending) → is_of_text x ≡ true → (P : Set → Type 0) → ((set : Set) (budget : Budget) → Synthesises set budget r f → P set) → ((set : Set) (job : Job) → Executes set job r f → P set) → Kind → r ≡ x → ForText words P
   text_of x a P k l (of_none n s) e = absurd (text_not ending.NotALine x a refl (sym s.is ∙ e))
   text_of x a P k l (of_unbuilt u s) e = absurd (text_not ending.NotBuilt x a refl (sym s.is ∙ e))
   text_of x a P k l (of_synth set budget h s) e = record { set = set; takes = inl (record { budget = budget; is = h }); holds = k set budget s }
-  text_of x a P k l (of_exec set name values h s) e = record { set = set; takes = inr (name, values, h); holds = l set name values s }
+  text_of x a P k l (of_exec set job h s) e = record { set = set; takes = inr (job, h); holds = l set job s }
   text_of x a P k l (of_help h s) e = absurd (shown_not help_text ending.HelpShown s x (text_not ending.HelpShown x a refl) (text_not ending.WriteFault x a refl) (text_not ending.Memory x a refl) e)
   text_of x a P k l (of_version h s) e = absurd (shown_not version_text ending.VersionShown s x (text_not ending.VersionShown x a refl) (text_not ending.WriteFault x a refl) (text_not ending.Memory x a refl) e)
   text_of x a P k l (of_memory s) e = absurd (text_not ending.Memory x a refl (sym s.is ∙ e))
@@ -184,7 +195,7 @@ module _ (words : List (List ℕ)) (r : Ending) (f : Effect) where
   not_a_line_of (of_none n s) e = n
   not_a_line_of (of_unbuilt u s) e = let q = sym s.is ∙ e in cc
   not_a_line_of (of_synth set budget h s) e = absurd (synth_not set budget ending.NotALine s refl e)
-  not_a_line_of (of_exec set name values h s) e = by_exec.exec_not set name values r f ending.NotALine refl s.runs e
+  not_a_line_of (of_exec set job h s) e = by_exec.exec_not set job r f ending.NotALine refl s.runs e
   not_a_line_of (of_help h s) e = absurd (shown_not help_text ending.HelpShown s ending.NotALine (λ q. cc) (λ q. cc) (λ q. cc) e)
   not_a_line_of (of_version h s) e = absurd (shown_not version_text ending.VersionShown s ending.NotALine (λ q. cc) (λ q. cc) (λ q. cc) e)
   not_a_line_of (of_memory s) e = let q = sym s.is ∙ e in cc
@@ -211,7 +222,7 @@ module _ (words : List (List ℕ)) (r : Ending) (f : Effect) where
   help_of (of_none n s) e = let q = sym s.is ∙ e in cc
   help_of (of_unbuilt u s) e = let q = sym s.is ∙ e in cc
   help_of (of_synth set budget h s) e = absurd (synth_not set budget ending.HelpShown s refl e)
-  help_of (of_exec set name values h s) e = by_exec.exec_not set name values r f ending.HelpShown refl s.runs e
+  help_of (of_exec set job h s) e = by_exec.exec_not set job r f ending.HelpShown refl s.runs e
   help_of (of_help h s) e = (h, shown_whole help_text ending.HelpShown s (λ q. cc) (λ q. cc) e)
   help_of (of_version h s) e = absurd (shown_not version_text ending.VersionShown s ending.HelpShown (λ q. cc) (λ q. cc) (λ q. cc) e)
   help_of (of_memory s) e = let q = sym s.is ∙ e in cc
@@ -220,7 +231,7 @@ module _ (words : List (List ℕ)) (r : Ending) (f : Effect) where
   version_of (of_none n s) e = let q = sym s.is ∙ e in cc
   version_of (of_unbuilt u s) e = let q = sym s.is ∙ e in cc
   version_of (of_synth set budget h s) e = absurd (synth_not set budget ending.VersionShown s refl e)
-  version_of (of_exec set name values h s) e = by_exec.exec_not set name values r f ending.VersionShown refl s.runs e
+  version_of (of_exec set job h s) e = by_exec.exec_not set job r f ending.VersionShown refl s.runs e
   version_of (of_help h s) e = absurd (shown_not help_text ending.HelpShown s ending.VersionShown (λ q. cc) (λ q. cc) (λ q. cc) e)
   version_of (of_version h s) e = (h, shown_whole version_text ending.VersionShown s (λ q. cc) (λ q. cc) e)
   version_of (of_memory s) e = let q = sym s.is ∙ e in cc
@@ -229,7 +240,7 @@ module _ (words : List (List ℕ)) (r : Ending) (f : Effect) where
   not_built_of (of_none n s) e = let q = sym s.is ∙ e in cc
   not_built_of (of_unbuilt u s) e = u
   not_built_of (of_synth set budget h s) e = absurd (synth_not set budget ending.NotBuilt s refl e)
-  not_built_of (of_exec set name values h s) e = by_exec.exec_not set name values r f ending.NotBuilt refl s.runs e
+  not_built_of (of_exec set job h s) e = by_exec.exec_not set job r f ending.NotBuilt refl s.runs e
   not_built_of (of_help h s) e = absurd (shown_not help_text ending.HelpShown s ending.NotBuilt (λ q. cc) (λ q. cc) (λ q. cc) e)
   not_built_of (of_version h s) e = absurd (shown_not version_text ending.VersionShown s ending.NotBuilt (λ q. cc) (λ q. cc) (λ q. cc) e)
   not_built_of (of_memory s) e = let q = sym s.is ∙ e in cc
@@ -238,7 +249,7 @@ module _ (words : List (List ℕ)) (r : Ending) (f : Effect) where
   write_fault_of (of_none n s) e = let q = sym s.is ∙ e in cc
   write_fault_of (of_unbuilt u s) e = let q = sym s.is ∙ e in cc
   write_fault_of (of_synth set budget h s) e = s.write_fault e
-  write_fault_of (of_exec set name values h s) e = by_exec.write_fault_by set name values r f s.runs e
+  write_fault_of (of_exec set job h s) e = by_exec.write_fault_by set job r f s.runs e
   write_fault_of (of_help h s) e = shown_rose help_text ending.HelpShown s (λ q. cc) (λ q. cc) e
   write_fault_of (of_version h s) e = shown_rose version_text ending.VersionShown s (λ q. cc) (λ q. cc) e
   write_fault_of (of_memory s) e = let q = sym s.is ∙ e in cc
@@ -250,7 +261,7 @@ module _ (words : List (List ℕ)) (r : Ending) (f : Effect) where
   prefix_of (of_none n s) e = let q = sym s.is ∙ e in cc
   prefix_of (of_unbuilt u s) e = let q = sym s.is ∙ e in cc
   prefix_of (of_synth set budget h s) e = mapped f.left_old (λ text. WritesPart (IsResult set budget text) f.held_old f.held_new) Cut (λ text w. record { out = w.out; is = output.result (record { set = set; budget = budget; is = h; holds = w.is }); appends = w.appends }) (s.prefix e)
-  prefix_of (of_exec set name values h s) e = mapped f.left_old (λ text. WritesPart (IsRunOutput set name values text) f.held_old f.held_new) Cut (λ text w. record { out = w.out; is = output.run (record { set = set; name = name; values = values; is = h; holds = w.is }); appends = w.appends }) (by_exec.told_by set name values r f (λ text. WritesPart (IsRunOutput set name values text) f.held_old f.held_new) (λ text w. by_exec.prefix_by set name values r f e text w) s.runs)
+  prefix_of (of_exec set job h s) e = mapped f.left_old (λ text. WritesPart (IsRunOutput set job text) f.held_old f.held_new) Cut (λ text w. record { out = w.out; is = output.run (record { set = set; job = job; is = h; holds = w.is }); appends = w.appends }) (by_exec.told_by set job r f (λ text. WritesPart (IsRunOutput set job text) f.held_old f.held_new) (λ text w. by_exec.prefix_by set job r f e text w) s.runs)
   prefix_of (of_help h s) e = every f.left_old Cut (λ text. record { out = help_text; is = output.help h refl; appends = shown_cut help_text ending.HelpShown s (λ q. cc) (λ q. cc) e })
   prefix_of (of_version h s) e = every f.left_old Cut (λ text. record { out = version_text; is = output.version h refl; appends = shown_cut version_text ending.VersionShown s (λ q. cc) (λ q. cc) e })
   prefix_of (of_memory s) e = let q = sym s.is ∙ e in cc
@@ -259,7 +270,7 @@ module _ (words : List (List ℕ)) (r : Ending) (f : Effect) where
   kept_of (of_none n s) k = s.nothing.unwritten
   kept_of (of_unbuilt u s) k = s.nothing.unwritten
   kept_of (of_synth set budget h s) k = s.kept k
-  kept_of (of_exec set name values h s) k = by_exec.kept_by set name values r f s.runs k
+  kept_of (of_exec set job h s) k = by_exec.kept_by set job r f s.runs k
   kept_of (of_help h s) k = shown_kept help_text ending.HelpShown s refl k
   kept_of (of_version h s) k = shown_kept version_text ending.VersionShown s refl k
   kept_of (of_memory s) k = s.nothing.unwritten
@@ -268,7 +279,7 @@ module _ (words : List (List ℕ)) (r : Ending) (f : Effect) where
   few_of (of_none n s) = nothing_taken f.left_old f.left_new s.nothing.unread.left
   few_of (of_unbuilt u s) = nothing_taken f.left_old f.left_new s.nothing.unread.left
   few_of (of_synth set budget h s) = s.few
-  few_of (of_exec set name values h s) = s.few
+  few_of (of_exec set job h s) = s.few
   few_of (of_help h s) = nothing_taken f.left_old f.left_new s.unread.left
   few_of (of_version h s) = nothing_taken f.left_old f.left_new s.unread.left
   few_of (of_memory s) = nothing_taken f.left_old f.left_new s.nothing.unread.left
@@ -277,7 +288,7 @@ module _ (words : List (List ℕ)) (r : Ending) (f : Effect) where
   unread_of (of_none n s) spells = s.nothing.unread.left
   unread_of (of_unbuilt u s) spells = s.nothing.unread.left
   unread_of (of_synth set budget h s) spells = absurd (spells set (inl (record { budget = budget; is = h })))
-  unread_of (of_exec set name values h s) spells = absurd (spells set (inr (name, values, h)))
+  unread_of (of_exec set job h s) spells = absurd (spells set (inr (job, h)))
   unread_of (of_help h s) spells = s.unread.left
   unread_of (of_version h s) spells = s.unread.left
   unread_of (of_memory s) spells = s.nothing.unread.left
@@ -297,7 +308,7 @@ module _ (words : List (List ℕ)) (r : Ending) (f : Effect) where
   ends_no_line_of (of_none n s) spells = subst EndsNoLine (sym s.is) tt
   ends_no_line_of (of_unbuilt u s) spells = absurd (spells u.line u.is)
   ends_no_line_of (of_synth set budget h s) spells = absurd (spells (line.Synth set budget false) h)
-  ends_no_line_of (of_exec set name values h s) spells = absurd (spells (line.Exec set name values) h)
+  ends_no_line_of (of_exec set job h s) spells = absurd (spells (line_of set job) h)
   ends_no_line_of (of_help h s) spells = absurd (spells line.Help h)
   ends_no_line_of (of_version h s) spells = absurd (spells line.Version h)
   ends_no_line_of (of_memory s) spells = subst EndsNoLine (sym s.is) tt
@@ -306,7 +317,7 @@ module _ (words : List (List ℕ)) (r : Ending) (f : Effect) where
   ends_unbuilt_line_of (of_none n s) u = absurd (n u.line u.is)
   ends_unbuilt_line_of (of_unbuilt v s) u = subst EndsUnbuiltLine (sym s.is) tt
   ends_unbuilt_line_of (of_synth set budget h s) u = unbuilt_not (line.Synth set budget false) refl u h
-  ends_unbuilt_line_of (of_exec set name values h s) u = unbuilt_not (line.Exec set name values) refl u h
+  ends_unbuilt_line_of (of_exec set job h s) u = unbuilt_not (line_of set job) (job_is_built set job) u h
   ends_unbuilt_line_of (of_help h s) u = unbuilt_not line.Help refl u h
   ends_unbuilt_line_of (of_version h s) u = unbuilt_not line.Version refl u h
   ends_unbuilt_line_of (of_memory s) u = subst EndsUnbuiltLine (sym s.is) tt
@@ -319,7 +330,7 @@ module _ (words : List (List ℕ)) (r : Ending) (f : Effect) where
   ends_help_of (of_none n s) h = absurd (n line.Help h)
   ends_help_of (of_unbuilt u s) h = not_unbuilt line.Help refl h u
   ends_help_of (of_synth set budget g s) h = let q = one (line.Synth set budget false) line.Help g h in cc
-  ends_help_of (of_exec set name values g s) h = let q = one (line.Exec set name values) line.Help g h in cc
+  ends_help_of (of_exec set job g s) h = not_of_job line.Help set job refl (one line.Help (line_of set job) h g)
   ends_help_of (of_help g s) h = shown_ends help_text ending.HelpShown (λ x. EndsHelp x f.write_faults_old f.write_faults_new) s tt (λ w. w) tt
   ends_help_of (of_version g s) h = let q = one line.Version line.Help g h in cc
   ends_help_of (of_memory s) h = subst (λ x. EndsHelp x f.write_faults_old f.write_faults_new) (sym s.is) tt
@@ -328,7 +339,7 @@ module _ (words : List (List ℕ)) (r : Ending) (f : Effect) where
   ends_version_of (of_none n s) h = absurd (n line.Version h)
   ends_version_of (of_unbuilt u s) h = not_unbuilt line.Version refl h u
   ends_version_of (of_synth set budget g s) h = let q = one (line.Synth set budget false) line.Version g h in cc
-  ends_version_of (of_exec set name values g s) h = let q = one (line.Exec set name values) line.Version g h in cc
+  ends_version_of (of_exec set job g s) h = not_of_job line.Version set job refl (one line.Version (line_of set job) h g)
   ends_version_of (of_help g s) h = let q = one line.Help line.Version g h in cc
   ends_version_of (of_version g s) h = shown_ends version_text ending.VersionShown (λ x. EndsVersion x f.write_faults_old f.write_faults_new) s tt (λ w. w) tt
   ends_version_of (of_memory s) h = subst (λ x. EndsVersion x f.write_faults_old f.write_faults_new) (sym s.is) tt
@@ -337,7 +348,7 @@ module _ (words : List (List ℕ)) (r : Ending) (f : Effect) where
   prefix_help_of (of_none n s) h e = absurd (n line.Help h)
   prefix_help_of (of_unbuilt u s) h e = not_unbuilt line.Help refl h u
   prefix_help_of (of_synth set budget g s) h e = let q = one (line.Synth set budget false) line.Help g h in cc
-  prefix_help_of (of_exec set name values g s) h e = let q = one (line.Exec set name values) line.Help g h in cc
+  prefix_help_of (of_exec set job g s) h e = not_of_job line.Help set job refl (one line.Help (line_of set job) h g)
   prefix_help_of (of_help g s) h e = shown_cut help_text ending.HelpShown s (λ q. cc) (λ q. cc) e
   prefix_help_of (of_version g s) h e = let q = one line.Version line.Help g h in cc
   prefix_help_of (of_memory s) h e = let q = sym s.is ∙ e in cc
@@ -346,7 +357,7 @@ module _ (words : List (List ℕ)) (r : Ending) (f : Effect) where
   prefix_version_of (of_none n s) h e = absurd (n line.Version h)
   prefix_version_of (of_unbuilt u s) h e = not_unbuilt line.Version refl h u
   prefix_version_of (of_synth set budget g s) h e = let q = one (line.Synth set budget false) line.Version g h in cc
-  prefix_version_of (of_exec set name values g s) h e = let q = one (line.Exec set name values) line.Version g h in cc
+  prefix_version_of (of_exec set job g s) h e = not_of_job line.Version set job refl (one line.Version (line_of set job) h g)
   prefix_version_of (of_help g s) h e = let q = one line.Help line.Version g h in cc
   prefix_version_of (of_version g s) h e = shown_cut version_text ending.VersionShown s (λ q. cc) (λ q. cc) e
   prefix_version_of (of_memory s) h e = let q = sym s.is ∙ e in cc
@@ -360,25 +371,22 @@ module _ (words : List (List ℕ)) (r : Ending) (f : Effect) where
       let sets : t ≡ set = cc in
       let budgets : other ≡ budget = cc in
       subst (λ x. P x budget) sets (subst (P t) budgets (a t other s))
-  for_synth P a m (of_exec other name values g s) set budget h = let q = one (line.Exec other name values) (line.Synth set budget false) g h in cc
+  for_synth P a m (of_exec other job g s) set budget h = not_of_job (line.Synth set budget false) other job refl (one (line.Synth set budget false) (line_of other job) h g)
   for_synth P a m (of_help g s) set budget h = let q = one line.Help (line.Synth set budget false) g h in cc
   for_synth P a m (of_version g s) set budget h = let q = one line.Version (line.Synth set budget false) g h in cc
   for_synth P a m (of_memory s) set budget h = m set budget s.is
 
-  -- what follows for a line `exec` from its own call, or from want of memory
-  for_exec : (P : Set → List ℕ → List (List ℕ) → Type 0) → ((set : Set) (name : List ℕ) (values : List (List ℕ)) → Executes set name values r f → P set name values) → ((set : Set) (name : List ℕ) (values : List (List ℕ)) → r ≡ ending.Memory → P set name values) → Kind → (set : Set) (name : List ℕ) (values : List (List ℕ)) → IsExec words set name values → P set name values
-  for_exec P a m (of_none n s) set name values h = absurd (n (line.Exec set name values) h)
-  for_exec P a m (of_unbuilt u s) set name values h = not_unbuilt (line.Exec set name values) refl h u
-  for_exec P a m (of_synth t budget g s) set name values h = let q = one (line.Synth t budget false) (line.Exec set name values) g h in cc
-  for_exec P a m (of_exec t n v g s) set name values h =
-      let q = one (line.Exec t n v) (line.Exec set name values) g h in
-      let sets : t ≡ set = cc in
-      let names : n ≡ name = cc in
-      let words : v ≡ values = cc in
-      subst (λ x. P x name values) sets (subst (λ x. P t x values) names (subst (λ x. P t n x) words (a t n v s)))
-  for_exec P a m (of_help g s) set name values h = let q = one line.Help (line.Exec set name values) g h in cc
-  for_exec P a m (of_version g s) set name values h = let q = one line.Version (line.Exec set name values) g h in cc
-  for_exec P a m (of_memory s) set name values h = m set name values s.is
+  -- what follows for a line that runs a function from its own call, or from want of memory
+  for_exec : (P : Set → Job → Type 0) → ((set : Set) (job : Job) → Executes set job r f → P set job) → ((set : Set) (job : Job) → r ≡ ending.Memory → P set job) → Kind → (set : Set) (job : Job) → IsJob words set job → P set job
+  for_exec P a m (of_none n s) set job h = absurd (n (line_of set job) h)
+  for_exec P a m (of_unbuilt u s) set job h = not_unbuilt (line_of set job) (job_is_built set job) h u
+  for_exec P a m (of_synth t budget g s) set job h = not_of_job (line.Synth t budget false) set job refl (one (line.Synth t budget false) (line_of set job) g h)
+  for_exec P a m (of_exec t other g s) set job h =
+      let same = one_job t set other job (one (line_of t other) (line_of set job) g h) in
+      subst (λ x. P x job) same.sets (subst (P t) same.jobs (a t other s))
+  for_exec P a m (of_help g s) set job h = not_of_job line.Help set job refl (one line.Help (line_of set job) g h)
+  for_exec P a m (of_version g s) set job h = not_of_job line.Version set job refl (one line.Version (line_of set job) g h)
+  for_exec P a m (of_memory s) set job h = m set job s.is
 
 -- The clauses of `run`
 
@@ -408,52 +416,67 @@ module _ {words : List (List ℕ)} {r : Ending} {f : Effect} (a : Answers words 
   version = version_of words r f the
 
   -- what is written of a run with this ending
-  run_written : (x : Ending) → is_exec_alone x ≡ true → is_of_synth x ≡ false → by_exec.is_run x ≡ true → r ≡ x → ForExec words (λ set name values. IfSome f.left_old (λ text. Writes (IsRunResult set name values x text) f.held_old f.held_new))
+  run_written : (x : Ending) → is_exec_alone x ≡ true → is_of_synth x ≡ false → by_exec.is_run x ≡ true → r ≡ x → ForJob words (λ set job. IfSome f.left_old (λ text. Writes (IsRunResult set job x text) f.held_old f.held_new))
   run_written x a b run e =
       let s = exec_of words r f x a b the e in
-      record { set = s.set; name = s.name; values = s.values; is = s.is; holds = by_exec.told_by s.set s.name s.values r f (λ text. Writes (IsRunResult s.set s.name s.values x text) f.held_old f.held_new) (λ text w. by_exec.run_by s.set s.name s.values r f x run e text w) (s.holds).runs }
+      record { set = s.set; job = s.job; is = s.is; holds = by_exec.told_by s.set s.job r f (λ text. Writes (IsRunResult s.set s.job x text) f.held_old f.held_new) (λ text w. by_exec.run_by s.set s.job r f x run e text w) (s.holds).runs }
 
-  pub exec_done : r ≡ ending.ExecDone → ForExec words (λ set name values. IfSome f.left_old (λ text. Writes (IsRunResult set name values ending.ExecDone text) f.held_old f.held_new))
+  pub exec_done : r ≡ ending.ExecDone → ForJob words (λ set job. IfSome f.left_old (λ text. Writes (IsRunResult set job ending.ExecDone text) f.held_old f.held_new))
   exec_done = run_written ending.ExecDone refl refl refl
 
-  pub exec_failed : (span : Span) → r ≡ ending.ExecFailed span → ForExec words (λ set name values. IfSome f.left_old (λ text. Writes (IsRunResult set name values (ending.ExecFailed span) text) f.held_old f.held_new))
+  pub exec_failed : (span : Span) → r ≡ ending.ExecFailed span → ForJob words (λ set job. IfSome f.left_old (λ text. Writes (IsRunResult set job (ending.ExecFailed span) text) f.held_old f.held_new))
   exec_failed span = run_written (ending.ExecFailed span) refl refl refl
 
-  pub exec_skipped : (span : Span) → r ≡ ending.ExecSkipped span → ForExec words (λ set name values. IfSome f.left_old (λ text. Writes (IsRunResult set name values (ending.ExecSkipped span) text) f.held_old f.held_new))
+  pub exec_skipped : (span : Span) → r ≡ ending.ExecSkipped span → ForJob words (λ set job. IfSome f.left_old (λ text. Writes (IsRunResult set job (ending.ExecSkipped span) text) f.held_old f.held_new))
   exec_skipped span = run_written (ending.ExecSkipped span) refl refl refl
 
-  pub not_run : (reason : ExecFault) → r ≡ ending.NotRun reason → ForExec words (λ set name values. IfSome f.left_old (λ text. IsNotRun set name values text reason))
-  not_run reason e =
-      let s = exec_of words r f (ending.NotRun reason) refl refl the e in
-      record { set = s.set; name = s.name; values = s.values; is = s.is; holds = by_exec.told_by s.set s.name s.values r f (λ text. IsNotRun s.set s.name s.values text reason) (λ text w. by_exec.not_run_by s.set s.name s.values r f reason e text w) (s.holds).runs }
+  pub not_run : (told : ExecFault) → r ≡ ending.NotRun told → ForJob words (λ set job. IfSome f.left_old (λ text. IsStopped set job text (reason.NotRun told)))
+  not_run told e =
+      let s = exec_of words r f (ending.NotRun told) refl refl the e in
+      record { set = s.set; job = s.job; is = s.is; holds = by_exec.told_by s.set s.job r f (λ text. IsStopped s.set s.job text (reason.NotRun told)) (λ text w. by_exec.not_run_by s.set s.job r f (reason.NotRun told) e text w) (s.holds).runs }
+
+  abbrev Unfilled : FillFault → Type 0
+  Unfilled told = ForTrace words (λ set holes name values. IfSome f.left_old (λ text. IsNotTraced set holes name values text (reason.NotFilled told)))
+
+  -- that numbers do not fill a sketch is told of a line `trace` alone
+  filled_of : (told : FillFault) (set : Set) (w : Way) (name : List ℕ) (values : List (List ℕ)) → IsLine words (line_by w set name values) → r ≡ ending.NotFilled told → Executes set (record { name = name; values = values; way = w }) r f → Unfilled told
+  filled_of told set way.Exec name values is e s = absurd ((by_exec.stopped_by set (record { name = name; values = values; way = way.Exec }) r f (reason.NotFilled told) e s.runs).1)
+  filled_of told set (way.Trace holes) name values is e s =
+      let job : Job = record { name = name; values = values; way = way.Trace holes } in
+      record { set = set; holes = holes; name = name; values = values; is = is; holds = by_exec.told_by set job r f (λ text. IsNotTraced set holes name values text (reason.NotFilled told)) (λ text w. by_exec.not_run_by set job r f (reason.NotFilled told) e text w) s.runs }
+
+  pub not_filled : (told : FillFault) → r ≡ ending.NotFilled told → ForTrace words (λ set holes name values. IfSome f.left_old (λ text. IsNotTraced set holes name values text (reason.NotFilled told)))
+  not_filled told e =
+      let s = exec_of words r f (ending.NotFilled told) refl refl the e in
+      filled_of told s.set s.job.way s.job.name s.job.values s.is e s.holds
 
   -- what is told of the text by an ending of lines that take one
-  told_of : (x : Ending) → is_of_text x ≡ true → (P : Set → List ℕ → Type 0) → ((set : Set) (budget : Budget) → Synthesises set budget r f → IfSome f.left_old (P set)) → ((set : Set) (name : List ℕ) (values : List (List ℕ)) → Executes set name values r f → IfSome f.left_old (P set)) → r ≡ x → ForText words (λ set. IfSome f.left_old (P set))
+  told_of : (x : Ending) → is_of_text x ≡ true → (P : Set → List ℕ → Type 0) → ((set : Set) (budget : Budget) → Synthesises set budget r f → IfSome f.left_old (P set)) → ((set : Set) (job : Job) → Executes set job r f → IfSome f.left_old (P set)) → r ≡ x → ForText words (λ set. IfSome f.left_old (P set))
   told_of x a P k l e = text_of words r f x a (λ set. IfSome f.left_old (P set)) k l the e
 
   pub not_text : (fault : TextFault) → r ≡ ending.NotText fault → IfSome f.left_old (IsTextFault fault)
   not_text fault e =
       (told_of (ending.NotText fault) refl (λ set text. IsTextFault fault text)
       (λ set budget s. told_as words r f set budget s (ending.NotText fault) (IsTextFault fault) (λ text h. h.1) e)
-      (λ set name values s. by_exec.told_by set name values r f (IsTextFault fault) (λ text w. by_exec.not_text_by set name values r f fault e text w) s.runs) e).holds
+      (λ set job s. by_exec.told_by set job r f (IsTextFault fault) (λ text w. by_exec.not_text_by set job r f fault e text w) s.runs) e).holds
 
   pub not_typed : (fault : TypeFault) → r ≡ ending.NotTyped fault → ForText words (λ set. IfSome f.left_old (IsUntyped set))
   not_typed fault e =
       told_of (ending.NotTyped fault) refl IsUntyped
       (λ set budget s. told_as words r f set budget s (ending.NotTyped fault) (IsUntyped set) (λ text h. h.1) e)
-      (λ set name values s. by_exec.told_by set name values r f (IsUntyped set) (λ text w. by_exec.not_typed_by set name values r f fault e text w) s.runs) e
+      (λ set job s. by_exec.told_by set job r f (IsUntyped set) (λ text w. by_exec.not_typed_by set job r f fault e text w) s.runs) e
 
   pub text_place : (fault : TextFault) → r ≡ ending.NotText fault → IfSome f.left_old (λ text. byte_of fault ≤ length text)
   text_place fault e = mapped f.left_old (IsTextFault fault) (λ text. byte_of fault ≤ length text) (λ text h. byte_within text fault h) (not_text fault e)
 
   pub type_place : (fault : TypeFault) → r ≡ ending.NotTyped fault → IfSome f.left_old (λ text. HasSpan text fault.span)
-  type_place fault e = (text_of words r f (ending.NotTyped fault) refl (λ set. IfSome f.left_old (λ text. HasSpan text fault.span)) (λ set budget s. s.place fault e) (λ set name values s. s.place fault e) the e).holds
+  type_place fault e = (text_of words r f (ending.NotTyped fault) refl (λ set. IfSome f.left_old (λ text. HasSpan text fault.span)) (λ set budget s. s.place fault e) (λ set job s. s.place fault e) the e).holds
 
   pub too_large : (reason : SizeFault) → r ≡ ending.TooLarge reason → ForText words (λ set. IfSome f.left_old (λ text. IsTooLarge set text reason))
   too_large reason e =
       told_of (ending.TooLarge reason) refl (λ set text. IsTooLarge set text reason)
       (λ set budget s. told_as words r f set budget s (ending.TooLarge reason) (λ text. IsTooLarge set text reason) (λ text h. h) e)
-      (λ set name values s. by_exec.told_by set name values r f (λ text. IsTooLarge set text reason) (λ text w. by_exec.too_large_by set name values r f reason e text w) s.runs) e
+      (λ set job s. by_exec.told_by set job r f (λ text. IsTooLarge set text reason) (λ text w. by_exec.too_large_by set job r f reason e text w) s.runs) e
 
   pub not_built : r ≡ ending.NotBuilt → IsUnbuiltLine words
   not_built = not_built_of words r f the
@@ -462,10 +485,10 @@ module _ {words : List (List ℕ)} {r : Ending} {f : Effect} (a : Answers words 
   too_long e =
       (told_of ending.TooLong refl (λ set text. most_bytes < length text)
       (λ set budget s. told_as words r f set budget s ending.TooLong (λ text. most_bytes < length text) (λ text h. h) e)
-      (λ set name values s. by_exec.told_by set name values r f (λ text. most_bytes < length text) (λ text w. by_exec.too_long_by set name values r f e text w) s.runs) e).holds
+      (λ set job s. by_exec.told_by set job r f (λ text. most_bytes < length text) (λ text w. by_exec.too_long_by set job r f e text w) s.runs) e).holds
 
   pub read_fault : r ≡ ending.ReadFault → Rose f.read_faults_old f.read_faults_new
-  read_fault e = (text_of words r f ending.ReadFault refl (λ set. Rose f.read_faults_old f.read_faults_new) (λ set budget s. s.read_fault e) (λ set name values s. by_exec.read_fault_by set name values r f s.runs e) the e).holds
+  read_fault e = (text_of words r f ending.ReadFault refl (λ set. Rose f.read_faults_old f.read_faults_new) (λ set budget s. s.read_fault e) (λ set job s. by_exec.read_fault_by set job r f s.runs e) the e).holds
 
   pub write_fault : r ≡ ending.WriteFault → Rose f.write_faults_old f.write_faults_new
   write_fault = write_fault_of words r f the
@@ -508,14 +531,14 @@ module _ {words : List (List ℕ)} {r : Ending} {f : Effect} (a : Answers words 
   for_text : (P : Set → List ℕ → Type 0) → ((set : Set) (text : List ℕ) → IsToldOf set text r f.read_faults_old f.read_faults_new f.write_faults_old f.write_faults_new → P set text) → (set : Set) → IsSynth words set → IfSome f.left_old (P set)
   for_text P k set h = for_search (λ s budget text. P s text) (λ s budget called text told. k s text told) (λ s budget text m. k s text (subst (λ x. IsToldOf s text x f.read_faults_old f.read_faults_new f.write_faults_old f.write_faults_new) (sym m) tt)) set h.budget h.is
 
-  -- the same for a line `exec`
-  for_exec_text : (P : Set → List ℕ → List (List ℕ) → List ℕ → Type 0) → ((set : Set) (name : List ℕ) (values : List (List ℕ)) (text : List ℕ) → by_exec.Came set name values r f text → P set name values text) → (set : Set) (name : List ℕ) (values : List (List ℕ)) → IsExec words set name values → IfSome f.left_old (P set name values)
-  for_exec_text P k = for_exec words r f (λ set name values. IfSome f.left_old (P set name values)) (λ set name values s. by_exec.told_by set name values r f (P set name values) (k set name values) s.runs) (λ set name values m. every f.left_old (P set name values) (λ text. k set name values text (by_exec.came_wanting m))) the
+  -- the same for a line that runs a function
+  for_exec_text : (P : Set → Job → List ℕ → Type 0) → ((set : Set) (job : Job) (text : List ℕ) → by_exec.Came set job r f text → P set job text) → (set : Set) (job : Job) → IsJob words set job → IfSome f.left_old (P set job)
+  for_exec_text P k = for_exec words r f (λ set job. IfSome f.left_old (P set job)) (λ set job s. by_exec.told_by set job r f (P set job) (k set job) s.runs) (λ set job m. every f.left_old (P set job) (λ text. k set job text (by_exec.came_wanting m))) the
 
   -- and for either
-  for_either : (P : Set → List ℕ → Type 0) → ((set : Set) → IsSynth words set → IfSome f.left_old (P set)) → ((set : Set) (name : List ℕ) (values : List (List ℕ)) → IsExec words set name values → IfSome f.left_old (P set)) → (set : Set) → TakesText words set → IfSome f.left_old (P set)
+  for_either : (P : Set → List ℕ → Type 0) → ((set : Set) → IsSynth words set → IfSome f.left_old (P set)) → ((set : Set) (job : Job) → IsJob words set job → IfSome f.left_old (P set)) → (set : Set) → TakesText words set → IfSome f.left_old (P set)
   for_either P k l set (inl h) = k set h
-  for_either P k l set (inr h) = l set h.0 h.1 h.2
+  for_either P k l set (inr h) = l set h.0 h.1
 
   -- a budget that is spent is not 0
   allowed : (set : Set) (budget : Budget) → Synthesises set budget r f → (x : Ending) → r ≡ x → by.IsAllowed budget x
@@ -534,6 +557,7 @@ module _ {words : List (List ℕ)} {r : Ending} {f : Effect} (a : Answers words 
   allowed set budget s (ending.NotTyped fault) e = tt
   allowed set budget s (ending.TooLarge reason) e = tt
   allowed set budget s (ending.NotRun reason) e = tt
+  allowed set budget s (ending.NotFilled reason) e = tt
   allowed set budget s ending.ReadFault e = tt
   allowed set budget s ending.WriteFault e = tt
   allowed set budget s ending.TooLong e = tt
@@ -552,13 +576,13 @@ module _ {words : List (List ℕ)} {r : Ending} {f : Effect} (a : Answers words 
   ends_faulty =
       for_either (λ set text. length text ≤ most_bytes → (fault : TextFault) → IsTextFault fault text → EndsFaulty fault r f.read_faults_old f.read_faults_new)
       (for_text (λ set text. length text ≤ most_bytes → (fault : TextFault) → IsTextFault fault text → EndsFaulty fault r f.read_faults_old f.read_faults_new) (λ set text. by.ends_faulty set text f.read_faults_old f.read_faults_new f.write_faults_old f.write_faults_new r))
-      (for_exec_text (λ set name values text. length text ≤ most_bytes → (fault : TextFault) → IsTextFault fault text → EndsFaulty fault r f.read_faults_old f.read_faults_new) (λ set name values text w. by_exec.ends_faulty_by set name values r f text w))
+      (for_exec_text (λ set job text. length text ≤ most_bytes → (fault : TextFault) → IsTextFault fault text → EndsFaulty fault r f.read_faults_old f.read_faults_new) (λ set job text w. by_exec.ends_faulty_by set job r f text w))
 
   pub ends_untyped : (set : Set) → TakesText words set → IfSome f.left_old (λ text. length text ≤ most_bytes → IsUntyped set text → EndsUntyped r f.read_faults_old f.read_faults_new)
   ends_untyped =
       for_either (λ set text. length text ≤ most_bytes → IsUntyped set text → EndsUntyped r f.read_faults_old f.read_faults_new)
       (for_text (λ set text. length text ≤ most_bytes → IsUntyped set text → EndsUntyped r f.read_faults_old f.read_faults_new) (λ set text. by.ends_untyped set text f.read_faults_old f.read_faults_new f.write_faults_old f.write_faults_new r))
-      (for_exec_text (λ set name values text. length text ≤ most_bytes → IsUntyped set text → EndsUntyped r f.read_faults_old f.read_faults_new) (λ set name values text w. by_exec.ends_untyped_by set name values r f by.some_fault text w))
+      (for_exec_text (λ set job text. length text ≤ most_bytes → IsUntyped set text → EndsUntyped r f.read_faults_old f.read_faults_new) (λ set job text w. by_exec.ends_untyped_by set job r f by.some_fault text w))
 
   pub ends_large : (set : Set) → IsSynth words set → IfSome f.left_old (λ text. (reason : SizeFault) → IsTooLarge set text reason → EndsLarge reason r f.read_faults_old f.read_faults_new)
   ends_large = for_text (λ set text. (reason : SizeFault) → IsTooLarge set text reason → EndsLarge reason r f.read_faults_old f.read_faults_new) (λ set text. by.ends_large set text f.read_faults_old f.read_faults_new f.write_faults_old f.write_faults_new r)
@@ -567,24 +591,26 @@ module _ {words : List (List ℕ)} {r : Ending} {f : Effect} (a : Answers words 
   ends_copies =
       for_either (λ set text. (reason : SizeFault) → IsTrue (is_of_expansion reason) → IsTooLarge set text reason → EndsLarge reason r f.read_faults_old f.read_faults_new)
       (for_text (λ set text. (reason : SizeFault) → IsTrue (is_of_expansion reason) → IsTooLarge set text reason → EndsLarge reason r f.read_faults_old f.read_faults_new) (λ set text told reason b is. by.ends_large set text f.read_faults_old f.read_faults_new f.write_faults_old f.write_faults_new r told reason is))
-      (for_exec_text (λ set name values text. (reason : SizeFault) → IsTrue (is_of_expansion reason) → IsTooLarge set text reason → EndsLarge reason r f.read_faults_old f.read_faults_new) (λ set name values text w. by_exec.ends_copies_by set name values r f text w))
+      (for_exec_text (λ set job text. (reason : SizeFault) → IsTrue (is_of_expansion reason) → IsTooLarge set text reason → EndsLarge reason r f.read_faults_old f.read_faults_new) (λ set job text w. by_exec.ends_copies_by set job r f text w))
 
-  pub ends_run : (set : Set) (name : List ℕ) (values : List (List ℕ)) → IsExec words set name values → IfSome f.left_old (λ text. (outcome : Outcome) (out : List ℕ) → IsRunText set name values text outcome out → EndsRun outcome r f.read_faults_old f.read_faults_new f.write_faults_old f.write_faults_new)
-  ends_run = for_exec_text (λ set name values text. (outcome : Outcome) (out : List ℕ) → IsRunText set name values text outcome out → EndsRun outcome r f.read_faults_old f.read_faults_new f.write_faults_old f.write_faults_new) (λ set name values text w. by_exec.ends_run_by set name values r f text w)
+  pub ends_run : (set : Set) (job : Job) → IsJob words set job → IfSome f.left_old (λ text. (outcome : Outcome) (out : List ℕ) → IsRunOfJob set job text outcome out → EndsRun outcome r f.read_faults_old f.read_faults_new f.write_faults_old f.write_faults_new)
+  ends_run = for_exec_text (λ set job text. (outcome : Outcome) (out : List ℕ) → IsRunOfJob set job text outcome out → EndsRun outcome r f.read_faults_old f.read_faults_new f.write_faults_old f.write_faults_new) (λ set job text w. by_exec.ends_run_by set job r f text w)
 
-  pub ends_not_run : (set : Set) (name : List ℕ) (values : List (List ℕ)) → IsExec words set name values → IfSome f.left_old (λ text. (reason : ExecFault) → IsNotRun set name values text reason → EndsNotRun reason r f.read_faults_old f.read_faults_new)
-  ends_not_run = for_exec_text (λ set name values text. (reason : ExecFault) → IsNotRun set name values text reason → EndsNotRun reason r f.read_faults_old f.read_faults_new) (λ set name values text w. by_exec.ends_not_run_by set name values r f text w)
+  pub ends_not_run : (set : Set) (job : Job) → IsJob words set job → IfSome f.left_old (λ text. (told : TraceFault) → IsStopped set job text told → EndsStopped told r f.read_faults_old f.read_faults_new)
+  ends_not_run = for_exec_text (λ set job text. (told : TraceFault) → IsStopped set job text told → EndsStopped told r f.read_faults_old f.read_faults_new) (λ set job text w. by_exec.ends_not_run_by set job r f text w)
 
   pub ends_long : (set : Set) → TakesText words set → IfSome f.left_old (λ text. most_bytes < length text → EndsLong r f.read_faults_old f.read_faults_new)
   ends_long =
       for_either (λ set text. most_bytes < length text → EndsLong r f.read_faults_old f.read_faults_new)
       (for_text (λ set text. most_bytes < length text → EndsLong r f.read_faults_old f.read_faults_new) (λ set text. by.ends_long set text f.read_faults_old f.read_faults_new f.write_faults_old f.write_faults_new r))
-      (for_exec_text (λ set name values text. most_bytes < length text → EndsLong r f.read_faults_old f.read_faults_new) (λ set name values text w. by_exec.ends_long_by set name values r f text w))
+      (for_exec_text (λ set job text. most_bytes < length text → EndsLong r f.read_faults_old f.read_faults_new) (λ set job text w. by_exec.ends_long_by set job r f text w))
 
 -- a call for a line `synth` without a certificate
 pub serves_synth : (l : Line) (set : Set) (budget : Budget) (r : Ending) (f : Effect) → l ≡ line.Synth set budget false → Synthesises set budget r f → Serves l r f
 serves_synth l set budget r f is s = subst (λ x. Serves x r f) (sym is) s
 
--- a call for a line `exec`
-pub serves_exec : (l : Line) (set : Set) (name : List ℕ) (values words : List (List ℕ)) (r : Ending) (f : Effect) → l ≡ line.Exec set name values → words ≡ values → Executes set name words r f → Serves l r f
-serves_exec l set name values words r f is same s = subst (λ x. Serves x r f) (sym is) (subst (λ x. Executes set name x r f) same s)
+-- the same, where the parts of the line were taken out of it
+pub serves_synth_as : (l : Line) (set now : Set) (budget spent : Budget) (cert : Bool) (r : Ending) (f : Effect) → Synthesises now spent r f → l ≡ line.Synth set budget cert → cert ≡ false → now ≡ set → spent ≡ budget → Serves l r f
+serves_synth_as l set now budget spent cert r f s is off same_set same_budget =
+    let synth : l ≡ line.Synth now spent false = let a = is in let b = off in let d = same_set in let e = same_budget in cc in
+    serves_synth l now spent r f synth s

@@ -36,6 +36,7 @@ module _ (budget : Budget) where
   is_synth (ending.NotTyped fault) h = absurd h
   is_synth (ending.TooLarge reason) h = absurd h
   is_synth (ending.NotRun reason) h = absurd h
+  is_synth (ending.NotFilled reason) h = absurd h
   is_synth ending.ReadFault h = absurd h
   is_synth ending.WriteFault h = absurd h
   is_synth ending.TooLong h = absurd h
@@ -57,6 +58,7 @@ module _ (budget : Budget) where
   writes (ending.NotTyped fault) h = absurd h
   writes (ending.TooLarge reason) h = absurd h
   writes (ending.NotRun reason) h = absurd h
+  writes (ending.NotFilled reason) h = absurd h
   writes ending.ReadFault h = absurd h
   writes ending.WriteFault h = absurd h
   writes ending.TooLong h = absurd h
@@ -80,6 +82,7 @@ module _ (budget : Budget) where
     taken (ending.NotTyped fault) h = absurd h
     taken (ending.TooLarge reason) h = absurd h
     taken (ending.NotRun reason) h = absurd h
+    taken (ending.NotFilled reason) h = absurd h
     taken ending.ReadFault h = absurd h
     taken ending.WriteFault h = absurd h
     taken ending.TooLong h = absurd h
@@ -101,6 +104,7 @@ module _ (budget : Budget) where
     tells (ending.NotTyped fault) h t = absurd h
     tells (ending.TooLarge reason) h t = absurd h
     tells (ending.NotRun reason) h t = absurd h
+    tells (ending.NotFilled reason) h t = absurd h
     tells ending.ReadFault h t = absurd h
     tells ending.WriteFault h t = absurd h
     tells ending.TooLong h t = absurd h

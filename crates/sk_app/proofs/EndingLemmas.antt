@@ -13,6 +13,8 @@ use Rattle.sk_front.specs.declared.fault.SketchFault.{SketchFault}
 use Rattle.sk_front.specs.declared.fault.SketchFault.TheVariants as fault
 use Rattle.sk_front.specs.Texts.{most_bytes, HasSpan, IsTextFault}
 use Rattle.sk_front.specs.Front.{IsUntyped, IsTooLarge, IsPlacedFault}
+use Rattle.sk_traced.specs.declared.fault.TraceFault.{TraceFault}
+use Rattle.sk_traced.specs.declared.fault.TraceFault.TheVariants as reason
 use Rattle.sk_app.specs.declared.prepare.Found.{Found}
 use Rattle.sk_app.specs.declared.prepare.Found.TheVariants as found
 use Rattle.sk_app.specs.declared.prepare.Prepared.{Prepared}
@@ -21,7 +23,7 @@ use Rattle.sk_app.specs.declared.ending.Ending.{Ending}
 use Rattle.sk_app.specs.declared.ending.Ending.TheVariants as ending
 use Rattle.sk_app.specs.Prepared.{Finds, IsPossible, IsPrepared}
 use Rattle.sk_app.specs.Streams.{IsWhole}
-use Rattle.sk_app.specs.Ends.{IsDelivered, delivered, cut, no_room, IsToldOf, ending_of}
+use Rattle.sk_app.specs.Ends.{IsDelivered, delivered, cut, no_room, IsToldOf, ending_of, stopped}
 use Rattle.sk_app.specs.Effects.{refusal}
 
 module _ (set : Set) (budget : Budget) where
@@ -73,6 +75,11 @@ no_fault_of_run (outcome.Skipped span) f e = cc
 
 pub run_no_fault : {A : Type 0} (r done : Ending) (o : Outcome) (out : List ℕ) (c d : ℕ) (old new : Option (List ℕ)) (f : TypeFault) → done ≡ ending_of o → IsDelivered r done out c d old new → r ≡ ending.NotTyped f → A
 run_no_fault r done o out c d old new f is h e = delivers_no_fault r done out c d old new f (λ q. no_fault_of_run o f (sym is ∙ q)) h e
+
+-- so does a line that runs no function
+pub stop_no_fault : {A : Type 0} (r : Ending) (t : TraceFault) (f : TypeFault) → r ≡ stopped t → r ≡ ending.NotTyped f → A
+stop_no_fault r (reason.NotRun a) f is e = let q = sym is ∙ e in cc
+stop_no_fault r (reason.NotFilled a) f is e = let q = sym is ∙ e in cc
 
 pub refused_place : (text : List ℕ) (t : SketchFault) (r : Ending) (f : TypeFault) → IsPlacedFault text t → r ≡ refusal t → r ≡ ending.NotTyped f → HasSpan text f.span
 refused_place text (fault.NotTyped a) r f h is e = let q = sym is ∙ e in let same : a ≡ f = cc in subst (λ x. HasSpan text x.span) same h

@@ -1,4 +1,4 @@
--- What follows for a line `exec` from what it does for its source.
+-- What follows for a line that runs a function from what it does for its source.
 use Rattle.std.proofs.Common.{◌≡◌, ℕ, ◌≤◌, ◌<◌, ◌⊎◌, inl, inr, Bool, true, false, List, Option, Some, None, length, refl, sym, ap, subst, ◌∙◌, arith}
 use Rattle.std.specs.Prelude.{IsTrue, IfSome}
 use Rattle.std.proofs.lemmas.Bool.{false≢true}
@@ -15,12 +15,14 @@ use Rattle.sk_front.specs.declared.fault.SketchFault.TheVariants as fault
 use Rattle.sk_front.specs.Texts.{most_bytes, IsTextFault}
 use Rattle.sk_front.specs.Front.{IsUntyped, IsTooLarge, IsFaultOfExpansion, IsFaultOfSizes, IsCause, IsSame}
 use Rattle.sk_front.proofs.FrontLaws.{one_cause}
-use Rattle.sk_direct.specs.declared.fault.ExecFault.{ExecFault}
-use Rattle.sk_direct.specs.Direct.{IsNotRun, IsRunText}
-use Rattle.sk_direct.proofs.TextLaws.{one_fault_of_text, no_fault_of_text_run, one_text_run, no_cause_of_run, no_cause_of_fault}
+use Rattle.sk_traced.specs.declared.fault.TraceFault.{TraceFault}
+use Rattle.sk_traced.specs.declared.fault.TraceFault.TheVariants as reason
+use Rattle.sk_app.specs.declared.direct.Job.{Job}
+use Rattle.sk_app.specs.Jobs.{IsStopped, IsRunOfJob}
+use Rattle.sk_app.proofs.JobLaws.{one_stop, no_stop_of_run, one_run, no_cause_of_job, no_cause_of_stop, run_is_short, stop_is_short}
 use Rattle.sk_app.specs.declared.ending.Ending.{Ending}
 use Rattle.sk_app.specs.declared.ending.Ending.TheVariants as ending
-use Rattle.sk_app.specs.Ends.{delivered, cut, no_room, Writes, WritesPart, writes_nothing, ending_of, EndsRun, EndsNotRun, EndsFaulty, EndsUntyped, EndsLarge, EndsLong}
+use Rattle.sk_app.specs.Ends.{delivered, cut, no_room, Writes, WritesPart, writes_nothing, ending_of, stopped, EndsRun, EndsStopped, EndsFaulty, EndsUntyped, EndsLarge, EndsLong}
 use Rattle.sk_app.specs.Effects.{Effect, refusal, is_of_expansion, RunsText, refused, not_run, ran, RunsSource, failed, long, wanting, whole, IsRunResult, IsRunOutput}
 
 -- Kinds of endings
@@ -39,7 +41,7 @@ is_run (ending.ExecFailed span) = true
 is_run (ending.ExecSkipped span) = true
 is_run _ = false
 
--- the endings of a line `exec`
+-- the endings of a line that runs a function
 abbrev pub is_of_exec : Ending → Bool
 is_of_exec ending.Completed = false
 is_of_exec ending.NoCompletion = false
@@ -71,6 +73,39 @@ run_writes (outcome.Done result refs cost) = refl
 run_writes (outcome.Failed span) = refl
 run_writes (outcome.Skipped span) = refl
 
+stopped_is_of_exec : (t : TraceFault) → is_of_exec (stopped t) ≡ true
+stopped_is_of_exec (reason.NotRun a) = refl
+stopped_is_of_exec (reason.NotFilled a) = refl
+
+stopped_is_no_fault : (t : TraceFault) → is_fault (stopped t) ≡ false
+stopped_is_no_fault (reason.NotRun a) = refl
+stopped_is_no_fault (reason.NotFilled a) = refl
+
+stopped_is_no_run : (t : TraceFault) → is_run (stopped t) ≡ false
+stopped_is_no_run (reason.NotRun a) = refl
+stopped_is_no_run (reason.NotFilled a) = refl
+
+-- whether no function is run
+abbrev pub is_stop : Ending → Bool
+is_stop (ending.NotRun told) = true
+is_stop (ending.NotFilled told) = true
+is_stop _ = false
+
+stopped_is : (t : TraceFault) → is_stop (stopped t) ≡ true
+stopped_is (reason.NotRun a) = refl
+stopped_is (reason.NotFilled a) = refl
+
+run_is_no_stop : (o : Outcome) → is_stop (ending_of o) ≡ false
+run_is_no_stop (outcome.Done result refs cost) = refl
+run_is_no_stop (outcome.Failed span) = refl
+run_is_no_stop (outcome.Skipped span) = refl
+
+refusal_is_no_stop : (t : SketchFault) → is_stop (refusal t) ≡ false
+refusal_is_no_stop (fault.NotText a) = refl
+refusal_is_no_stop (fault.NotTyped a) = refl
+refusal_is_no_stop (fault.TooLarge a) = refl
+refusal_is_no_stop fault.Memory = refl
+
 refusal_is_of_exec : (t : SketchFault) → is_of_exec (refusal t) ≡ true
 refusal_is_of_exec (fault.NotText a) = refl
 refusal_is_of_exec (fault.NotTyped a) = refl
@@ -98,24 +133,24 @@ mapped (Some text) P Q h k = h text k
 too_long : {A : Type 0} (text : List ℕ) → length text ≤ most_bytes → most_bytes < length text → A
 too_long text short over = absurd (omega (arith, short, over))
 
-module _ (set : Set) (name : List ℕ) (values : List (List ℕ)) (r : Ending) (f : Effect) where
+module _ (set : Set) (job : Job) (r : Ending) (f : Effect) where
   abbrev pub Runs : List ℕ → Type 0
-  Runs text = RunsText set name values text r f.write_faults_old f.write_faults_new f.held_old f.held_new
+  Runs text = RunsText set job text r f.write_faults_old f.write_faults_new f.held_old f.held_new
 
   -- Whatever the text is
 
   of_text : (text : List ℕ) → Runs text → is_of_exec r ≡ true
   of_text text (refused t i e same) = ap is_of_exec e ∙ refusal_is_of_exec t
-  of_text text (not_run reason i e same) = ap is_of_exec e
+  of_text text (not_run reason i e same) = ap is_of_exec e ∙ stopped_is_of_exec reason
   of_text text (ran o out i w) = elim w [ delivered is y ↦ ap is_of_exec is ∙ run_is_of_exec o | cut is y ↦ ap is_of_exec is | no_room is same ↦ ap is_of_exec is ]
 
-  of_exec_line : RunsSource set name values r f → is_of_exec r ≡ true
+  of_exec_line : RunsSource set job r f → is_of_exec r ≡ true
   of_exec_line (failed e rose same) = ap is_of_exec e
   of_exec_line (long e l same) = ap is_of_exec e
   of_exec_line (wanting e same) = ap is_of_exec e
   of_exec_line (whole text w x) = of_text text x
 
-  pub exec_not : {A : Type 0} (x : Ending) → is_of_exec x ≡ false → RunsSource set name values r f → r ≡ x → A
+  pub exec_not : {A : Type 0} (x : Ending) → is_of_exec x ≡ false → RunsSource set job r f → r ≡ x → A
   exec_not x b s e = differ is_of_exec x r b (of_exec_line s) (sym e)
 
   kept_text : (text : List ℕ) → Runs text → IsTrue (writes_nothing r) → f.held_new ≡ f.held_old
@@ -127,7 +162,7 @@ module _ (set : Set) (name : List ℕ) (values : List (List ℕ)) (r : Ending) (
     | no_room is same ↦ same
   ]
 
-  pub kept_by : RunsSource set name values r f → IsTrue (writes_nothing r) → f.held_new ≡ f.held_old
+  pub kept_by : RunsSource set job r f → IsTrue (writes_nothing r) → f.held_new ≡ f.held_old
   kept_by (failed e rose same) k = same
   kept_by (long e l same) k = same
   kept_by (wanting e same) k = same
@@ -151,19 +186,22 @@ module _ (set : Set) (name : List ℕ) (values : List (List ℕ)) (r : Ending) (
   refusal_not_too_long (fault.TooLarge a) e = cc
   refusal_not_too_long fault.Memory e = cc
 
+  stop_not : {A : Type 0} (t : TraceFault) (x : Ending) → is_stop x ≡ false → stopped t ≡ x → A
+  stop_not t x b e = differ is_stop x (stopped t) b (stopped_is t) (sym e)
+
   run_not : {A : Type 0} (o : Outcome) (x : Ending) → is_run x ≡ false → ending_of o ≡ x → A
   run_not o x b e = differ is_run x (ending_of o) b (run_is o) (sym e)
 
   read_fault_text : (text : List ℕ) → Runs text → r ≡ ending.ReadFault → Rose f.read_faults_old f.read_faults_new
   read_fault_text text (refused t i e same) q = refusal_no_read_fault t (sym e ∙ q)
-  read_fault_text text (not_run reason i e same) q = let z = sym e ∙ q in cc
+  read_fault_text text (not_run reason i e same) q = stop_not reason ending.ReadFault refl (sym e ∙ q)
   read_fault_text text (ran o out i w) q = elim w [
     | delivered is y ↦ run_not o ending.ReadFault refl (sym is ∙ q)
     | cut is y ↦ let z = sym is ∙ q in cc
     | no_room is same ↦ let z = sym is ∙ q in cc
   ]
 
-  pub read_fault_by : RunsSource set name values r f → r ≡ ending.ReadFault → Rose f.read_faults_old f.read_faults_new
+  pub read_fault_by : RunsSource set job r f → r ≡ ending.ReadFault → Rose f.read_faults_old f.read_faults_new
   read_fault_by (failed e rose same) q = rose
   read_fault_by (long e l same) q = let z = sym e ∙ q in cc
   read_fault_by (wanting e same) q = let z = sym e ∙ q in cc
@@ -171,14 +209,14 @@ module _ (set : Set) (name : List ℕ) (values : List (List ℕ)) (r : Ending) (
 
   write_fault_text : (text : List ℕ) → Runs text → r ≡ ending.WriteFault → Rose f.write_faults_old f.write_faults_new
   write_fault_text text (refused t i e same) q = refusal_no_write_fault t (sym e ∙ q)
-  write_fault_text text (not_run reason i e same) q = let z = sym e ∙ q in cc
+  write_fault_text text (not_run reason i e same) q = stop_not reason ending.WriteFault refl (sym e ∙ q)
   write_fault_text text (ran o out i w) q = elim w [
     | delivered is y ↦ run_not o ending.WriteFault refl (sym is ∙ q)
     | cut is y ↦ y.rose
     | no_room is same ↦ let z = sym is ∙ q in cc
   ]
 
-  pub write_fault_by : RunsSource set name values r f → r ≡ ending.WriteFault → Rose f.write_faults_old f.write_faults_new
+  pub write_fault_by : RunsSource set job r f → r ≡ ending.WriteFault → Rose f.write_faults_old f.write_faults_new
   write_fault_by (failed e rose same) q = let z = sym e ∙ q in cc
   write_fault_by (long e l same) q = let z = sym e ∙ q in cc
   write_fault_by (wanting e same) q = let z = sym e ∙ q in cc
@@ -192,20 +230,20 @@ module _ (set : Set) (name : List ℕ) (values : List (List ℕ)) (r : Ending) (
     came_wanting : r ≡ ending.Memory → Came text
     came_whole : length text ≤ most_bytes → Runs text → Came text
 
-  came : RunsSource set name values r f → IfSome f.left_old Came
+  came : RunsSource set job r f → IfSome f.left_old Came
   came (failed e rose same) = every f.left_old Came (λ text. came_failed e rose)
   came (long e l same) = mapped f.left_old (λ text. most_bytes < length text) Came (λ text h. came_long e h) l
   came (wanting e same) = every f.left_old Came (λ text. came_wanting e)
   came (whole text w x) = mapped f.left_old (λ left. left ≡ text) Came (λ left h. subst Came (sym h) (came_whole w.short x)) w.whole
 
-  pub told_by : (P : List ℕ → Type 0) → ((text : List ℕ) → Came text → P text) → RunsSource set name values r f → IfSome f.left_old P
+  pub told_by : (P : List ℕ → Type 0) → ((text : List ℕ) → Came text → P text) → RunsSource set job r f → IfSome f.left_old P
   told_by P k s = mapped f.left_old Came P k (came s)
 
   -- Clauses that follow from the ending
 
   fault_of : (text : List ℕ) (x : Ending) → is_fault x ≡ true → Runs text → r ≡ x → (t : SketchFault) × IsFaultOfExpansion set text t × (refusal t ≡ x)
   fault_of text x b (refused t i e same) q = (t, i, sym e ∙ q)
-  fault_of text x b (not_run reason i e same) q = differ is_fault (ending.NotRun reason) x refl b (sym e ∙ q)
+  fault_of text x b (not_run reason i e same) q = differ is_fault (stopped reason) x (stopped_is_no_fault reason) b (sym e ∙ q)
   fault_of text x b (ran o out i w) q = elim w [
     | delivered is y ↦ differ is_fault (ending_of o) x (run_is_no_fault o) b (sym is ∙ q)
     | cut is y ↦ differ is_fault ending.WriteFault x refl b (sym is ∙ q)
@@ -251,7 +289,7 @@ module _ (set : Set) (name : List ℕ) (values : List (List ℕ)) (r : Ending) (
 
   too_long_text : {A : Type 0} (text : List ℕ) → Runs text → r ≡ ending.TooLong → A
   too_long_text text (refused t i e same) q = refusal_not_too_long t (sym e ∙ q)
-  too_long_text text (not_run reason i e same) q = let z = sym e ∙ q in cc
+  too_long_text text (not_run reason i e same) q = stop_not reason ending.TooLong refl (sym e ∙ q)
   too_long_text text (ran o out i w) q = elim w [
     | delivered is y ↦ run_not o ending.TooLong refl (sym is ∙ q)
     | cut is y ↦ let z = sym is ∙ q in cc
@@ -265,11 +303,11 @@ module _ (set : Set) (name : List ℕ) (values : List (List ℕ)) (r : Ending) (
   too_long_by q text (came_whole short w) = too_long_text text w q
 
   abbrev pub Written : Ending → List ℕ → Type 0
-  Written x text = Writes (IsRunResult set name values x text) f.held_old f.held_new
+  Written x text = Writes (IsRunResult set job x text) f.held_old f.held_new
 
   run_of_text : (text : List ℕ) (x : Ending) → is_run x ≡ true → Runs text → r ≡ x → Written x text
   run_of_text text x b (refused t i e same) q = differ is_run (refusal t) x (refusal_is_no_run t) b (sym e ∙ q)
-  run_of_text text x b (not_run reason i e same) q = differ is_run (ending.NotRun reason) x refl b (sym e ∙ q)
+  run_of_text text x b (not_run reason i e same) q = differ is_run (stopped reason) x (stopped_is_no_run reason) b (sym e ∙ q)
   run_of_text text x b (ran o out i w) q = elim w [
     | delivered is y ↦ record { out = out; is = record { outcome = o; run = i; ends = sym q ∙ is }; appends = y.appends }
     | cut is y ↦ differ is_run ending.WriteFault x refl b (sym is ∙ q)
@@ -282,33 +320,40 @@ module _ (set : Set) (name : List ℕ) (values : List (List ℕ)) (r : Ending) (
   run_by x b q text (came_wanting e) = differ is_run ending.Memory x refl b (sym e ∙ q)
   run_by x b q text (came_whole short w) = run_of_text text x b w q
 
-  refusal_not_run : {A : Type 0} (t : SketchFault) (reason : ExecFault) → refusal t ≡ ending.NotRun reason → A
-  refusal_not_run (fault.NotText a) reason e = cc
-  refusal_not_run (fault.NotTyped a) reason e = cc
-  refusal_not_run (fault.TooLarge a) reason e = cc
-  refusal_not_run fault.Memory reason e = cc
+  same_stop : (t told : TraceFault) → stopped t ≡ stopped told → t ≡ told
+  same_stop (reason.NotRun a) (reason.NotRun b) e = let same : a ≡ b = cc in ap reason.NotRun same
+  same_stop (reason.NotFilled a) (reason.NotFilled b) e = let same : a ≡ b = cc in ap reason.NotFilled same
+  same_stop (reason.NotRun a) (reason.NotFilled b) e = cc
+  same_stop (reason.NotFilled a) (reason.NotRun b) e = cc
 
-  not_run_text : (reason : ExecFault) (text : List ℕ) → Runs text → r ≡ ending.NotRun reason → IsNotRun set name values text reason
-  not_run_text reason text (refused t i e same) q = refusal_not_run t reason (sym e ∙ q)
-  not_run_text reason text (not_run told i e same) q = let z = sym e ∙ q in let same : told ≡ reason = cc in subst (IsNotRun set name values text) same i
-  not_run_text reason text (ran o out i w) q = elim w [
-    | delivered is y ↦ run_not o (ending.NotRun reason) refl (sym is ∙ q)
-    | cut is y ↦ let z = sym is ∙ q in cc
-    | no_room is same ↦ let z = sym is ∙ q in cc
+  not_run_text : (told : TraceFault) (text : List ℕ) → Runs text → r ≡ stopped told → IsStopped set job text told
+  not_run_text told text (refused t i e same) q = differ is_stop (refusal t) (stopped told) (refusal_is_no_stop t) (stopped_is told) (sym e ∙ q)
+  not_run_text told text (not_run reason i e same) q = subst (IsStopped set job text) (same_stop reason told (sym e ∙ q)) i
+  not_run_text told text (ran o out i w) q = elim w [
+    | delivered is y ↦ differ is_stop (ending_of o) (stopped told) (run_is_no_stop o) (stopped_is told) (sym is ∙ q)
+    | cut is y ↦ differ is_stop ending.WriteFault (stopped told) refl (stopped_is told) (sym is ∙ q)
+    | no_room is same ↦ differ is_stop ending.Memory (stopped told) refl (stopped_is told) (sym is ∙ q)
   ]
 
-  pub not_run_by : (reason : ExecFault) → r ≡ ending.NotRun reason → (text : List ℕ) → Came text → IsNotRun set name values text reason
-  not_run_by reason q text (came_failed e rose) = let z = sym e ∙ q in cc
-  not_run_by reason q text (came_long e l) = let z = sym e ∙ q in cc
-  not_run_by reason q text (came_wanting e) = let z = sym e ∙ q in cc
-  not_run_by reason q text (came_whole short w) = not_run_text reason text w q
+  pub not_run_by : (told : TraceFault) → r ≡ stopped told → (text : List ℕ) → Came text → IsStopped set job text told
+  not_run_by told q text (came_failed e rose) = differ is_stop ending.ReadFault (stopped told) refl (stopped_is told) (sym e ∙ q)
+  not_run_by told q text (came_long e l) = differ is_stop ending.TooLong (stopped told) refl (stopped_is told) (sym e ∙ q)
+  not_run_by told q text (came_wanting e) = differ is_stop ending.Memory (stopped told) refl (stopped_is told) (sym e ∙ q)
+  not_run_by told q text (came_whole short w) = not_run_text told text w q
+
+  -- it is stopped for some text, whatever the source tells
+  pub stopped_by : (told : TraceFault) → r ≡ stopped told → RunsSource set job r f → (text : List ℕ) × IsStopped set job text told
+  stopped_by told q (failed e rose same) = differ is_stop ending.ReadFault (stopped told) refl (stopped_is told) (sym e ∙ q)
+  stopped_by told q (long e l same) = differ is_stop ending.TooLong (stopped told) refl (stopped_is told) (sym e ∙ q)
+  stopped_by told q (wanting e same) = differ is_stop ending.Memory (stopped told) refl (stopped_is told) (sym e ∙ q)
+  stopped_by told q (whole text w x) = (text, not_run_text told text x q)
 
   abbrev pub Part : List ℕ → Type 0
-  Part text = WritesPart (IsRunOutput set name values text) f.held_old f.held_new
+  Part text = WritesPart (IsRunOutput set job text) f.held_old f.held_new
 
   prefix_text : (text : List ℕ) → Runs text → r ≡ ending.WriteFault → Part text
   prefix_text text (refused t i e same) q = refusal_no_write_fault t (sym e ∙ q)
-  prefix_text text (not_run reason i e same) q = let z = sym e ∙ q in cc
+  prefix_text text (not_run reason i e same) q = stop_not reason ending.WriteFault refl (sym e ∙ q)
   prefix_text text (ran o out i w) q = elim w [
     | delivered is y ↦ run_not o ending.WriteFault refl (sym is ∙ q)
     | cut is y ↦ record { out = out; is = record { outcome = o; run = i }; appends = y.appends }
@@ -349,8 +394,8 @@ module _ (set : Set) (name : List ℕ) (values : List (List ℕ)) (r : Ending) (
     ends_cause c cause k fits (came_long e l) = too_long text fits l
     ends_cause c cause k fits (came_wanting e) = ended ending.Memory e memory
     ends_cause c cause k fits (came_whole short (refused t i e same)) = ended (refusal t) e (told_cause c cause k t i)
-    ends_cause c cause k fits (came_whole short (not_run reason i e same)) = absurd (no_cause_of_fault set name values text reason c i cause)
-    ends_cause c cause k fits (came_whole short (ran o out i w)) = absurd (no_cause_of_run set name values text o out c i cause)
+    ends_cause c cause k fits (came_whole short (not_run reason i e same)) = absurd (no_cause_of_stop set job text reason c i cause)
+    ends_cause c cause k fits (came_whole short (ran o out i w)) = absurd (no_cause_of_job set job text o out c i cause)
 
     -- a text that has an expansion within the limits
     no_cause : ((c : SketchFault) → IsCause (IsFaultOfExpansion set text) c → ⊥) → (t : SketchFault) → IsFaultOfExpansion set text t → P (refusal t)
@@ -359,12 +404,12 @@ module _ (set : Set) (name : List ℕ) (values : List (List ℕ)) (r : Ending) (
     no_cause none (fault.TooLarge a) i = absurd (none (fault.TooLarge a) i)
     no_cause none fault.Memory i = memory
 
-    pub ends_expanded : ((c : SketchFault) → IsCause (IsFaultOfExpansion set text) c → ⊥) → ((reason : ExecFault) → IsNotRun set name values text reason → P (ending.NotRun reason)) → ((o : Outcome) (out : List ℕ) → IsRunText set name values text o out → P (ending_of o)) → (((o : Outcome) → (out : List ℕ) → IsRunText set name values text o out → ⊥) ⊎ (Rose f.write_faults_old f.write_faults_new → P ending.WriteFault)) → length text ≤ most_bytes → Came text → P r
+    pub ends_expanded : ((c : SketchFault) → IsCause (IsFaultOfExpansion set text) c → ⊥) → ((reason : TraceFault) → IsStopped set job text reason → P (stopped reason)) → ((o : Outcome) (out : List ℕ) → IsRunOfJob set job text o out → P (ending_of o)) → (((o : Outcome) → (out : List ℕ) → IsRunOfJob set job text o out → ⊥) ⊎ (Rose f.write_faults_old f.write_faults_new → P ending.WriteFault)) → length text ≤ most_bytes → Came text → P r
     ends_expanded none by_fault by_run by_cut fits (came_failed e rose) = ended ending.ReadFault e (read rose)
     ends_expanded none by_fault by_run by_cut fits (came_long e l) = too_long text fits l
     ends_expanded none by_fault by_run by_cut fits (came_wanting e) = ended ending.Memory e memory
     ends_expanded none by_fault by_run by_cut fits (came_whole short (refused t i e same)) = ended (refusal t) e (no_cause none t i)
-    ends_expanded none by_fault by_run by_cut fits (came_whole short (not_run reason i e same)) = ended (ending.NotRun reason) e (by_fault reason i)
+    ends_expanded none by_fault by_run by_cut fits (came_whole short (not_run reason i e same)) = ended (stopped reason) e (by_fault reason i)
     ends_expanded none by_fault by_run (inl no_run) fits (came_whole short (ran o out i w)) = absurd (no_run o out i)
     ends_expanded none by_fault by_run (inr by_cut) fits (came_whole short (ran o out i w)) = elim w [
       | delivered is y ↦ ended (ending_of o) is (by_run o out i)
@@ -377,23 +422,27 @@ module _ (set : Set) (name : List ℕ) (values : List (List ℕ)) (r : Ending) (
   same_end o (outcome.Failed span) e a b c d = ap ending_of e
   same_end o (outcome.Skipped span) e a b c d = ap ending_of e
 
-  pub ends_run_by : (text : List ℕ) → Came text → (o : Outcome) (out : List ℕ) → IsRunText set name values text o out → EndsRun o r f.read_faults_old f.read_faults_new f.write_faults_old f.write_faults_new
+  pub ends_run_by : (text : List ℕ) → Came text → (o : Outcome) (out : List ℕ) → IsRunOfJob set job text o out → EndsRun o r f.read_faults_old f.read_faults_new f.write_faults_old f.write_faults_new
   ends_run_by text came o out is =
       ends_expanded text (λ x. EndsRun o x f.read_faults_old f.read_faults_new f.write_faults_old f.write_faults_new) tt (λ rose. rose)
-      (λ c cause. no_cause_of_run set name values text o out c is cause)
-      (λ reason i. absurd (no_fault_of_text_run set name values text reason o out i is))
-      (λ p other i. same_end o p ((one_text_run set name values text p o other out i is).0) f.read_faults_old f.read_faults_new f.write_faults_old f.write_faults_new)
+      (λ c cause. no_cause_of_job set job text o out c is cause)
+      (λ told i. absurd (no_stop_of_run set job text told o out i is))
+      (λ p other i. same_end o p ((one_run set job text p o other out i is).0) f.read_faults_old f.read_faults_new f.write_faults_old f.write_faults_new)
       (inr (λ rose. rose))
-      is.expanded.typed.short came
+      (run_is_short set job text o out is) came
 
-  pub ends_not_run_by : (text : List ℕ) → Came text → (reason : ExecFault) → IsNotRun set name values text reason → EndsNotRun reason r f.read_faults_old f.read_faults_new
-  ends_not_run_by text came reason is =
-      ends_expanded text (λ x. EndsNotRun reason x f.read_faults_old f.read_faults_new) tt (λ rose. rose)
-      (λ c cause. no_cause_of_fault set name values text reason c is cause)
-      (λ told i. one_fault_of_text set name values text told reason i is)
-      (λ p other i. absurd (no_fault_of_text_run set name values text reason p other is i))
-      (inl (λ p other i. no_fault_of_text_run set name values text reason p other is i))
-      is.expanded.typed.short came
+  same_told : (told reason : TraceFault) → told ≡ reason → EndsStopped reason (stopped told) f.read_faults_old f.read_faults_new
+  same_told (reason.NotRun a) told e = e
+  same_told (reason.NotFilled a) told e = e
+
+  pub ends_not_run_by : (text : List ℕ) → Came text → (told : TraceFault) → IsStopped set job text told → EndsStopped told r f.read_faults_old f.read_faults_new
+  ends_not_run_by text came told is =
+      ends_expanded text (λ x. EndsStopped told x f.read_faults_old f.read_faults_new) tt (λ rose. rose)
+      (λ c cause. no_cause_of_stop set job text told c is cause)
+      (λ other i. same_told other told (one_stop set job text other told i is))
+      (λ p other i. absurd (no_stop_of_run set job text told p other is i))
+      (inl (λ p other i. no_stop_of_run set job text told p other is i))
+      (stop_is_short set job text told is) came
 
   as_faulty : (told : TextFault) (t : SketchFault) → IsSame (fault.NotText told) t → EndsFaulty told (refusal t) f.read_faults_old f.read_faults_new
   as_faulty told (fault.NotText a) h = h

@@ -2,6 +2,7 @@ mod StreamLemmas
 mod EndingLemmas
 mod EndedLaws
 mod ToldLaws
+mod JobLaws
 mod ExecLaws
 mod EffectLaws
 pub mod SpentLaws

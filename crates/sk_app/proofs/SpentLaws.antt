@@ -1,15 +1,9 @@
 -- Parts of the texts of a spent budget.
-use Rattle.std.proofs.Common.{◌≡◌, ℕ, List, [], ◌++◌, Option, Some, None, refl, codes}
-use Rattle.std.specs.List.{join_by}
+use Rattle.std.proofs.Common.{◌≡◌, ℕ, List, [], ◌++◌, Option, Some, None, refl}
 use Rattle.std.proofs.lemmas.List.{append_assoc}
-use Rattle.sk_values.proofs.Joined.{joined, joined_first}
 use Rattle.sk_model.specs.declared.expanded.Choice.{Choice}
 use Rattle.sk_model.specs.declared.expanded.Expanded.{Expanded}
 use Rattle.sk_app.specs.SpentText.{Spent, spent_lines, known_text, spent_result}
-
--- values with commas between them, one after another
-pub values_joined : (ts : List (List ℕ)) → join_by (λ t. t) (codes ",") ts ≡ joined [] ts
-values_joined = joined_first
 
 -- the choice that is known stands first
 pub known_first : (e : Expanded) (best : Option Choice) (spent : Spent) → known_text e best ++ spent_lines spent ≡ spent_result e best spent

@@ -20,17 +20,19 @@ use Rattle.sk_front.specs.Texts.{HasSpan}
 use Rattle.sk_check.specs.declared.fault.TypeFault.{TypeFault}
 use Rattle.sk_sizes.specs.declared.fault.SizeFault.{SizeFault}
 use Rattle.sk_sizes.specs.declared.fault.SizeFault.TheVariants as size
-use Rattle.sk_direct.specs.declared.fault.ExecFault.{ExecFault}
-use Rattle.sk_direct.specs.Direct.{IsNotRun, IsRunText}
+use Rattle.sk_traced.specs.declared.fault.TraceFault.{TraceFault}
+use Rattle.sk_app.specs.declared.direct.Way.TheVariants as way
+use Rattle.sk_app.specs.declared.direct.Job.{Job}
+use Rattle.sk_app.specs.Jobs.{IsStopped, IsRunOfJob}
 use Rattle.sk_app.specs.declared.ending.Ending.{Ending}
-use Rattle.sk_app.specs.declared.ending.Ending.TheVariants.{Completed, NoCompletion, SpentRounds, SpentConflicts, HelpShown, VersionShown, NotALine, NotText, NotTyped, TooLarge, NotRun, ReadFault, WriteFault, TooLong, Memory, NotBuilt, ExecDone, ExecFailed, ExecSkipped}
+use Rattle.sk_app.specs.declared.ending.Ending.TheVariants.{Completed, NoCompletion, SpentRounds, SpentConflicts, HelpShown, VersionShown, NotALine, NotText, NotTyped, TooLarge, NotRun, NotFilled, ReadFault, WriteFault, TooLong, Memory, NotBuilt, ExecDone, ExecFailed, ExecSkipped}
 use Rattle.sk_app.specs.Streams.{IsWhole, IsLong, TakesFew}
 use Rattle.sk_app.specs.ResultText.{IsCompletion, IsNone}
 use Rattle.sk_app.specs.Spent.{AreLearnt, IsSpentRounds, IsSpentConflicts}
 use Rattle.sk_app.specs.Results.{IsResult}
 use Rattle.sk_app.specs.Help.{help_text, version_text}
-use Rattle.sk_app.specs.Lines.{IsNoLine, ForSearch, ForExec}
-use Rattle.sk_app.specs.Ends.{IsDelivered, Writes, WritesPart, writes_nothing, IsToldOf, ending_of}
+use Rattle.sk_app.specs.Lines.{IsNoLine, ForSearch, ForJob}
+use Rattle.sk_app.specs.Ends.{IsDelivered, Writes, WritesPart, writes_nothing, IsToldOf, ending_of, stopped}
 
 -- what is left of the source before and after a call, what the sink holds, where they tell it, and the counts of
 -- their faults
@@ -74,6 +76,7 @@ is_of_synth ExecDone = false
 is_of_synth (ExecFailed span) = false
 is_of_synth (ExecSkipped span) = false
 is_of_synth (NotRun reason) = false
+is_of_synth (NotFilled reason) = false
 is_of_synth _ = true
 
 -- a fault of types is told at a span of the text
@@ -96,15 +99,15 @@ pub record Synthesises (set : Set) (budget : Budget) (result : Ending) (f : Effe
   pub few : TakesFew f.left_old f.left_new
 
 -- what is written of a run of this text that ends so
-pub record IsRunResult (set : Set) (name : List ℕ) (values : List (List ℕ)) (result : Ending) (text out : List ℕ) : Type 0 where
+pub record IsRunResult (set : Set) (job : Job) (result : Ending) (text out : List ℕ) : Type 0 where
   pub outcome : Outcome
-  pub run : IsRunText set name values text outcome out
+  pub run : IsRunOfJob set job text outcome out
   pub ends : result ≡ ending_of outcome
 
--- a text that a line `exec` writes
-pub record IsRunOutput (set : Set) (name : List ℕ) (values : List (List ℕ)) (text out : List ℕ) : Type 0 where
+-- a text that a line `exec` or `trace` writes
+pub record IsRunOutput (set : Set) (job : Job) (text out : List ℕ) : Type 0 where
   pub outcome : Outcome
-  pub run : IsRunText set name values text outcome out
+  pub run : IsRunOfJob set job text outcome out
 
 -- the ending of a text that has no expansion within the limits
 abbrev pub refusal : SketchFault → Ending
@@ -119,22 +122,22 @@ is_of_expansion size.Copies = true
 is_of_expansion size.Sites = true
 is_of_expansion _ = false
 
--- what a line `exec` does for a text that is not too long
-pub data RunsText (set : Set) (name : List ℕ) (values : List (List ℕ)) (text : List ℕ) (result : Ending) (faults_old faults_new : ℕ) (old new : Option (List ℕ)) : Type 0 where
-  refused : (told : SketchFault) → IsFaultOfExpansion set text told → result ≡ refusal told → new ≡ old → RunsText set name values text result faults_old faults_new old new
-  not_run : (reason : ExecFault) → IsNotRun set name values text reason → result ≡ NotRun reason → new ≡ old → RunsText set name values text result faults_old faults_new old new
-  ran : (outcome : Outcome) (out : List ℕ) → IsRunText set name values text outcome out → IsDelivered result (ending_of outcome) out faults_old faults_new old new → RunsText set name values text result faults_old faults_new old new
+-- what a line that runs a function does for a text that is not too long
+pub data RunsText (set : Set) (job : Job) (text : List ℕ) (result : Ending) (faults_old faults_new : ℕ) (old new : Option (List ℕ)) : Type 0 where
+  refused : (told : SketchFault) → IsFaultOfExpansion set text told → result ≡ refusal told → new ≡ old → RunsText set job text result faults_old faults_new old new
+  not_run : (reason : TraceFault) → IsStopped set job text reason → result ≡ stopped reason → new ≡ old → RunsText set job text result faults_old faults_new old new
+  ran : (outcome : Outcome) (out : List ℕ) → IsRunOfJob set job text outcome out → IsDelivered result (ending_of outcome) out faults_old faults_new old new → RunsText set job text result faults_old faults_new old new
 
 -- the source failed, or gives too many bytes, or memory was wanting, and nothing was written; or its text was taken
-pub data RunsSource (set : Set) (name : List ℕ) (values : List (List ℕ)) (result : Ending) (f : Effect) : Type 0 where
-  failed : result ≡ ReadFault → Rose f.read_faults_old f.read_faults_new → f.held_new ≡ f.held_old → RunsSource set name values result f
-  long : result ≡ TooLong → IsLong f.left_old → f.held_new ≡ f.held_old → RunsSource set name values result f
-  wanting : result ≡ Memory → f.held_new ≡ f.held_old → RunsSource set name values result f
-  whole : (text : List ℕ) → IsWhole text f.left_old → RunsText set name values text result f.write_faults_old f.write_faults_new f.held_old f.held_new → RunsSource set name values result f
+pub data RunsSource (set : Set) (job : Job) (result : Ending) (f : Effect) : Type 0 where
+  failed : result ≡ ReadFault → Rose f.read_faults_old f.read_faults_new → f.held_new ≡ f.held_old → RunsSource set job result f
+  long : result ≡ TooLong → IsLong f.left_old → f.held_new ≡ f.held_old → RunsSource set job result f
+  wanting : result ≡ Memory → f.held_new ≡ f.held_old → RunsSource set job result f
+  whole : (text : List ℕ) → IsWhole text f.left_old → RunsText set job text result f.write_faults_old f.write_faults_new f.held_old f.held_new → RunsSource set job result f
 
--- a call for a line `exec` with these options, this name and these values
-pub record Executes (set : Set) (name : List ℕ) (values : List (List ℕ)) (result : Ending) (f : Effect) : Type 0 where
-  pub runs : RunsSource set name values result f
+-- a call for a line `exec` or `trace` with these options, which asks for this job
+pub record Executes (set : Set) (job : Job) (result : Ending) (f : Effect) : Type 0 where
+  pub runs : RunsSource set job result f
   pub place : TellsSpan result f.left_old
   pub few : TakesFew f.left_old f.left_new
 
@@ -142,7 +145,8 @@ pub record Executes (set : Set) (name : List ℕ) (values : List (List ℕ)) (re
 abbrev pub Serves : Line → Ending → Effect → Type 0
 Serves (line.Synth set budget true) result f = IsRefused NotBuilt result f
 Serves (line.Synth set budget false) result f = Synthesises set budget result f
-Serves (line.Exec set name values) result f = Executes set name values result f
+Serves (line.Exec set name values) result f = Executes set (record { name = name; values = values; way = way.Exec }) result f
+Serves (line.Trace set name values holes) result f = Executes set (record { name = name; values = values; way = way.Trace holes }) result f
 Serves (line.Check set) result f = IsRefused NotBuilt result f
 Serves (line.Itself n) result f = IsRefused NotBuilt result f
 Serves line.Help result f = IsShown help_text HelpShown result f
@@ -157,6 +161,6 @@ pub data Answers (words : List (List ℕ)) (result : Ending) (f : Effect) : Type
 -- a text that a line writes for this text of its source
 pub data IsOutput (words : List (List ℕ)) (text out : List ℕ) : Type 0 where
   result : ForSearch words (λ set budget. IsResult set budget text out) → IsOutput words text out
-  run : ForExec words (λ set name values. IsRunOutput set name values text out) → IsOutput words text out
+  run : ForJob words (λ set job. IsRunOutput set job text out) → IsOutput words text out
   help : IsLine words line.Help → out ≡ help_text → IsOutput words text out
   version : IsLine words line.Version → out ≡ version_text → IsOutput words text out

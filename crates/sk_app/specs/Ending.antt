@@ -14,8 +14,10 @@ use Rattle.sk_front.specs.declared.fault.TextFault.{TextFault}
 use Rattle.sk_front.specs.declared.fault.TextFault.TheVariants.{Lex, Parse}
 use Rattle.sk_direct.specs.declared.fault.ExecFault.{ExecFault}
 use Rattle.sk_direct.specs.declared.fault.ExecFault.TheVariants as exec
+use Rattle.sk_holes.specs.declared.fault.FillFault.{FillFault}
+use Rattle.sk_holes.specs.declared.fault.FillFault.TheVariants as hole
 use Rattle.sk_app.specs.declared.ending.Ending.{Ending}
-use Rattle.sk_app.specs.declared.ending.Ending.TheVariants.{Completed, NoCompletion, SpentRounds, SpentConflicts, HelpShown, VersionShown, ExecDone, ExecFailed, ExecSkipped, NotALine, NotText, NotTyped, TooLarge, NotRun, ReadFault, WriteFault, TooLong, Memory, NotBuilt}
+use Rattle.sk_app.specs.declared.ending.Ending.TheVariants.{Completed, NoCompletion, SpentRounds, SpentConflicts, HelpShown, VersionShown, ExecDone, ExecFailed, ExecSkipped, NotALine, NotText, NotTyped, TooLarge, NotRun, NotFilled, ReadFault, WriteFault, TooLong, Memory, NotBuilt}
 
 -- The refusal for a fault of a text. Want of memory, which `run` answers as `Memory`, is no fault of it.
 abbrev pub text_refusal : TextFault → Refusal
@@ -55,13 +57,19 @@ size_refusal size.Steps = said.TooLarge said.Steps
 size_refusal size.News = said.TooLarge said.News
 size_refusal size.Memory = said.Memory
 
--- the refusal of a line `exec` that runs no function
+-- the refusal of a line that runs no function
 abbrev pub exec_refusal : ExecFault → Refusal
 exec_refusal exec.NoFunction = said.NotRun said.NoFunction
 exec_refusal exec.Unfilled = said.NotRun said.Unfilled
 exec_refusal exec.References = said.NotRun said.References
 exec_refusal exec.Count = said.NotRun said.Count
 exec_refusal (exec.Value index) = said.NotRun said.Value
+
+-- The refusal where numbers do not fill a sketch. Want of memory, which `run` answers as `Memory`, is no such.
+abbrev pub fill_refusal : FillFault → Refusal
+fill_refusal hole.WrongLength = said.NotFilled said.WrongLength
+fill_refusal (hole.OutOfRange site) = said.NotFilled said.OutOfRange
+fill_refusal hole.Memory = said.Memory
 
 -- where a budget is spent: whether a choice is known that meets every obligation
 abbrev pub spent_status : Option Choice → ℕ
@@ -83,6 +91,7 @@ status_of (NotText fault) = refusal_status (text_refusal fault)
 status_of (NotTyped fault) = refusal_status (type_refusal fault)
 status_of (TooLarge reason) = refusal_status (size_refusal reason)
 status_of (NotRun reason) = refusal_status (exec_refusal reason)
+status_of (NotFilled fault) = refusal_status (fill_refusal fault)
 status_of ReadFault = 14
 status_of WriteFault = 15
 status_of TooLong = 16
@@ -104,6 +113,7 @@ message_of (NotText fault) = refusal_message (text_refusal fault)
 message_of (NotTyped fault) = refusal_message (type_refusal fault)
 message_of (TooLarge reason) = refusal_message (size_refusal reason)
 message_of (NotRun reason) = refusal_message (exec_refusal reason)
+message_of (NotFilled fault) = refusal_message (fill_refusal fault)
 message_of ReadFault = codes "read fault"
 message_of WriteFault = codes "write fault"
 message_of TooLong = codes "too long"

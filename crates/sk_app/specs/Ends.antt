@@ -5,12 +5,13 @@ use Rattle.sk_base.specs.declared.bounds.Budget.{Budget}
 use Rattle.sk_model.specs.declared.outcome.Outcome.{Outcome}
 use Rattle.sk_model.specs.declared.outcome.Outcome.TheVariants as outcome
 use Rattle.sk_app.specs.declared.ending.Ending.{Ending}
-use Rattle.sk_app.specs.declared.ending.Ending.TheVariants.{Completed, NoCompletion, SpentRounds, SpentConflicts, HelpShown, VersionShown, ExecDone, ExecFailed, ExecSkipped, NotALine, NotText, NotTyped, TooLarge, NotRun, ReadFault, WriteFault, TooLong, Memory, NotBuilt}
+use Rattle.sk_app.specs.declared.ending.Ending.TheVariants.{Completed, NoCompletion, SpentRounds, SpentConflicts, HelpShown, VersionShown, ExecDone, ExecFailed, ExecSkipped, NotALine, NotText, NotTyped, TooLarge, NotRun, NotFilled, ReadFault, WriteFault, TooLong, Memory, NotBuilt}
 use Rattle.sk_front.specs.declared.fault.TextFault.{TextFault}
 use Rattle.sk_front.specs.Texts.{most_bytes, IsTextFault, IsSameFault}
 use Rattle.sk_front.specs.Front.{IsUntyped, IsTooLarge}
 use Rattle.sk_opts.specs.declared.line.Set.{Set}
-use Rattle.sk_direct.specs.declared.fault.ExecFault.{ExecFault}
+use Rattle.sk_traced.specs.declared.fault.TraceFault.{TraceFault}
+use Rattle.sk_traced.specs.declared.fault.TraceFault.TheVariants as fault
 use Rattle.sk_app.specs.Built.{IsTaken}
 use Rattle.sk_sizes.specs.declared.fault.SizeFault.{SizeFault}
 use Rattle.sk_app.specs.Streams.{Appends, AppendsPrefix}
@@ -138,11 +139,16 @@ EndsVersion Memory sink_old sink_new = Unit {0}
 EndsVersion WriteFault sink_old sink_new = Rose sink_old sink_new
 EndsVersion _ sink_old sink_new = ⊥
 
--- the ending of a line `exec` whose run ends so
+-- the ending of a line that runs a function, whose run ends so
 abbrev pub ending_of : Outcome → Ending
 ending_of (outcome.Done result refs cost) = ExecDone
 ending_of (outcome.Failed span) = ExecFailed span
 ending_of (outcome.Skipped span) = ExecSkipped span
+
+-- the ending of a line that runs no function for this reason
+abbrev pub stopped : TraceFault → Ending
+stopped (fault.NotRun reason) = NotRun reason
+stopped (fault.NotFilled reason) = NotFilled reason
 
 -- A run ends as its outcome says, unless the source or the sink failed or memory was wanting.
 abbrev pub EndsRun : Outcome → Ending → ℕ → ℕ → ℕ → ℕ → Type 0
@@ -152,8 +158,9 @@ EndsRun outcome WriteFault source_old source_new sink_old sink_new = Rose sink_o
 EndsRun outcome result source_old source_new sink_old sink_new = result ≡ ending_of outcome
 
 -- Where no function is run for this reason, it is told, unless the source failed or memory was wanting.
-abbrev pub EndsNotRun : ExecFault → Ending → ℕ → ℕ → Type 0
-EndsNotRun reason (NotRun told) source_old source_new = told ≡ reason
-EndsNotRun reason Memory source_old source_new = Unit {0}
-EndsNotRun reason ReadFault source_old source_new = Rose source_old source_new
-EndsNotRun reason _ source_old source_new = ⊥
+abbrev pub EndsStopped : TraceFault → Ending → ℕ → ℕ → Type 0
+EndsStopped reason (NotRun told) source_old source_new = fault.NotRun told ≡ reason
+EndsStopped reason (NotFilled told) source_old source_new = fault.NotFilled told ≡ reason
+EndsStopped reason Memory source_old source_new = Unit {0}
+EndsStopped reason ReadFault source_old source_new = Rose source_old source_new
+EndsStopped reason _ source_old source_new = ⊥

@@ -8,6 +8,7 @@ usage_text =
     ++ codes "\n"
     ++ codes "sketch synth [OPTION].. < SKETCH               writes the completed sketch, or the line //@ none\n"
     ++ codes "sketch exec [OPTION].. NAME VALUE.. < PROGRAM  writes what the function NAME gives for the values\n"
+    ++ codes "sketch trace [OPTION].. NAME VALUE.. < SKETCH  writes each step of that run, in a filling\n"
     ++ codes "sketch --help                                  writes this help\n"
     ++ codes "sketch --version                               writes the version\n"
     ++ codes "\n"
@@ -20,6 +21,7 @@ usage_text =
     ++ codes "  --int-bits         6 to 32, else 16         bits of int\n"
     ++ codes "  --rounds           0 to 1000000, else 0     inputs that speak against choices; 0 is no limit\n"
     ++ codes "  --conflicts        0 to 1000000000, else 0  clauses learnt in one call; 0 is no limit\n"
+    ++ codes "  --holes            N,N.., else none         what trace puts in for the sites, as in a line //@ holes\n"
 
 -- the statuses with which it ends
 abbrev pub statuses_text : List ℕ
@@ -43,6 +45,7 @@ statuses_text =
     ++ codes "  17  out of memory\n"
     ++ codes "  18  the function cannot be run\n"
     ++ codes "  20  not built: a line with check, self or --cert\n"
+    ++ codes "  22  the numbers of --holes do not fill the sketch\n"
 
 abbrev pub help_text : List ℕ
 help_text = usage_text ++ statuses_text

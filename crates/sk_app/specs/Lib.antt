@@ -12,4 +12,5 @@ pub mod Prepared
 pub mod Ends
 pub mod Help
 pub mod Lines
+pub mod Jobs
 pub mod Effects

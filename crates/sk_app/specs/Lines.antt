@@ -1,10 +1,13 @@
 -- What the program does with the line that words spell.
-use Rattle.std.specs.Prelude.{ℕ, ◌⊎◌, Bool, true, false, IsTrue, List}
+use Rattle.std.specs.Prelude.{ℕ, ◌⊎◌, Bool, true, false, IsTrue, List, Option}
 use Rattle.sk_base.specs.declared.bounds.Budget.{Budget}
 use Rattle.sk_opts.specs.declared.line.Set.{Set}
 use Rattle.sk_opts.specs.declared.line.Line.{Line}
 use Rattle.sk_opts.specs.declared.line.Line.TheVariants as line
 use Rattle.sk_opts.specs.CommandLine.{IsLine}
+use Rattle.sk_app.specs.declared.direct.Way.{Way}
+use Rattle.sk_app.specs.declared.direct.Way.TheVariants as way
+use Rattle.sk_app.specs.declared.direct.Job.{Job}
 
 -- the words spell no line
 abbrev pub IsNoLine : List (List ℕ) → Type 0
@@ -32,21 +35,37 @@ pub record ForSynth (words : List (List ℕ)) (Holds : Set → Type 0) : Type 0 
   pub is : IsSynth words set
   pub holds : Holds set
 
--- The words are a line `exec` with these options, this name and these values.
-abbrev pub IsExec : List (List ℕ) → Set → List ℕ → List (List ℕ) → Type 0
-IsExec words set name values = IsLine words (line.Exec set name values)
+-- the line that asks for a function of this name to be run so on these values
+abbrev pub line_by : Way → Set → List ℕ → List (List ℕ) → Line
+line_by way.Exec set name values = line.Exec set name values
+line_by (way.Trace holes) set name values = line.Trace set name values holes
+
+abbrev pub line_of : Set → Job → Line
+line_of set job = line_by job.way set job.name job.values
+
+-- The words are a line `exec` or `trace` with these options, which asks for this job.
+abbrev pub IsJob : List (List ℕ) → Set → Job → Type 0
+IsJob words set job = IsLine words (line_of set job)
 
 -- they are such a line, and this holds of it
-pub record ForExec (words : List (List ℕ)) (Holds : Set → List ℕ → List (List ℕ) → Type 0) : Type 0 where
+pub record ForJob (words : List (List ℕ)) (Holds : Set → Job → Type 0) : Type 0 where
   pub set : Set
+  pub job : Job
+  pub is : IsJob words set job
+  pub holds : Holds set job
+
+-- The words are a line `trace` with these options and numbers, this name and these values, and this holds of it.
+pub record ForTrace (words : List (List ℕ)) (Holds : Set → Option (List ℕ) → List ℕ → List (List ℕ) → Type 0) : Type 0 where
+  pub set : Set
+  pub holes : Option (List ℕ)
   pub name : List ℕ
   pub values : List (List ℕ)
-  pub is : IsExec words set name values
-  pub holds : Holds set name values
+  pub is : IsLine words (line.Trace set name values holes)
+  pub holds : Holds set holes name values
 
--- The words are a line that takes a text, with these options: `synth` without a certificate, or `exec`.
+-- The words are a line that takes a text, with these options: `synth` without a certificate, `exec` or `trace`.
 abbrev pub TakesText : List (List ℕ) → Set → Type 0
-TakesText words set = IsSynth words set ⊎ ((name : List ℕ) × (values : List (List ℕ)) × IsExec words set name values)
+TakesText words set = IsSynth words set ⊎ ((job : Job) × IsJob words set job)
 
 -- they are such a line, and this holds of its options
 pub record ForText (words : List (List ℕ)) (Holds : Set → Type 0) : Type 0 where
@@ -58,6 +77,7 @@ pub record ForText (words : List (List ℕ)) (Holds : Set → Type 0) : Type 0 w
 abbrev pub is_unbuilt : Line → Bool
 is_unbuilt (line.Synth set budget cert) = cert
 is_unbuilt (line.Exec set name values) = false
+is_unbuilt (line.Trace set name values holes) = false
 is_unbuilt (line.Check set) = true
 is_unbuilt (line.Itself n) = true
 is_unbuilt line.Help = false

@@ -28,13 +28,17 @@ ghost use Rattle.sk_sizes.specs.declared.fault.SizeFault.{SizeFault};
 ghost use Rattle.sk_base.specs.declared.span.Span.{Span};
 ghost use Rattle.sk_model.specs.declared.outcome.Outcome.{Outcome};
 ghost use Rattle.sk_direct.specs.declared.fault.ExecFault.{ExecFault};
-ghost use Rattle.sk_direct.specs.Direct.{IsNotRun, IsRunText};
+ghost use Rattle.sk_holes.specs.declared.fault.FillFault.{FillFault};
+ghost use Rattle.sk_traced.specs.declared.fault.TraceFault.{TraceFault};
+ghost use Rattle.sk_traced.specs.Traced.{IsNotTraced};
+ghost use Rattle.sk_app.specs.declared.direct.Job.{Job};
+ghost use Rattle.sk_app.specs.Jobs.{IsStopped, IsRunOfJob};
 ghost use Rattle.sk_app.specs.Help.{help_text, version_text};
-ghost use Rattle.sk_app.specs.Lines.{IsNoLine, IsSearch, ForSearch, IsSynth, ForSynth, IsExec, ForExec, TakesText, ForText, IsUnbuiltLine};
-ghost use Rattle.sk_app.specs.Ends.{IsDelivered, Writes, WritesPart, writes_nothing, IsToldOf, EndsBuilt, EndsFaulty, EndsUntyped, EndsLarge, EndsLong, EndsRun, EndsNotRun, EndsNoLine, EndsUnbuiltLine, EndsHelp, EndsVersion};
+ghost use Rattle.sk_app.specs.Lines.{IsNoLine, IsSearch, ForSearch, IsSynth, ForSynth, IsJob, ForJob, ForTrace, TakesText, ForText, IsUnbuiltLine};
+ghost use Rattle.sk_app.specs.Ends.{IsDelivered, Writes, WritesPart, writes_nothing, IsToldOf, EndsBuilt, EndsFaulty, EndsUntyped, EndsLarge, EndsLong, EndsRun, EndsStopped, EndsNoLine, EndsUnbuiltLine, EndsHelp, EndsVersion};
 ghost use Rattle.sk_app.specs.Effects.{is_of_synth, is_of_expansion, TellsSpan, IsRunResult, IsOutput, Serves, Answers};
 
-use crate::direct::run_source;
+use crate::direct::{Job, Way, run_source};
 use crate::ending::Ending;
 use crate::help::{help, version};
 use crate::output::deliver;
@@ -87,9 +91,9 @@ fn synth<S: Source, K: Sink>(
 }
 
 /// Does what a line asks for.
-fn serve<S: Source, K: Sink>(alloc: Global, line: &Line, source: &mut S, sink: &mut K) -> Ending
-    requires { LineIsInRanges line.now }
-    ensures { Serves line.now result (record {
+fn serve<S: Source, K: Sink>(alloc: Global, line: Line, source: &mut S, sink: &mut K) -> Ending
+    requires { LineIsInRanges line }
+    ensures { Serves line result (record {
       left_old = S.left source.old;
       left_new = S.left source.new;
       read_faults_old = S.faults source.old;
@@ -110,9 +114,19 @@ fn serve<S: Source, K: Sink>(alloc: Global, line: &Line, source: &mut S, sink: &
             set,
             budget,
             cert: false,
-        } => synth(alloc, set, budget, source, sink),
+        } => synth(alloc, &set, &budget, source, sink),
         Line::Exec { set, name, values } => {
-            run_source(alloc, set, name, values.as_slice(), source, sink)
+            let way = Way::Exec;
+            run_source(alloc, &set, &Job { name, values, way }, source, sink)
+        }
+        Line::Trace {
+            set,
+            name,
+            values,
+            holes,
+        } => {
+            let way = Way::Trace(holes);
+            run_source(alloc, &set, &Job { name, values, way }, source, sink)
         }
         Line::Check { .. } | Line::Itself { .. } => Ending::NotBuilt,
         Line::Help => show_help(alloc, sink),
@@ -139,16 +153,16 @@ fn answer<S: Source, K: Sink>(
     }) }
 {
     match options(alloc, words) {
-        Ok(line) => serve(alloc, &line, source, sink),
+        Ok(line) => serve(alloc, line, source, sink),
         Err(Usage::NotALine) => Ending::NotALine,
         Err(Usage::Memory) => Ending::Memory,
     }
 }
 
 /// Runs a command: the words are those behind the program's own name. A line `synth` reads a sketch from the source,
-/// completes it, and writes the result to the sink; a line `exec` runs a function of it, and writes what comes of that;
-/// `--help` and `--version` write their texts. A line `check` or `self`, or one that asks for a certificate, ends with
-/// `NotBuilt`.
+/// completes it, and writes the result to the sink; a line `exec` runs a function of it, and writes what comes of that; a line
+/// `trace` fills it with numbers, runs a function of the filling, and writes its steps too; `--help` and `--version` write
+/// their texts. A line `check` or `self`, or one that asks for a certificate, ends with `NotBuilt`.
 ///
 /// What is said of the text holds where the source tells what is left, and what is said of what the sink
 /// holds where the sink tells it. Want of memory may come at any step.
@@ -174,12 +188,15 @@ pub fn run<S: Source, K: Sink>(
     ensures help { result ≡ Ending.HelpShown → IsLine (map string_bytes words.now) line.Help × Appends help_text (K.held sink.old) (K.held sink.new) }
     ensures version { result ≡ Ending.VersionShown → IsLine (map string_bytes words.now) line.Version × Appends version_text (K.held sink.old) (K.held sink.new) }
 
-    // The run of the function of the line ended so; what the sink got is the text of that.
-    ensures exec_done { result ≡ Ending.ExecDone → ForExec (map string_bytes words.now) (λ set name values. IfSome (S.left source.old) (λ text. Writes (IsRunResult set name values Ending.ExecDone text) (K.held sink.old) (K.held sink.new))) }
-    ensures exec_failed { (span : Span) → result ≡ Ending.ExecFailed span → ForExec (map string_bytes words.now) (λ set name values. IfSome (S.left source.old) (λ text. Writes (IsRunResult set name values (Ending.ExecFailed span) text) (K.held sink.old) (K.held sink.new))) }
-    ensures exec_skipped { (span : Span) → result ≡ Ending.ExecSkipped span → ForExec (map string_bytes words.now) (λ set name values. IfSome (S.left source.old) (λ text. Writes (IsRunResult set name values (Ending.ExecSkipped span) text) (K.held sink.old) (K.held sink.new))) }
+    // The run of the function of the line, which is `exec` or `trace`, ended so; what the sink got is the text of that, for `trace`
+    // with its steps.
+    ensures exec_done { result ≡ Ending.ExecDone → ForJob (map string_bytes words.now) (λ set job. IfSome (S.left source.old) (λ text. Writes (IsRunResult set job Ending.ExecDone text) (K.held sink.old) (K.held sink.new))) }
+    ensures exec_failed { (span : Span) → result ≡ Ending.ExecFailed span → ForJob (map string_bytes words.now) (λ set job. IfSome (S.left source.old) (λ text. Writes (IsRunResult set job (Ending.ExecFailed span) text) (K.held sink.old) (K.held sink.new))) }
+    ensures exec_skipped { (span : Span) → result ≡ Ending.ExecSkipped span → ForJob (map string_bytes words.now) (λ set job. IfSome (S.left source.old) (λ text. Writes (IsRunResult set job (Ending.ExecSkipped span) text) (K.held sink.old) (K.held sink.new))) }
     // No function is run, for this reason.
-    ensures not_run { (reason : ExecFault) → result ≡ Ending.NotRun reason → ForExec (map string_bytes words.now) (λ set name values. IfSome (S.left source.old) (λ text. IsNotRun set name values text reason)) }
+    ensures not_run { (reason : ExecFault) → result ≡ Ending.NotRun reason → ForJob (map string_bytes words.now) (λ set job. IfSome (S.left source.old) (λ text. IsStopped set job text (TraceFault.NotRun reason))) }
+    // The numbers of a line `trace` do not fill the sketch, for this reason.
+    ensures not_filled { (reason : FillFault) → result ≡ Ending.NotFilled reason → ForTrace (map string_bytes words.now) (λ set holes name values. IfSome (S.left source.old) (λ text. IsNotTraced set holes name values text (TraceFault.NotFilled reason))) }
 
     // The text has this fault: its first as bytes, or what its tokens read as.
     ensures not_text { (fault : TextFault) → result ≡ Ending.NotText fault → IfSome (S.left source.old) (IsTextFault fault) }
@@ -217,8 +234,8 @@ pub fn run<S: Source, K: Sink>(
     ensures ends_untyped { (set : Set) → TakesText (map string_bytes words.now) set → IfSome (S.left source.old) (λ text. length text ≤ most_bytes → IsUntyped set text → EndsUntyped result (S.faults source.old) (S.faults source.new)) }
     ensures ends_large { (set : Set) → IsSynth (map string_bytes words.now) set → IfSome (S.left source.old) (λ text. (reason : SizeFault) → IsTooLarge set text reason → EndsLarge reason result (S.faults source.old) (S.faults source.new)) }
     ensures ends_copies { (set : Set) → TakesText (map string_bytes words.now) set → IfSome (S.left source.old) (λ text. (reason : SizeFault) → IsTrue (is_of_expansion reason) → IsTooLarge set text reason → EndsLarge reason result (S.faults source.old) (S.faults source.new)) }
-    ensures ends_run { (set : Set) (name : List ℕ) (values : List (List ℕ)) → IsExec (map string_bytes words.now) set name values → IfSome (S.left source.old) (λ text. (outcome : Outcome) (out : List ℕ) → IsRunText set name values text outcome out → EndsRun outcome result (S.faults source.old) (S.faults source.new) (K.faults sink.old) (K.faults sink.new)) }
-    ensures ends_not_run { (set : Set) (name : List ℕ) (values : List (List ℕ)) → IsExec (map string_bytes words.now) set name values → IfSome (S.left source.old) (λ text. (reason : ExecFault) → IsNotRun set name values text reason → EndsNotRun reason result (S.faults source.old) (S.faults source.new)) }
+    ensures ends_run { (set : Set) (job : Job) → IsJob (map string_bytes words.now) set job → IfSome (S.left source.old) (λ text. (outcome : Outcome) (out : List ℕ) → IsRunOfJob set job text outcome out → EndsRun outcome result (S.faults source.old) (S.faults source.new) (K.faults sink.old) (K.faults sink.new)) }
+    ensures ends_not_run { (set : Set) (job : Job) → IsJob (map string_bytes words.now) set job → IfSome (S.left source.old) (λ text. (reason : TraceFault) → IsStopped set job text reason → EndsStopped reason result (S.faults source.old) (S.faults source.new)) }
     ensures ends_long { (set : Set) → TakesText (map string_bytes words.now) set → IfSome (S.left source.old) (λ text. most_bytes < length text → EndsLong result (S.faults source.old) (S.faults source.new)) }
 {
     let ending = answer(alloc, words, source, sink);

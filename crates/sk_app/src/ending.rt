@@ -4,7 +4,7 @@ ghost use Rattle.std.specs.Prelude.{◌≡◌, ◌++◌, codes, IfOk, OnOk};
 ghost use Rattle.std.specs.Fmt.{decimal};
 ghost use Rattle.sk_texts.specs.Messages.{rule_number, refusal_status, refusal_message};
 ghost use Rattle.sk_front.specs.declared.fault.TextFault.TheVariants.{Lex, Parse};
-ghost use Rattle.sk_app.specs.Ending.{text_refusal, rule_of, type_refusal, size_refusal, exec_refusal, spent_status, status_of, message_of};
+ghost use Rattle.sk_app.specs.Ending.{text_refusal, rule_of, type_refusal, size_refusal, exec_refusal, fill_refusal, spent_status, status_of, message_of};
 
 use sk_base::{List, Name, Span, push_number};
 use sk_check::{Rule, TypeFault};
@@ -12,6 +12,7 @@ use sk_clause::Log;
 use sk_cnf::Encoded;
 use sk_direct::ExecFault;
 use sk_front::TextFault;
+use sk_holes::FillFault;
 use sk_lexer::LexFault;
 use sk_model::{Choice, Pair};
 use sk_parser::ParseFault;
@@ -65,6 +66,8 @@ pub enum Ending {
     TooLarge(SizeFault),
     /// No function of the text is run, for this reason.
     NotRun(ExecFault),
+    /// The numbers of the line do not fill the sketch of the text.
+    NotFilled(FillFault),
     /// The source failed.
     ReadFault,
     /// The sink failed. It may hold a prefix of the result text.
@@ -103,6 +106,7 @@ pub fn status(ending: &Ending) -> u8
         Ending::TooLong => 16,
         Ending::Memory => 17,
         Ending::NotRun(_) => 18,
+        Ending::NotFilled(fault) => fill_status(*fault),
         Ending::NotBuilt => 20,
     }
 }
@@ -131,6 +135,7 @@ pub fn message(alloc: Global, ending: &Ending) -> Result<Name, AllocError>
         Ending::NotTyped(fault) => type_message(alloc, fault),
         Ending::TooLarge(reason) => size_message(alloc, *reason),
         Ending::NotRun(reason) => exec_message(alloc, *reason),
+        Ending::NotFilled(fault) => fill_message(alloc, *fault),
         Ending::ReadFault => said(alloc, b"read fault"),
         Ending::WriteFault => said(alloc, b"write fault"),
         Ending::TooLong => said(alloc, b"too long"),
@@ -158,6 +163,26 @@ fn exec_message(alloc: Global, reason: ExecFault) -> Result<Name, AllocError>
         ExecFault::References => said(alloc, b"exec References"),
         ExecFault::Count => said(alloc, b"exec Count"),
         ExecFault::Value { index: _ } => said(alloc, b"exec Value"),
+    }
+}
+
+// The status where numbers do not fill a sketch. Want of memory is no such.
+fn fill_status(fault: FillFault) -> u8
+    ensures { result ≡ refusal_status (fill_refusal fault) }
+{
+    match fault {
+        FillFault::Memory => 17,
+        _ => 22,
+    }
+}
+
+fn fill_message(alloc: Global, fault: FillFault) -> Result<Name, AllocError>
+    ensures { IfOk result (λ name. name ≡ refusal_message (fill_refusal fault)) }
+{
+    match fault {
+        FillFault::WrongLength => said(alloc, b"fill WrongLength"),
+        FillFault::OutOfRange { site: _ } => said(alloc, b"fill OutOfRange"),
+        FillFault::Memory => said(alloc, b"no memory"),
     }
 }
 

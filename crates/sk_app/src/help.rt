@@ -13,6 +13,7 @@ fn usage() -> &'static [u8]
 
 sketch synth [OPTION].. < SKETCH               writes the completed sketch, or the line //@ none
 sketch exec [OPTION].. NAME VALUE.. < PROGRAM  writes what the function NAME gives for the values
+sketch trace [OPTION].. NAME VALUE.. < SKETCH  writes each step of that run, in a filling
 sketch --help                                  writes this help
 sketch --version                               writes the version
 
@@ -25,6 +26,7 @@ An option is --name N or --name=N, and stands once.
   --int-bits         6 to 32, else 16         bits of int
   --rounds           0 to 1000000, else 0     inputs that speak against choices; 0 is no limit
   --conflicts        0 to 1000000000, else 0  clauses learnt in one call; 0 is no limit
+  --holes            N,N.., else none         what trace puts in for the sites, as in a line //@ holes
 "
 }
 
@@ -51,6 +53,7 @@ It ends with one of these, and from 10 on says more on standard error.
   17  out of memory
   18  the function cannot be run
   20  not built: a line with check, self or --cert
+  22  the numbers of --holes do not fill the sketch
 "
 }
 

@@ -18,4 +18,5 @@ pub use command::run;
 pub use ending::{Ending, message, status};
 pub use sk_direct::ExecFault;
 pub use sk_front::TextFault;
+pub use sk_holes::FillFault;
 pub use std_streams::{StdSink, StdSource};

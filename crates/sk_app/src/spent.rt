@@ -1,14 +1,14 @@
 //! The result texts of a search that ended as its budget was spent.
 
-ghost use Rattle.std.specs.Prelude.{◌≡◌, ◌++◌, codes, decimal, map, IfOk, OnOk};
-ghost use Rattle.std.specs.List.{flat_map, join_by};
-ghost use Rattle.sk_texts.specs.ValueTexts.{bit_text, value_text};
+ghost use Rattle.std.specs.Prelude.{◌≡◌, ◌++◌, codes, decimal, IfOk, OnOk};
+ghost use Rattle.std.specs.List.{flat_map};
 ghost use Rattle.sk_app.specs.ResultText.{spaced};
 ghost use Rattle.sk_app.specs.SpentText.{argument_text, choice_line, input_line, pair_lines, spent_lines, best_lines, OfRounds, OfConflicts};
 
-use sk_base::{push_number, push_signed};
+use sk_base::push_number;
 use sk_model::{Choice, Input, Pair};
 use sk_prog::Value;
+use sk_values::push_value;
 use std::alloc::{AllocError, Global};
 
 /// Appends each number with a space before it.
@@ -20,51 +20,6 @@ pub fn push_spaced(out: &mut Vec<u8>, numbers: &[u64]) -> Result<(), AllocError>
         out.push(b' ')?;
         push_number(out, *number)?;
         rest = after;
-    }
-    Ok(())
-}
-
-fn push_bit(out: &mut Vec<u8>, bit: bool) -> Result<(), AllocError>
-    ensures { OnOk result (out.new.items ≡ out.old.items ++ bit_text bit) }
-{
-    out.push(if bit { b'1' } else { b'0' })?;
-    Ok(())
-}
-
-/// Appends how a value is spelt.
-#[cycle(push_value)]
-fn push_value(out: &mut Vec<u8>, value: &Value) -> Result<(), AllocError>
-    ensures { OnOk result (out.new.items ≡ out.old.items ++ value_text value.now) }
-{
-    match value {
-        Value::Bit(bit) => {
-            push_bit(out, *bit)?;
-            Ok(())
-        }
-        Value::Int(n) => {
-            push_signed(out, *n)?;
-            Ok(())
-        }
-        Value::Null => Ok(()),
-        Value::Place(_) => Ok(()),
-        Value::Array(values) => {
-            push_values(out, values.as_slice())?;
-            Ok(())
-        }
-    }
-}
-
-/// Appends values with commas between them.
-#[cycle(push_value)]
-#[tactic(auto, using(crate::proofs::SpentLaws::values_joined))]
-fn push_values(out: &mut Vec<u8>, values: &[Value]) -> Result<(), AllocError>
-    ensures { OnOk result (out.new.items ≡ out.old.items ++ join_by (λ t. t) (codes ",") (map value_text values.now)) }
-{
-    let mut between: &[u8] = b"";
-    for value in values {
-        out.extend_from_slice(between)?;
-        push_value(out, value)?;
-        between = b",";
     }
     Ok(())
 }

@@ -76,7 +76,7 @@ chosen_memory true c r behind is = cc is
 chosen_memory false true r behind is = behind is
 chosen_memory false false r behind is = cc is
 
-arguments_memory : (bounds : Bounds) (fun : Fun) (words : List (List ℕ)) → arguments bounds fun words ≡ Err argument.Memory → ⊥
+pub arguments_memory : (bounds : Bounds) (fun : Fun) (words : List (List ℕ)) → arguments bounds fun words ≡ Err argument.Memory → ⊥
 arguments_memory bounds fun words is =
     chosen_memory (refers fun) (length words == length fun.params) (values_from 0 bounds fun.params words) (values_memory 0 bounds fun.params words) is
 

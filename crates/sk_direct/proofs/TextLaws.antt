@@ -20,7 +20,7 @@ use Rattle.sk_direct.proofs.Ends.{one_fault, no_fault_of_run, one_run}
 
 module _ (set : Set) (text : List ℕ) (t u : Tree) (b c : Bounds) (p q : Prog) (d e : Expanded) (x : IsExpandedTo set text t b p d) (y : IsExpandedTo set text u c q e) where
   -- what holds of one expansion of the text holds of each other
-  moved : (P : Bounds → Prog → Expanded → Type 0) → P b p d → P c q e
+  pub moved : (P : Bounds → Prog → Expanded → Type 0) → P b p d → P c q e
   moved P h =
       let same = one_program set text t u b c p q x.typed y.typed in
       let once : d ≡ e = x.is ∙ one_expansion set text t u b c p q x.typed y.typed ∙ sym y.is in

@@ -1,5 +1,5 @@
 -- What a line `exec` does for a text: which function it runs on which values, or why it runs none.
-use Rattle.std.specs.Prelude.{ℕ, ◌+◌, ◌≡◌, Bool, false, List, [], ◌∷◌, Option, Some, None, Ok, Err, if◌then◌else◌}
+use Rattle.std.specs.Prelude.{ℕ, ◌+◌, ◌≡◌, Bool, false, List, [], ◌∷◌, Option, Some, None, Ok, Err, if◌then◌else◌, slice_get}
 use Rattle.std.specs.Str.{bytes_eq}
 use Rattle.sk_base.specs.declared.bounds.Bounds.{Bounds}
 use Rattle.sk_tree.specs.declared.item.Tree.{Tree}
@@ -18,6 +18,7 @@ use Rattle.sk_values.specs.Arguments.{arguments}
 use Rattle.sk_values.specs.declared.fault.ArgumentFault.{ArgumentFault}
 use Rattle.sk_values.specs.declared.fault.ArgumentFault.TheVariants as argument
 use Rattle.sk_front.specs.Front.{IsExpandedTo}
+use Rattle.sk_direct.specs.declared.names.Callee.{Callee}
 use Rattle.sk_direct.specs.declared.fault.ExecFault.{ExecFault}
 use Rattle.sk_direct.specs.declared.fault.ExecFault.TheVariants as fault
 use Rattle.sk_direct.specs.declared.executing.Executed.{Executed}
@@ -45,6 +46,11 @@ pub record IsCallee (prog : Prog) (name : List ℕ) (f : FunId) (fun : Fun) : Ty
   pub number : ℕ
   pub is_named : named name prog.funs ≡ Some (record { number = number; fun = fun })
   pub ranked : f.index ≡ rank (are_ordinary prog.funs) number
+
+-- This place and this number are those of the function of this name, where there is one.
+abbrev pub IsCalleeAt : Prog → List ℕ → Option Callee → Type 0
+IsCalleeAt prog name None = named name prog.funs ≡ None
+IsCalleeAt prog name (Some callee) = (fun : Fun) × (slice_get prog.funs callee.place ≡ Some fun) × IsCallee prog name callee.id fun
 
 -- It can be run: nothing of the expansion is open, and it is no generator.
 pub record IsFilled (e : Expanded) (fun : Fun) : Type 0 where

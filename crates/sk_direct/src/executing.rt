@@ -1,10 +1,7 @@
 //! What a line `exec` does for a text.
 
-ghost use Rattle.std.specs.Prelude.{ℕ, ◌≡◌, ◌+◌, ◌≤◌, List, length, not, IfOk, IfErr, MatchResult, IsTrue, ◌↔◌};
-ghost use Rattle.std.specs.Str.{bytes_eq};
+ghost use Rattle.std.specs.Prelude.{ℕ, ◌≤◌, List, length, IfOk, IfErr, MatchResult, IsTrue, ◌↔◌};
 ghost use Rattle.sk_model.specs.declared.outcome.Outcome.{Outcome};
-ghost use Rattle.sk_model.specs.Parts.{one_if};
-ghost use Rattle.sk_model.specs.Expand.{is_generator};
 ghost use Rattle.sk_opts.specs.Ranges.{IsInRanges, AreInRanges};
 ghost use Rattle.sk_front.specs.Texts.{most_bytes};
 ghost use Rattle.sk_front.specs.declared.fault.SketchFault.{SketchFault};
@@ -13,12 +10,13 @@ ghost use Rattle.sk_direct.specs.declared.fault.ExecFault.{ExecFault};
 ghost use Rattle.sk_direct.specs.Direct.{IsFilled, IsCalled, IsAnswer, IsNotRun, IsRunText, IsExecuted, IsRefusedAs, IsRunAs};
 
 use crate::fault::ExecFault;
+use crate::names::{callee_of, is_ordinary};
 use sk_base::{Bounds, Name};
 use sk_front::{SketchFault, expansion_of};
 use sk_interp::exec;
 use sk_model::{Expanded, Outcome};
 use sk_opts::Set;
-use sk_prog::{Fun, FunId, FunKind, Prog};
+use sk_prog::{Fun, FunId, Prog};
 use sk_values::{ArgumentFault, read_arguments, run_text};
 use std::alloc::{AllocError, Global};
 
@@ -31,41 +29,11 @@ pub enum Executed {
     Run { outcome: Outcome, out: Vec<u8> },
 }
 
-fn is_named(fun: &Fun, name: &Name) -> bool
-    ensures { result ≡ bytes_eq fun.now.name name.now }
-{
-    fun.name.as_bytes() == name.as_bytes()
-}
-
-fn is_ordinary(fun: &Fun) -> bool
-    ensures { result ≡ not (is_generator fun.now.kind) }
-{
-    match fun.kind {
-        FunKind::Plain => true,
-        FunKind::Harness => true,
-        FunKind::Generator => false,
-    }
-}
-
 /// Whether a function can be run: nothing of the expansion is open, and it is no generator.
 fn is_filled(expanded: &Expanded, fun: &Fun) -> bool
     ensures { IsTrue result ↔ IsFilled expanded.now fun.now }
 {
     expanded.sites.is_empty() && is_ordinary(fun)
-}
-
-/// The number behind that of a function, which is counted where it is ordinary. No memory holds so many functions that
-/// they cannot be numbered.
-fn after(number: u32, fun: &Fun) -> Result<u32, AllocError>
-    ensures { IfOk result (λ next. next ≡ number + one_if (not (is_generator fun.now.kind))) }
-{
-    if !is_ordinary(fun) {
-        return Ok(number);
-    }
-    match number.checked_add(1) {
-        Some(next) => Ok(next),
-        None => Err(AllocError),
-    }
 }
 
 /// Runs a function, which has this number in the expansion, on the arguments that words spell.
@@ -108,15 +76,12 @@ fn answer(
     requires { AreInRanges bounds.now }
     ensures { IfOk result (IsAnswer bounds.now prog.now expanded.now name.now words.now) }
 {
-    let mut index = 0u32;
-    for fun in prog.funs.as_slice() {
-        if is_named(fun, name) {
-            let executed = called(alloc, bounds, expanded, FunId { index }, fun, words)?;
-            return Ok(executed);
-        }
-        index = after(index, fun)?;
-    }
-    Ok(Executed::NotRun(ExecFault::NoFunction))
+    let Some(callee) = callee_of(prog, name)? else {
+        return Ok(Executed::NotRun(ExecFault::NoFunction));
+    };
+    let fun = &prog.funs.as_slice()[callee.place];
+    let executed = called(alloc, bounds, expanded, callee.id, fun, words)?;
+    Ok(executed)
 }
 
 /// Runs the function of this name of a text on the values that the words spell, with the options of a line.

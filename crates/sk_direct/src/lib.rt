@@ -4,6 +4,8 @@
 mod executing;
 mod fault;
 pub mod laws;
+mod names;
 
 pub use executing::{Executed, execute};
 pub use fault::ExecFault;
+pub use names::{Callee, callee_of, is_ordinary};

@@ -3,6 +3,8 @@ pub mod Equal
 pub mod Ripples
 pub mod Operating
 pub mod Memories
+pub mod Machines
 pub mod Paths
 pub mod Activations
+pub mod Forms
 pub mod Running

@@ -7,17 +7,18 @@ use Rattle.sk_prog.specs.declared.value.Value.{Value}
 use Rattle.sk_prog.specs.declared.value.Value.TheVariants as value
 use Rattle.sk_prog.specs.declared.expr.BinOp.{BinOp}
 use Rattle.sk_prog.specs.declared.expr.BinOp.TheVariants as op
-use Rattle.sk_model.specs.Step.{State, Goes, Fails}
+use Rattle.sk_path.specs.declared.log.Log.{Log}
+use Rattle.sk_path.specs.Recording.{Recorded, Goes, Fails, lift}
 use Rattle.sk_model.specs.Operators.{divided, operator, on_operands, operand}
 use Rattle.sk_model.specs.Eval.{unfilled}
 use Rattle.sk_prog.specs.declared.ty.Elem.TheVariants as elem
 use Rattle.sk_prog.specs.declared.ty.Ty.TheVariants as ty
 
-module _ (span : Span) (z : ℤ) (s : State) where
-  pub divided_none : (y : ℤ) → int_eq y (pos 0) ≡ true → divided span y z s ≡ Fails span
+module _ (span : Span) (z : ℤ) (r : Recorded Log) where
+  pub divided_none : (y : ℤ) → int_eq y (pos 0) ≡ true → lift (divided span y z) r ≡ Fails span r.log
   divided_none y e = let h : y ≡ pos 0 = (Decides-int_eq y (pos 0)).0 e in rw h refl
 
-  pub divided_some : (y : ℤ) → int_eq y (pos 0) ≡ false → divided span y z s ≡ Goes (value.Int z) s
+  pub divided_some : (y : ℤ) → int_eq y (pos 0) ≡ false → lift (divided span y z) r ≡ Goes (value.Int z) r
   divided_some (pos zero) e = absurd (true≢false (sym ((Decides-int_eq (pos 0) (pos 0)).1 refl) ∙ e))
   divided_some (pos (suc n)) e = refl
   divided_some (negsuc n) e = refl
@@ -46,6 +47,6 @@ others width span op.AndThen v w e n = refl
 others width span op.OrElse v w e n = refl
 
 -- a hole of a bit or more
-pub some_bits : (n : ℕ) (span : Span) (s : State) → n ≢ 0 → unfilled (Some (ty.Array elem.Bit n)) span s ≡ Fails span
-some_bits zero span s h = absurd (h refl)
-some_bits (suc n) span s h = refl
+pub some_bits : (n : ℕ) (span : Span) (r : Recorded Log) → n ≢ 0 → lift (unfilled (Some (ty.Array elem.Bit n)) span) r ≡ Fails span r.log
+some_bits zero span r h = absurd (h refl)
+some_bits (suc n) span r h = refl

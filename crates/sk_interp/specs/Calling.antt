@@ -14,14 +14,20 @@ use Rattle.sk_interp.specs.declared.call.Called.{Called}
 use Rattle.sk_interp.specs.declared.call.Flow.{Flow}
 use Rattle.sk_interp.specs.declared.call.Flow.TheVariants as flow
 use Rattle.sk_interp.specs.declared.activation.Activation.{Activation}
-use Rattle.sk_model.specs.Step.{Comp, ◌>>=◌, pure, fail}
+use Rattle.sk_model.specs.Step.{Comp}
 use Rattle.sk_model.specs.Heap.{allocate}
 use Rattle.sk_model.specs.Eval as model
 use Rattle.sk_model.specs.Exec as steps
-use Rattle.sk_model.specs.Run.{calls, filled_bodies, in_frame}
+use Rattle.sk_model.specs.Run.{most_calls}
+use Rattle.sk_path.specs.declared.log.Log.{Log}
+use Rattle.sk_path.specs.Recording.{Traced, ◌>>=◌, pure, fail, lift}
+use Rattle.sk_path.specs.Eval as traced
+use Rattle.sk_path.specs.Exec as told
+use Rattle.sk_path.specs.Run.{calls, in_frame}
+use Rattle.sk_path.specs.Kept.{kept}
 
 -- one after the other
-abbrev pub followed : {A B : Type 0} → Comp A → (A → Comp B) → Comp B
+abbrev pub followed : {A B : Type 0} → Traced Log A → (A → Traced Log B) → Traced Log B
 followed m k = m >>= k
 
 abbrev pub called_of : Called → model.Called
@@ -32,50 +38,58 @@ flow_of flow.Onward = steps.Onward
 flow_of (flow.Returns v) = steps.Returns v
 
 -- what calls do that are made inside this one
-abbrev pub calls_in : Activation → model.Calls
-calls_in a = calls a.prog.now a.bounds (filled_bodies a.prog.now a.bounds) a.left a.active.now
+abbrev pub calls_in : Activation → traced.Calls Log
+calls_in a = calls kept a.prog.now a.bounds a.left a.active.now
 
 -- what expressions do there
-abbrev pub does_in : Activation → PExpr → model.Does
-does_in a = model.does a.prog.now a.bounds.int_bits (calls_in a)
+abbrev pub does_in : Activation → PExpr → traced.Does Log
+does_in a = traced.does a.prog.now a.bounds.int_bits (calls_in a)
 
-abbrev pub each_in : Activation → List PExpr → List model.Does
+abbrev pub each_in : Activation → List PExpr → List (traced.Does Log)
 each_in a es = map (does_in a) es
 
-abbrev pub value_of_braces : Activation → Span → Option Ty → List PExpr → Comp Value
-value_of_braces a span t parts = model.in_order span (each_in a parts) >>= (λ vs. pure (model.padded_at t (value.Array vs)))
+abbrev pub value_of_braces : Activation → Span → Option Ty → List PExpr → Traced Log Value
+value_of_braces a span t parts = traced.in_order span (each_in a parts) >>= (λ vs. pure (model.padded_at t (value.Array vs)))
 
-abbrev pub field_in : Activation → PField → ℕ × model.Does
+abbrev pub field_in : Activation → PField → ℕ × traced.Does Log
 field_in a f = (f.field, does_in a f.value)
 
-abbrev pub value_of_new : Activation → Span → StructId → List PField → Comp Value
-value_of_new a span d fields = model.fields_in_order span (map (field_in a) fields) >>= allocate a.prog.now d
+abbrev pub value_of_new : Activation → Span → StructId → List PField → Traced Log Value
+value_of_new a span d fields = traced.fields_in_order span (map (field_in a) fields) >>= (λ set. lift (allocate a.prog.now d set))
 
 -- a call whose arguments have these values
-abbrev pub value_of_called : Activation → Span → FunId → List PExpr → List Value → Comp Value
+abbrev pub value_of_called : Activation → Span → FunId → List PExpr → List Value → Traced Log Value
 value_of_called a span f args vs =
     calls_in a span f.index vs >>= (λ called.
-    model.copy_back span (model.ref_args (model.params_of (slice_get a.prog.now.funs f.index)) (each_in a args)) called.refs >>= (λ done.
+    traced.copy_back span (traced.ref_args (model.params_of (slice_get a.prog.now.funs f.index)) (each_in a args)) called.refs >>= (λ done.
     pure (model.result_value called.result)))
 
-abbrev pub value_of_call : Activation → Span → FunId → List PExpr → Comp Value
-value_of_call a span f args = model.in_order span (each_in a args) >>= value_of_called a span f args
+abbrev pub value_of_call : Activation → Span → FunId → List PExpr → Traced Log Value
+value_of_call a span f args = traced.in_order span (each_in a args) >>= value_of_called a span f args
 
 -- and statements
-abbrev pub exec_in : Activation → PStmt → Comp steps.Flow
-exec_in a = steps.exec_stmt a.prog.now a.bounds (calls_in a)
+abbrev pub exec_in : Activation → PStmt → Traced Log steps.Flow
+exec_in a = told.exec_stmt kept a.depth a.prog.now a.bounds (calls_in a)
 
-abbrev pub exec_all_in : Activation → List PStmt → Comp steps.Flow
-exec_all_in a = steps.exec_all a.prog.now a.bounds (calls_in a)
+abbrev pub exec_all_in : Activation → List PStmt → Traced Log steps.Flow
+exec_all_in a = told.exec_all kept a.depth a.prog.now a.bounds (calls_in a)
+
+-- a value that is stored so
+abbrev pub stored_in : Activation → Span → Comp (Unit {0}) → Value → Traced Log steps.Flow
+stored_in a = told.stored kept a.depth
+
+-- a statement that goes so
+abbrev pub going_in : Activation → Span → steps.Flow → Traced Log steps.Flow
+going_in a = told.going kept a.depth
 
 -- the function that a call means, where it may be made
 abbrev pub callee : Activation → ℕ → Option Fun
 callee a f = if nat_lt 0 a.left && nat_lt (count_by (λ g. g == f) a.active.now) a.bounds.inline_amnt then slice_get a.prog.now.funs f else None
 
 -- what is done inside a call of this function, made inside this one
-abbrev pub body_in : Activation → ℕ → Fun → Comp steps.Flow
-body_in a f fun = steps.exec_all a.prog.now a.bounds (calls a.prog.now a.bounds (filled_bodies a.prog.now a.bounds) (a.left - 1) (a.active.now ++ f ∷ [])) fun.body
+abbrev pub body_in : Activation → ℕ → Fun → Traced Log steps.Flow
+body_in a f fun = told.exec_all kept (most_calls - (a.left - 1)) a.prog.now a.bounds (calls kept a.prog.now a.bounds (a.left - 1) (a.active.now ++ f ∷ [])) fun.body
 
-abbrev pub called_by : Activation → Span → ℕ → List Value → Option Fun → Comp model.Called
+abbrev pub called_by : Activation → Span → ℕ → List Value → Option Fun → Traced Log model.Called
 called_by a span f args None = fail span
 called_by a span f args (Some fun) = in_frame fun args (body_in a f fun)

@@ -1,4 +1,4 @@
--- What the code gives, as a step of a run. Of want of memory nothing is said.
+-- What the code gives of a memory, as a step of a run. Of want of memory nothing is said.
 use Rattle.std.specs.Prelude.{◌≡◌, Result, Ok, Err}
 use Rattle.sk_model.specs.Step.{State, Step, Goes, Fails, Skips, Comp}
 use Rattle.sk_interp.specs.declared.stop.Stop.{Stop}
@@ -15,14 +15,6 @@ abbrev pub Gives : {A : Type 0} → Result A Stop → State → Step A → Type 
 Gives (Ok a) s m = m ≡ Goes a s
 Gives (Err stop) s m = Stops stop m
 
--- the same, where what the code gives means what the step gives
-abbrev pub GivesAs : {A B : Type 0} → (A → B) → Result A Stop → State → Step B → Type 0
-GivesAs meaning (Ok a) s m = m ≡ Goes (meaning a) s
-GivesAs meaning (Err stop) s m = Stops stop m
-
 -- the code gives what is done from every state, which stays
-abbrev pub Computes : {A : Type 0} → Result A Stop → Comp A → Type 0
-Computes result m = (s : State) → Gives result s (m s)
-
-abbrev pub ComputesAs : {A B : Type 0} → (A → B) → Result A Stop → Comp B → Type 0
-ComputesAs meaning result m = (s : State) → GivesAs meaning result s (m s)
+abbrev pub Finds : {A : Type 0} → Result A Stop → Comp A → Type 0
+Finds result m = (s : State) → Gives result s (m s)

@@ -1,4 +1,5 @@
 pub mod Gives
+pub mod Records
 pub mod Calling
 pub mod Paths
 pub mod Places

@@ -2,26 +2,28 @@
 
 ghost use Rattle.std.specs.Prelude.{◌≡◌, ◌≤◌, map, nat_le, length, Some, None, IsTrue};
 ghost use Rattle.std.specs.Option.{option_copied};
-ghost use Rattle.sk_model.specs.Step.{pure};
-ghost use Rattle.sk_model.specs.Eval.{in_order, fields_in_order, const_value, choose, indexed, sliced, padded_at, binary, copy_back, ref_args};
+ghost use Rattle.sk_model.specs.Eval.{const_value, indexed, sliced, padded_at};
 ghost use Rattle.sk_model.specs.Heap.{read_field, write};
 ghost use Rattle.sk_model.specs.Operators.{unary_operator, to_int};
-ghost use Rattle.sk_model.specs.Exec.{onward, assign, drop_value, branch, Returns, assert, assume, minimize, turns};
+ghost use Rattle.sk_model.specs.Exec.{Returns};
 ghost use Rattle.sk_model.specs.Sites.{is_hole};
-ghost use Rattle.sk_interp.specs.Gives.{Gives, GivesAs};
+ghost use Rattle.sk_path.specs.Recording.{pure, lift};
+ghost use Rattle.sk_path.specs.Eval.{in_order, fields_in_order, choose, binary, copy_back, ref_args};
+ghost use Rattle.sk_path.specs.Exec.{holds, assign, drop_value, branch, assert, assume, minimize, turns};
+ghost use Rattle.sk_path.specs.Kept.{kept};
+ghost use Rattle.sk_interp.specs.Records.{Records, RecordsAs};
 ghost use Rattle.sk_interp.specs.Paths.{IsSteady, IsPath, is_arithmetic};
 ghost use Rattle.sk_interp.specs.Places.{location_of};
-ghost use Rattle.sk_interp.specs.Calling.{followed, called_of, callee, value_of_call, value_of_called, value_of_new, value_of_braces, flow_of, calls_in, does_in, each_in, field_in, exec_in, exec_all_in};
+ghost use Rattle.sk_interp.specs.Calling.{followed, called_of, callee, value_of_call, value_of_called, value_of_new, value_of_braces, flow_of, calls_in, does_in, stored_in, going_in, each_in, field_in, exec_in, exec_all_in};
 
 use crate::call::{
-    Called, Flow, count_of, declare, finished, first_slots, params_of, pay, result_value,
+    Called, Flow, count_of, depth_over, finished, first_slots, params_of, result_value,
     with_function,
 };
 use crate::location::{Location, Root};
-use crate::memory::Memory;
+use crate::machine::Machine;
 use crate::operator::{operator, to_int, unary_operator};
 use crate::part::{indexed, literal_value, padded_at, sliced, unfilled};
-use crate::record::allocate;
 use crate::row::Row;
 use crate::stop::Stop;
 use crate::value::copy;
@@ -40,6 +42,8 @@ pub struct Activation<'a> {
     pub bounds: Bounds,
     /// How many more calls may become active above it.
     pub left: u32,
+    /// How many calls are active, this one among them.
+    pub depth: u32,
     /// The functions of the active calls, this one's the last.
     pub active: &'a [u32],
 }
@@ -145,10 +149,10 @@ impl Activation<'_> {
 
     /// The value of an expression.
     #[cycle(run)]
-    fn eval(&self, room: u32, memory: &mut Memory, span: Span, e: &PExpr) -> Result<Value, Stop>
+    fn eval(&self, room: u32, machine: &mut Machine, span: Span, e: &PExpr) -> Result<Value, Stop>
         requires bits_low { 2 ≤ self.now.bounds.int_bits }
         requires bits_high { self.now.bounds.int_bits ≤ 32 }
-        ensures { Gives result memory.new ((does_in self.now e.now).value span memory.old) }
+        ensures { Records result machine.new ((does_in self.now e.now).value span machine.old) }
     {
         if room == 0 {
             return Err(Stop::NoMemory);
@@ -159,35 +163,35 @@ impl Activation<'_> {
             PEForm::True => Ok(Value::Bit(true)),
             PEForm::False => Ok(Value::Bit(false)),
             PEForm::Null => Ok(Value::Null),
-            PEForm::Var { slot, .. } => memory.variable(self.alloc, *slot),
+            PEForm::Var { slot, .. } => machine.variable(self.alloc, *slot),
             PEForm::Const(c) => Ok(const_value(self.prog.consts.get(c.index as usize))),
             PEForm::Hole(_) => unfilled(self.alloc, span, e.ty),
             PEForm::Pattern(_) => Err(Stop::Failed { span }),
-            PEForm::Paren(a) => self.eval(room, memory, span, a.get()),
-            PEForm::Call { f, args } => self.call_value(room, memory, span, *f, args),
-            PEForm::New { s, fields } => self.new_record(room, memory, span, *s, fields),
-            PEForm::Braces(parts) => self.braces(room, memory, span, e.ty, parts),
+            PEForm::Paren(a) => self.eval(room, machine, span, a.get()),
+            PEForm::Call { f, args } => self.call_value(room, machine, span, *f, args),
+            PEForm::New { s, fields } => self.new_record(room, machine, span, *s, fields),
+            PEForm::Braces(parts) => self.braces(room, machine, span, e.ty, parts),
             PEForm::Member { base, field, .. } => {
-                self.member(room, memory, span, *field, base.get())
+                self.member(room, machine, span, *field, base.get())
             }
             PEForm::Index { base, index } => {
                 if self.is_path(e) {
-                    return self.load(room, memory, span, e);
+                    return self.load(room, machine, span, e);
                 }
-                self.index(room, memory, span, base.get(), index.get())
+                self.index(room, machine, span, base.get(), index.get())
             }
             PEForm::Slice { base, from, length } => {
-                self.slice(room, memory, span, *length, base.get(), from.get())
+                self.slice(room, machine, span, *length, base.get(), from.get())
             }
-            PEForm::Unary { op, of } => self.unary(room, memory, span, *op, of.get()),
+            PEForm::Unary { op, of } => self.unary(room, machine, span, *op, of.get()),
             PEForm::Binary { op, left, right } => {
-                self.binary(room, memory, span, *op, left.get(), right.get())
+                self.binary(room, machine, span, *op, left.get(), right.get())
             }
             PEForm::Cond { cond, then, other } => {
-                self.cond(room, memory, span, cond.get(), then.get(), other.get())
+                self.cond(room, machine, span, cond.get(), then.get(), other.get())
             }
-            PEForm::ToInt(a) => self.number_of(room, memory, span, a.get()),
-            PEForm::Pad(a) => self.pad(room, memory, span, e.ty, a.get()),
+            PEForm::ToInt(a) => self.number_of(room, machine, span, a.get()),
+            PEForm::Pad(a) => self.pad(room, machine, span, e.ty, a.get()),
         }
     }
 
@@ -197,30 +201,30 @@ impl Activation<'_> {
     fn member(
         &self,
         room: u32,
-        memory: &mut Memory,
+        machine: &mut Machine,
         span: Span,
         field: u32,
         base: &PExpr,
     ) -> Result<Value, Stop>
         requires bits_low { 2 ≤ self.now.bounds.int_bits }
         requires bits_high { self.now.bounds.int_bits ≤ 32 }
-        ensures { Gives result memory.new (followed ((does_in self.now base.now).value span) (read_field span field) memory.old) }
+        ensures { Records result machine.new (followed ((does_in self.now base.now).value span) (λ v. lift (read_field span field v)) machine.old) }
     {
-        let v = self.eval(room, memory, span, base)?;
-        memory.read_field(self.alloc, span, field, &v)
+        let v = self.eval(room, machine, span, base)?;
+        machine.read_field(self.alloc, span, field, &v)
     }
 
     /// What stands at a path.
     #[cycle(run)]
     #[inline(never)]
-    fn load(&self, room: u32, memory: &mut Memory, span: Span, e: &PExpr) -> Result<Value, Stop>
+    fn load(&self, room: u32, machine: &mut Machine, span: Span, e: &PExpr) -> Result<Value, Stop>
         requires bits_low { 2 ≤ self.now.bounds.int_bits }
         requires bits_high { self.now.bounds.int_bits ≤ 32 }
         requires path { IsPath (does_in self.now e.now) }
-        ensures { Gives result memory.new ((does_in self.now e.now).value span memory.old) }
+        ensures { Records result machine.new ((does_in self.now e.now).value span machine.old) }
     {
-        let location = self.target(room, memory, span, e)?;
-        location.load(self.alloc, memory, span)
+        let location = self.target(room, machine, span, e)?;
+        machine.load(self.alloc, span, &location)
     }
 
     /// An element of an array.
@@ -229,17 +233,17 @@ impl Activation<'_> {
     fn index(
         &self,
         room: u32,
-        memory: &mut Memory,
+        machine: &mut Machine,
         span: Span,
         base: &PExpr,
         index: &PExpr,
     ) -> Result<Value, Stop>
         requires bits_low { 2 ≤ self.now.bounds.int_bits }
         requires bits_high { self.now.bounds.int_bits ≤ 32 }
-        ensures { Gives result memory.new (followed ((does_in self.now base.now).value span) (λ v. followed ((does_in self.now index.now).value span) (indexed span v)) memory.old) }
+        ensures { Records result machine.new (followed ((does_in self.now base.now).value span) (λ v. followed ((does_in self.now index.now).value span) (λ i. lift (indexed span v i))) machine.old) }
     {
-        let v = self.eval(room, memory, span, base)?;
-        let i = self.eval(room, memory, span, index)?;
+        let v = self.eval(room, machine, span, base)?;
+        let i = self.eval(room, machine, span, index)?;
         indexed(self.alloc, span, &v, &i)
     }
 
@@ -249,7 +253,7 @@ impl Activation<'_> {
     fn slice(
         &self,
         room: u32,
-        memory: &mut Memory,
+        machine: &mut Machine,
         span: Span,
         length: u32,
         base: &PExpr,
@@ -257,10 +261,10 @@ impl Activation<'_> {
     ) -> Result<Value, Stop>
         requires bits_low { 2 ≤ self.now.bounds.int_bits }
         requires bits_high { self.now.bounds.int_bits ≤ 32 }
-        ensures { Gives result memory.new (followed ((does_in self.now base.now).value span) (λ v. followed ((does_in self.now from.now).value span) (sliced span length v)) memory.old) }
+        ensures { Records result machine.new (followed ((does_in self.now base.now).value span) (λ v. followed ((does_in self.now from.now).value span) (λ i. lift (sliced span length v i))) machine.old) }
     {
-        let v = self.eval(room, memory, span, base)?;
-        let i = self.eval(room, memory, span, from)?;
+        let v = self.eval(room, machine, span, base)?;
+        let i = self.eval(room, machine, span, from)?;
         sliced(self.alloc, span, length, &v, &i)
     }
 
@@ -269,16 +273,16 @@ impl Activation<'_> {
     fn unary(
         &self,
         room: u32,
-        memory: &mut Memory,
+        machine: &mut Machine,
         span: Span,
         op: UnOp,
         of: &PExpr,
     ) -> Result<Value, Stop>
         requires bits_low { 2 ≤ self.now.bounds.int_bits }
         requires bits_high { self.now.bounds.int_bits ≤ 32 }
-        ensures { Gives result memory.new (followed ((does_in self.now of.now).value span) (unary_operator self.now.bounds.int_bits span op) memory.old) }
+        ensures { Records result machine.new (followed ((does_in self.now of.now).value span) (λ v. lift (unary_operator self.now.bounds.int_bits span op v)) machine.old) }
     {
-        let v = self.eval(room, memory, span, of)?;
+        let v = self.eval(room, machine, span, of)?;
         unary_operator(self.alloc, self.bounds.int_bits, span, op, &v)
     }
 
@@ -288,7 +292,7 @@ impl Activation<'_> {
     fn cond(
         &self,
         room: u32,
-        memory: &mut Memory,
+        machine: &mut Machine,
         span: Span,
         cond: &PExpr,
         a: &PExpr,
@@ -296,11 +300,11 @@ impl Activation<'_> {
     ) -> Result<Value, Stop>
         requires bits_low { 2 ≤ self.now.bounds.int_bits }
         requires bits_high { self.now.bounds.int_bits ≤ 32 }
-        ensures { Gives result memory.new (followed ((does_in self.now cond.now).value span) (choose span ((does_in self.now a.now).value span) ((does_in self.now b.now).value span)) memory.old) }
+        ensures { Records result machine.new (followed ((does_in self.now cond.now).value span) (choose span ((does_in self.now a.now).value span) ((does_in self.now b.now).value span)) machine.old) }
     {
-        match self.eval(room, memory, span, cond)? {
-            Value::Bit(true) => self.eval(room, memory, span, a),
-            Value::Bit(false) => self.eval(room, memory, span, b),
+        match self.eval(room, machine, span, cond)? {
+            Value::Bit(true) => self.eval(room, machine, span, a),
+            Value::Bit(false) => self.eval(room, machine, span, b),
             _ => Err(Stop::Failed { span }),
         }
     }
@@ -311,15 +315,15 @@ impl Activation<'_> {
     fn number_of(
         &self,
         room: u32,
-        memory: &mut Memory,
+        machine: &mut Machine,
         span: Span,
         of: &PExpr,
     ) -> Result<Value, Stop>
         requires bits_low { 2 ≤ self.now.bounds.int_bits }
         requires bits_high { self.now.bounds.int_bits ≤ 32 }
-        ensures { Gives result memory.new (followed ((does_in self.now of.now).value span) (to_int span) memory.old) }
+        ensures { Records result machine.new (followed ((does_in self.now of.now).value span) (λ v. lift (to_int span v)) machine.old) }
     {
-        let v = self.eval(room, memory, span, of)?;
+        let v = self.eval(room, machine, span, of)?;
         to_int(span, &v)
     }
 
@@ -329,16 +333,16 @@ impl Activation<'_> {
     fn pad(
         &self,
         room: u32,
-        memory: &mut Memory,
+        machine: &mut Machine,
         span: Span,
         ty: Option<Ty>,
         of: &PExpr,
     ) -> Result<Value, Stop>
         requires bits_low { 2 ≤ self.now.bounds.int_bits }
         requires bits_high { self.now.bounds.int_bits ≤ 32 }
-        ensures { Gives result memory.new (followed ((does_in self.now of.now).value span) (λ v. pure (padded_at ty v)) memory.old) }
+        ensures { Records result machine.new (followed ((does_in self.now of.now).value span) (λ v. pure (padded_at ty v)) machine.old) }
     {
-        let v = self.eval(room, memory, span, of)?;
+        let v = self.eval(room, machine, span, of)?;
         let v = padded_at(self.alloc, ty, v)?;
         Ok(v)
     }
@@ -349,19 +353,19 @@ impl Activation<'_> {
     fn call_value(
         &self,
         room: u32,
-        memory: &mut Memory,
+        machine: &mut Machine,
         span: Span,
         f: FunId,
         args: &List<PExpr>,
     ) -> Result<Value, Stop>
         requires bits_low { 2 ≤ self.now.bounds.int_bits }
         requires bits_high { self.now.bounds.int_bits ≤ 32 }
-        ensures { Gives result memory.new (value_of_call self.now span f args.now memory.old) }
+        ensures { Records result machine.new (value_of_call self.now span f args.now machine.old) }
     {
         let room = room.saturating_sub(1);
         let args = args.as_slice();
-        let values = self.eval_all(room, memory, span, args)?;
-        self.call_with(room, memory, span, f, args, values)
+        let values = self.eval_all(room, machine, span, args)?;
+        self.call_with(room, machine, span, f, args, values)
     }
 
     /// The value of a call whose arguments have these values.
@@ -370,7 +374,7 @@ impl Activation<'_> {
     fn call_with(
         &self,
         room: u32,
-        memory: &mut Memory,
+        machine: &mut Machine,
         span: Span,
         f: FunId,
         args: &[PExpr],
@@ -378,11 +382,11 @@ impl Activation<'_> {
     ) -> Result<Value, Stop>
         requires bits_low { 2 ≤ self.now.bounds.int_bits }
         requires bits_high { self.now.bounds.int_bits ≤ 32 }
-        ensures { Gives result memory.new (value_of_called self.now span f args.now values memory.old) }
+        ensures { Records result machine.new (value_of_called self.now span f args.now values machine.old) }
     {
-        let called = self.call(room, memory, span, f.index, values)?;
+        let called = self.call(room, machine, span, f.index, values)?;
         let params = params_of(self.prog.funs.get(f.index as usize));
-        self.copy_back(room, memory, span, params, args, called.refs.as_slice())?;
+        self.copy_back(room, machine, span, params, args, called.refs.as_slice())?;
         Ok(result_value(called.result))
     }
 
@@ -392,18 +396,18 @@ impl Activation<'_> {
     fn new_record(
         &self,
         room: u32,
-        memory: &mut Memory,
+        machine: &mut Machine,
         span: Span,
         s: StructId,
         fields: &List<PField>,
     ) -> Result<Value, Stop>
         requires bits_low { 2 ≤ self.now.bounds.int_bits }
         requires bits_high { self.now.bounds.int_bits ≤ 32 }
-        ensures { Gives result memory.new (value_of_new self.now span s fields.now memory.old) }
+        ensures { Records result machine.new (value_of_new self.now span s fields.now machine.old) }
     {
         let room = room.saturating_sub(1);
-        let set = self.eval_fields(room, memory, span, fields.as_slice())?;
-        allocate(self.alloc, memory, self.prog, s, set)
+        let set = self.eval_fields(room, machine, span, fields.as_slice())?;
+        machine.allocate(self.alloc, self.prog, s, set)
     }
 
     /// An array of elements that are written out, at its type.
@@ -412,17 +416,17 @@ impl Activation<'_> {
     fn braces(
         &self,
         room: u32,
-        memory: &mut Memory,
+        machine: &mut Machine,
         span: Span,
         ty: Option<Ty>,
         parts: &List<PExpr>,
     ) -> Result<Value, Stop>
         requires bits_low { 2 ≤ self.now.bounds.int_bits }
         requires bits_high { self.now.bounds.int_bits ≤ 32 }
-        ensures { Gives result memory.new (value_of_braces self.now span ty parts.now memory.old) }
+        ensures { Records result machine.new (value_of_braces self.now span ty parts.now machine.old) }
     {
         let room = room.saturating_sub(1);
-        let vs = self.eval_all(room, memory, span, parts.as_slice())?;
+        let vs = self.eval_all(room, machine, span, parts.as_slice())?;
         let v = padded_at(self.alloc, ty, Value::Array(vs.into_list()))?;
         Ok(v)
     }
@@ -433,7 +437,7 @@ impl Activation<'_> {
     fn binary(
         &self,
         room: u32,
-        memory: &mut Memory,
+        machine: &mut Machine,
         span: Span,
         op: BinOp,
         left: &PExpr,
@@ -441,22 +445,22 @@ impl Activation<'_> {
     ) -> Result<Value, Stop>
         requires bits_low { 2 ≤ self.now.bounds.int_bits }
         requires bits_high { self.now.bounds.int_bits ≤ 32 }
-        ensures { Gives result memory.new (binary self.now.bounds.int_bits span op ((does_in self.now left.now).value span) ((does_in self.now right.now).value span) memory.old) }
+        ensures { Records result machine.new (binary self.now.bounds.int_bits span op ((does_in self.now left.now).value span) ((does_in self.now right.now).value span) machine.old) }
     {
         match op {
-            BinOp::AndThen => match self.eval(room, memory, span, left)? {
-                Value::Bit(true) => self.eval(room, memory, span, right),
+            BinOp::AndThen => match self.eval(room, machine, span, left)? {
+                Value::Bit(true) => self.eval(room, machine, span, right),
                 Value::Bit(false) => Ok(Value::Bit(false)),
                 _ => Err(Stop::Failed { span }),
             },
-            BinOp::OrElse => match self.eval(room, memory, span, left)? {
+            BinOp::OrElse => match self.eval(room, machine, span, left)? {
                 Value::Bit(true) => Ok(Value::Bit(true)),
-                Value::Bit(false) => self.eval(room, memory, span, right),
+                Value::Bit(false) => self.eval(room, machine, span, right),
                 _ => Err(Stop::Failed { span }),
             },
             _ => {
-                let v = self.eval(room, memory, span, left)?;
-                let w = self.eval(room, memory, span, right)?;
+                let v = self.eval(room, machine, span, left)?;
+                let w = self.eval(room, machine, span, right)?;
                 operator(self.alloc, self.bounds.int_bits, span, op, &v, &w)
             }
         }
@@ -469,17 +473,17 @@ impl Activation<'_> {
     fn eval_all(
         &self,
         room: u32,
-        memory: &mut Memory,
+        machine: &mut Machine,
         span: Span,
         es: &[PExpr],
     ) -> Result<Row<Value>, Stop>
         requires bits_low { 2 ≤ self.now.bounds.int_bits }
         requires bits_high { self.now.bounds.int_bits ≤ 32 }
-        ensures { Gives result memory.new (in_order span (each_in self.now es.now) memory.old) }
+        ensures { Records result machine.new (in_order span (each_in self.now es.now) machine.old) }
     {
         let mut values = Row::new(self.alloc);
         for e in es {
-            let value = self.eval(room, memory, span, e)?;
+            let value = self.eval(room, machine, span, e)?;
             values.push(value)?;
         }
         Ok(values)
@@ -492,17 +496,17 @@ impl Activation<'_> {
     fn eval_fields(
         &self,
         room: u32,
-        memory: &mut Memory,
+        machine: &mut Machine,
         span: Span,
         fields: &[PField],
     ) -> Result<Vec<(u32, Value)>, Stop>
         requires bits_low { 2 ≤ self.now.bounds.int_bits }
         requires bits_high { self.now.bounds.int_bits ≤ 32 }
-        ensures { GivesAs (λ set. set.items) result memory.new (fields_in_order span (map (field_in self.now) fields.now) memory.old) }
+        ensures { RecordsAs (λ set. set.items) result machine.new (fields_in_order span (map (field_in self.now) fields.now) machine.old) }
     {
         let mut set = Vec::new(self.alloc);
         for f in fields {
-            let v = self.eval(room, memory, span, &f.value)?;
+            let v = self.eval(room, machine, span, &f.value)?;
             set.push((f.field, v))?;
         }
         Ok(set)
@@ -514,13 +518,13 @@ impl Activation<'_> {
     fn target(
         &self,
         room: u32,
-        memory: &mut Memory,
+        machine: &mut Machine,
         span: Span,
         e: &PExpr,
     ) -> Result<Location, Stop>
         requires bits_low { 2 ≤ self.now.bounds.int_bits }
         requires bits_high { self.now.bounds.int_bits ≤ 32 }
-        ensures { GivesAs location_of result memory.new ((does_in self.now e.now).target span memory.old) }
+        ensures { RecordsAs location_of result machine.new ((does_in self.now e.now).target span machine.old) }
     {
         if room == 0 {
             return Err(Stop::NoMemory);
@@ -532,13 +536,13 @@ impl Activation<'_> {
                 Root::Variable { slot: *slot },
             )),
             PEForm::Member { base, field, .. } => {
-                let reference = self.eval(room, memory, span, base.get())?;
+                let reference = self.eval(room, machine, span, base.get())?;
                 let field = *field;
                 Ok(Location::new(self.alloc, Root::Field { reference, field }))
             }
             PEForm::Index { base, index } => {
-                let location = self.target(room, memory, span, base.get())?;
-                let i = self.eval(room, memory, span, index.get())?;
+                let location = self.target(room, machine, span, base.get())?;
+                let i = self.eval(room, machine, span, index.get())?;
                 location.with_index(span, &i)
             }
             PEForm::Number(_) => Err(Stop::Failed { span }),
@@ -567,30 +571,32 @@ impl Activation<'_> {
     pub fn call(
         &self,
         room: u32,
-        memory: &mut Memory,
+        machine: &mut Machine,
         span: Span,
         f: u32,
         args: Row<Value>,
     ) -> Result<Called, Stop>
         requires bits_low { 2 ≤ self.now.bounds.int_bits }
         requires bits_high { self.now.bounds.int_bits ≤ 32 }
-        ensures { GivesAs called_of result memory.new (calls_in self.now span f args memory.old) }
+        ensures { RecordsAs called_of result machine.new (calls_in self.now span f args machine.old) }
     {
         let fun = match self.callee(f) {
             None => return Err(Stop::Failed { span }),
             Some(fun) => fun,
         };
         let active = with_function(self.alloc, self.active, f)?;
+        let left = self.left - 1;
         let inner = Activation {
             alloc: self.alloc,
             prog: self.prog,
             bounds: self.bounds,
-            left: self.left - 1,
+            left,
+            depth: depth_over(left),
             active: active.as_slice(),
         };
-        let outer = memory.exchange(first_slots(fun, args)?);
-        let flow = inner.exec_all(room, memory, fun.body.as_slice())?;
-        let slots = memory.exchange(outer);
+        let outer = machine.exchange(first_slots(fun, args)?);
+        let flow = inner.exec_all(room, machine, fun.body.as_slice())?;
+        let slots = machine.exchange(outer);
         let called = finished(self.alloc, fun, flow, slots.as_slice())?;
         Ok(called)
     }
@@ -602,7 +608,7 @@ impl Activation<'_> {
     fn copy_back(
         &self,
         room: u32,
-        memory: &mut Memory,
+        machine: &mut Machine,
         span: Span,
         params: &[ParamDef],
         args: &[PExpr],
@@ -610,7 +616,7 @@ impl Activation<'_> {
     ) -> Result<(), Stop>
         requires bits_low { 2 ≤ self.now.bounds.int_bits }
         requires bits_high { self.now.bounds.int_bits ≤ 32 }
-        ensures { Gives result memory.new (copy_back span (ref_args params.now (each_in self.now args.now)) refs.now memory.old) }
+        ensures { Records result machine.new (copy_back span (ref_args params.now (each_in self.now args.now)) refs.now machine.old) }
     {
         let mut params = params;
         let mut refs = refs;
@@ -626,9 +632,9 @@ impl Activation<'_> {
                 return Ok(());
             };
             refs = more;
-            let location = self.target(room, memory, span, a)?;
+            let location = self.target(room, machine, span, a)?;
             let v = copy(self.alloc, v)?;
-            location.store(self.alloc, memory, span, v)?;
+            machine.store(self.alloc, span, &location, v)?;
         }
         Ok(())
     }
@@ -637,13 +643,13 @@ impl Activation<'_> {
     #[cycle(run)]
     #[inline(never)]
     #[tactic(auto, using(crate::proofs::Activations::split_at))]
-    fn exec_all(&self, room: u32, memory: &mut Memory, stmts: &[PStmt]) -> Result<Flow, Stop>
+    fn exec_all(&self, room: u32, machine: &mut Machine, stmts: &[PStmt]) -> Result<Flow, Stop>
         requires bits_low { 2 ≤ self.now.bounds.int_bits }
         requires bits_high { self.now.bounds.int_bits ≤ 32 }
-        ensures { GivesAs flow_of result memory.new (exec_all_in self.now stmts.now memory.old) }
+        ensures { RecordsAs flow_of result machine.new (exec_all_in self.now stmts.now machine.old) }
     {
         for stmt in stmts {
-            if let Flow::Returns(v) = self.exec(room, memory, stmt)? {
+            if let Flow::Returns(v) = self.exec(room, machine, stmt)? {
                 return Ok(Flow::Returns(v));
             }
         }
@@ -652,10 +658,10 @@ impl Activation<'_> {
 
     /// One statement.
     #[cycle(run)]
-    fn exec(&self, room: u32, memory: &mut Memory, stmt: &PStmt) -> Result<Flow, Stop>
+    fn exec(&self, room: u32, machine: &mut Machine, stmt: &PStmt) -> Result<Flow, Stop>
         requires bits_low { 2 ≤ self.now.bounds.int_bits }
         requires bits_high { self.now.bounds.int_bits ≤ 32 }
-        ensures { GivesAs flow_of result memory.new (exec_in self.now stmt.now memory.old) }
+        ensures { RecordsAs flow_of result machine.new (exec_in self.now stmt.now machine.old) }
     {
         if room == 0 {
             return Err(Stop::NoMemory);
@@ -663,44 +669,56 @@ impl Activation<'_> {
         let room = room - 1;
         let span = stmt.span;
         match &stmt.form {
-            PForm::Block(stmts) => self.exec_all(room, memory, stmts.as_slice()),
+            PForm::Block(stmts) => self.exec_all(room, machine, stmts.as_slice()),
             PForm::Declare {
                 slot,
                 ty,
                 value,
                 ..
             } => match value {
-                None => declare(self.alloc, memory, *slot, *ty),
-                Some(e) => self.set(room, memory, span, *slot, e),
+                None => machine.declare(self.alloc, *slot, *ty),
+                Some(e) => self.set(room, machine, span, *slot, e),
             },
-            PForm::Assign { target, value } => self.assign(room, memory, span, target, value),
-            PForm::Call(e) => self.drop_value(room, memory, span, e),
+            PForm::Assign { target, value } => self.assign(room, machine, span, target, value),
+            PForm::Call(e) => self.drop_value(room, machine, span, e),
             PForm::If { cond, then, other } => match other {
-                None => self.branch(room, memory, span, cond, then.get()),
-                Some(other) => self.branches(room, memory, span, cond, then.get(), other.get()),
+                None => self.branch(room, machine, span, cond, then.get()),
+                Some(other) => self.branches(room, machine, span, cond, then.get(), other.get()),
             },
-            PForm::While { cond, body } => self.turns(room, memory, span, cond, body.get()),
+            PForm::While { cond, body } => self.turns(room, machine, span, cond, body.get()),
             PForm::Return(value) => match value {
-                None => Ok(Flow::Returns(None)),
-                Some(e) => self.give(room, memory, span, e),
+                None => machine.go(span, self.depth, Flow::Returns(None)),
+                Some(e) => self.give(room, machine, span, e),
             },
-            PForm::Assert(e) => self.assert(room, memory, span, e),
-            PForm::Assume(e) => self.assume(room, memory, span, e),
-            PForm::Minimize(e) => self.minimize(room, memory, span, e),
+            PForm::Assert(e) => self.assert(room, machine, span, e),
+            PForm::Assume(e) => self.assume(room, machine, span, e),
+            PForm::Minimize(e) => self.minimize(room, machine, span, e),
             PForm::Repeat { count, copies } => {
                 if is_hole(count) {
                     return Err(Stop::Failed { span });
                 }
-                self.exec_all(room, memory, copies.as_slice())
+                self.exec_all(room, machine, copies.as_slice())
             }
             PForm::MinRepeat(_) => Err(Stop::Failed { span }),
             PForm::Reorder(stmts) => {
                 if has_one_order(stmts.as_slice()) {
-                    return self.exec_all(room, memory, stmts.as_slice());
+                    return self.exec_all(room, machine, stmts.as_slice());
                 }
                 Err(Stop::Failed { span })
             }
         }
+    }
+
+    /// Whether a condition is true, which is told as a step.
+    #[cycle(run)]
+    #[inline(never)]
+    fn holds(&self, room: u32, machine: &mut Machine, span: Span, e: &PExpr) -> Result<bool, Stop>
+        requires bits_low { 2 ≤ self.now.bounds.int_bits }
+        requires bits_high { self.now.bounds.int_bits ≤ 32 }
+        ensures { Records result machine.new (holds kept self.now.depth span (does_in self.now e.now) machine.old) }
+    {
+        let v = self.eval(room, machine, span, e)?;
+        machine.decide(span, self.depth, &v)
     }
 
     /// Gives a variable its first value.
@@ -709,18 +727,17 @@ impl Activation<'_> {
     fn set(
         &self,
         room: u32,
-        memory: &mut Memory,
+        machine: &mut Machine,
         span: Span,
         slot: u32,
         e: &PExpr,
     ) -> Result<Flow, Stop>
         requires bits_low { 2 ≤ self.now.bounds.int_bits }
         requires bits_high { self.now.bounds.int_bits ≤ 32 }
-        ensures { GivesAs flow_of result memory.new (onward (followed ((does_in self.now e.now).value span) (write slot)) memory.old) }
+        ensures { RecordsAs flow_of result machine.new (followed ((does_in self.now e.now).value span) (λ v. stored_in self.now span (write slot v) v) machine.old) }
     {
-        let v = self.eval(room, memory, span, e)?;
-        memory.write(slot, v)?;
-        Ok(Flow::Onward)
+        let v = self.eval(room, machine, span, e)?;
+        machine.set(self.alloc, span, self.depth, slot, v)
     }
 
     /// Puts a value into what a target names.
@@ -729,18 +746,18 @@ impl Activation<'_> {
     fn assign(
         &self,
         room: u32,
-        memory: &mut Memory,
+        machine: &mut Machine,
         span: Span,
         target: &PExpr,
         value: &PExpr,
     ) -> Result<Flow, Stop>
         requires bits_low { 2 ≤ self.now.bounds.int_bits }
         requires bits_high { self.now.bounds.int_bits ≤ 32 }
-        ensures { GivesAs flow_of result memory.new (assign span (does_in self.now target.now) (does_in self.now value.now) memory.old) }
+        ensures { RecordsAs flow_of result machine.new (assign kept self.now.depth span (does_in self.now target.now) (does_in self.now value.now) machine.old) }
     {
-        let location = self.target(room, memory, span, target)?;
-        let v = self.eval(room, memory, span, value)?;
-        location.assign(self.alloc, memory, span, v)
+        let location = self.target(room, machine, span, target)?;
+        let v = self.eval(room, machine, span, value)?;
+        machine.assign(self.alloc, span, self.depth, &location, v)
     }
 
     /// A call whose value is dropped.
@@ -749,16 +766,16 @@ impl Activation<'_> {
     fn drop_value(
         &self,
         room: u32,
-        memory: &mut Memory,
+        machine: &mut Machine,
         span: Span,
         e: &PExpr,
     ) -> Result<Flow, Stop>
         requires bits_low { 2 ≤ self.now.bounds.int_bits }
         requires bits_high { self.now.bounds.int_bits ≤ 32 }
-        ensures { GivesAs flow_of result memory.new (drop_value span (does_in self.now e.now) memory.old) }
+        ensures { RecordsAs flow_of result machine.new (drop_value kept self.now.depth span (does_in self.now e.now) machine.old) }
     {
-        self.eval(room, memory, span, e)?;
-        Ok(Flow::Onward)
+        self.eval(room, machine, span, e)?;
+        machine.go(span, self.depth, Flow::Onward)
     }
 
     /// A statement, where a condition is true.
@@ -767,20 +784,19 @@ impl Activation<'_> {
     fn branch(
         &self,
         room: u32,
-        memory: &mut Memory,
+        machine: &mut Machine,
         span: Span,
         cond: &PExpr,
         a: &PStmt,
     ) -> Result<Flow, Stop>
         requires bits_low { 2 ≤ self.now.bounds.int_bits }
         requires bits_high { self.now.bounds.int_bits ≤ 32 }
-        ensures { GivesAs flow_of result memory.new (branch span (does_in self.now cond.now) (exec_in self.now a.now) None memory.old) }
+        ensures { RecordsAs flow_of result machine.new (branch kept self.now.depth span (does_in self.now cond.now) (exec_in self.now a.now) None machine.old) }
     {
-        match self.eval(room, memory, span, cond)? {
-            Value::Bit(true) => self.exec(room, memory, a),
-            Value::Bit(false) => Ok(Flow::Onward),
-            _ => Err(Stop::Failed { span }),
+        if self.holds(room, machine, span, cond)? {
+            return self.exec(room, machine, a);
         }
+        Ok(Flow::Onward)
     }
 
     /// The one statement or the other by a condition.
@@ -789,7 +805,7 @@ impl Activation<'_> {
     fn branches(
         &self,
         room: u32,
-        memory: &mut Memory,
+        machine: &mut Machine,
         span: Span,
         cond: &PExpr,
         a: &PStmt,
@@ -797,67 +813,70 @@ impl Activation<'_> {
     ) -> Result<Flow, Stop>
         requires bits_low { 2 ≤ self.now.bounds.int_bits }
         requires bits_high { self.now.bounds.int_bits ≤ 32 }
-        ensures { GivesAs flow_of result memory.new (branch span (does_in self.now cond.now) (exec_in self.now a.now) (Some (exec_in self.now b.now)) memory.old) }
+        ensures { RecordsAs flow_of result machine.new (branch kept self.now.depth span (does_in self.now cond.now) (exec_in self.now a.now) (Some (exec_in self.now b.now)) machine.old) }
     {
-        match self.eval(room, memory, span, cond)? {
-            Value::Bit(true) => self.exec(room, memory, a),
-            Value::Bit(false) => self.exec(room, memory, b),
-            _ => Err(Stop::Failed { span }),
+        if self.holds(room, machine, span, cond)? {
+            return self.exec(room, machine, a);
         }
+        self.exec(room, machine, b)
     }
 
     /// Returns with a value.
     #[cycle(run)]
     #[inline(never)]
-    fn give(&self, room: u32, memory: &mut Memory, span: Span, e: &PExpr) -> Result<Flow, Stop>
+    fn give(&self, room: u32, machine: &mut Machine, span: Span, e: &PExpr) -> Result<Flow, Stop>
         requires bits_low { 2 ≤ self.now.bounds.int_bits }
         requires bits_high { self.now.bounds.int_bits ≤ 32 }
-        ensures { GivesAs flow_of result memory.new (followed ((does_in self.now e.now).value span) (λ v. pure (Returns (Some v))) memory.old) }
+        ensures { RecordsAs flow_of result machine.new (followed ((does_in self.now e.now).value span) (λ v. going_in self.now span (Returns (Some v))) machine.old) }
     {
-        let v = self.eval(room, memory, span, e)?;
-        Ok(Flow::Returns(Some(v)))
+        let v = self.eval(room, machine, span, e)?;
+        machine.go(span, self.depth, Flow::Returns(Some(v)))
     }
 
     /// Fails where a condition is false.
     #[cycle(run)]
     #[inline(never)]
-    fn assert(&self, room: u32, memory: &mut Memory, span: Span, e: &PExpr) -> Result<Flow, Stop>
+    fn assert(&self, room: u32, machine: &mut Machine, span: Span, e: &PExpr) -> Result<Flow, Stop>
         requires bits_low { 2 ≤ self.now.bounds.int_bits }
         requires bits_high { self.now.bounds.int_bits ≤ 32 }
-        ensures { GivesAs flow_of result memory.new (assert span (does_in self.now e.now) memory.old) }
+        ensures { RecordsAs flow_of result machine.new (assert kept self.now.depth span (does_in self.now e.now) machine.old) }
     {
-        match self.eval(room, memory, span, e)? {
-            Value::Bit(true) => Ok(Flow::Onward),
-            Value::Bit(false) => Err(Stop::Failed { span }),
-            _ => Err(Stop::Failed { span }),
+        if self.holds(room, machine, span, e)? {
+            return Ok(Flow::Onward);
         }
+        Err(Stop::Failed { span })
     }
 
     /// Skips the run where a condition is false.
     #[cycle(run)]
     #[inline(never)]
-    fn assume(&self, room: u32, memory: &mut Memory, span: Span, e: &PExpr) -> Result<Flow, Stop>
+    fn assume(&self, room: u32, machine: &mut Machine, span: Span, e: &PExpr) -> Result<Flow, Stop>
         requires bits_low { 2 ≤ self.now.bounds.int_bits }
         requires bits_high { self.now.bounds.int_bits ≤ 32 }
-        ensures { GivesAs flow_of result memory.new (assume span (does_in self.now e.now) memory.old) }
+        ensures { RecordsAs flow_of result machine.new (assume kept self.now.depth span (does_in self.now e.now) machine.old) }
     {
-        match self.eval(room, memory, span, e)? {
-            Value::Bit(true) => Ok(Flow::Onward),
-            Value::Bit(false) => Err(Stop::Skipped { span }),
-            _ => Err(Stop::Failed { span }),
+        if self.holds(room, machine, span, e)? {
+            return Ok(Flow::Onward);
         }
+        Err(Stop::Skipped { span })
     }
 
     /// Adds a number to the cost.
     #[cycle(run)]
     #[inline(never)]
-    fn minimize(&self, room: u32, memory: &mut Memory, span: Span, e: &PExpr) -> Result<Flow, Stop>
+    fn minimize(
+        &self,
+        room: u32,
+        machine: &mut Machine,
+        span: Span,
+        e: &PExpr,
+    ) -> Result<Flow, Stop>
         requires bits_low { 2 ≤ self.now.bounds.int_bits }
         requires bits_high { self.now.bounds.int_bits ≤ 32 }
-        ensures { GivesAs flow_of result memory.new (minimize span (does_in self.now e.now) memory.old) }
+        ensures { RecordsAs flow_of result machine.new (minimize kept self.now.depth span (does_in self.now e.now) machine.old) }
     {
-        let v = self.eval(room, memory, span, e)?;
-        pay(memory, span, &v)
+        let v = self.eval(room, machine, span, e)?;
+        machine.pay(span, self.depth, &v)
     }
 
     /// The turns of a loop.
@@ -867,29 +886,26 @@ impl Activation<'_> {
     fn turns(
         &self,
         room: u32,
-        memory: &mut Memory,
+        machine: &mut Machine,
         span: Span,
         cond: &PExpr,
         body: &PStmt,
     ) -> Result<Flow, Stop>
         requires bits_low { 2 ≤ self.now.bounds.int_bits }
         requires bits_high { self.now.bounds.int_bits ≤ 32 }
-        ensures { GivesAs flow_of result memory.new (turns self.now.bounds.unroll span (does_in self.now cond.now) (exec_in self.now body.now) memory.old) }
+        ensures { RecordsAs flow_of result machine.new (turns kept self.now.depth self.now.bounds.unroll span (does_in self.now cond.now) (exec_in self.now body.now) machine.old) }
     {
         for _turn in 0..self.bounds.unroll {
-            match self.eval(room, memory, span, cond)? {
-                Value::Bit(true) => {}
-                Value::Bit(false) => return Ok(Flow::Onward),
-                _ => return Err(Stop::Failed { span }),
+            if !self.holds(room, machine, span, cond)? {
+                return Ok(Flow::Onward);
             }
-            if let Flow::Returns(v) = self.exec(room, memory, body)? {
+            if let Flow::Returns(v) = self.exec(room, machine, body)? {
                 return Ok(Flow::Returns(v));
             }
         }
-        match self.eval(room, memory, span, cond)? {
-            Value::Bit(true) => Err(Stop::Failed { span }),
-            Value::Bit(false) => Ok(Flow::Onward),
-            _ => Err(Stop::Failed { span }),
+        match self.holds(room, machine, span, cond)? {
+            true => Err(Stop::Failed { span }),
+            false => Ok(Flow::Onward),
         }
     }
 }

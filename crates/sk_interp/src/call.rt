@@ -1,22 +1,20 @@
 //! What calls give, and how statements end.
 
-ghost use Rattle.std.specs.Prelude.{◌≡◌, ◌==◌, ◌++◌, ◌∷◌, [], IfOk, count_by};
+ghost use Rattle.std.specs.Prelude.{◌≡◌, ◌-◌, ◌==◌, ◌++◌, ◌∷◌, [], IfOk, count_by};
 ghost use Rattle.std.specs.Option.{option_copied};
 ghost use Rattle.sk_model.specs.Eval.{result_value, params_of};
-ghost use Rattle.sk_model.specs.Exec.{pay, onward};
-ghost use Rattle.sk_model.specs.Heap.{write};
-ghost use Rattle.sk_model.specs.Values.{zero_of};
-ghost use Rattle.sk_interp.specs.Gives.{GivesAs};
-ghost use Rattle.sk_model.specs.Run.{first_slots, refs_from, result_of};
+ghost use Rattle.sk_model.specs.Run.{first_slots, most_calls, refs_from, result_of};
 ghost use Rattle.sk_interp.specs.Calling.{called_of, flow_of};
 
-use crate::memory::{Memory, add_blanks, copy_at};
+use crate::memory::{add_blanks, copy_at};
 use crate::row::Row;
-use crate::stop::Stop;
 use crate::value::zero_of;
-use sk_base::{List, Span};
+use sk_base::List;
 use sk_prog::{Fun, ParamDef, Ty, Value};
 use std::alloc::{AllocError, Global};
+
+/// The most calls that are active at a time.
+pub const MOST_CALLS: u32 = 128;
 
 /// Whether a statement goes on to the next one, or returns from its function.
 #[derive(Drop)]
@@ -30,6 +28,13 @@ pub enum Flow {
 pub struct Called {
     pub result: Option<Value>,
     pub refs: List<Value>,
+}
+
+/// How many calls are active where so many more may be.
+pub fn depth_over(left: u32) -> u32
+    ensures { result ≡ most_calls - left }
+{
+    MOST_CALLS.saturating_sub(left)
 }
 
 /// These functions and one more.
@@ -112,31 +117,6 @@ pub fn result_value(found: Option<Value>) -> Value
         None => Value::Int(0),
         Some(v) => v,
     }
-}
-
-/// Adds a number to the cost.
-#[inline(never)]
-pub fn pay(memory: &mut Memory, span: Span, v: &Value) -> Result<Flow, Stop>
-    ensures { GivesAs flow_of result memory.new (pay span v.now memory.old) }
-{
-    let Value::Int(n) = v else {
-        return Err(Stop::Failed { span });
-    };
-    if *n < 0 {
-        return Err(Stop::Failed { span });
-    }
-    memory.pay(*n as u64);
-    Ok(Flow::Onward)
-}
-
-/// Gives a variable the value of its type that is unset.
-#[inline(never)]
-pub fn declare(alloc: Global, memory: &mut Memory, slot: u32, ty: Ty) -> Result<Flow, Stop>
-    ensures { GivesAs flow_of result memory.new (onward (write slot (zero_of ty)) memory.old) }
-{
-    let zero = zero_of(alloc, ty)?;
-    memory.write(slot, zero)?;
-    Ok(Flow::Onward)
 }
 
 /// The parameters of a function, where it is there.

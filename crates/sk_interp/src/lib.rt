@@ -6,6 +6,7 @@ mod bits;
 mod call;
 mod entry;
 mod location;
+mod machine;
 mod memory;
 mod number;
 mod operator;
@@ -15,4 +16,4 @@ mod row;
 mod stop;
 mod value;
 
-pub use entry::exec;
+pub use entry::{Logged, exec, run_with_log};

@@ -3,13 +3,11 @@
 ghost use Rattle.std.specs.Prelude.{◌≡◌, ◌++◌, ◌∷◌, [], IfOk};
 ghost use Rattle.sk_model.specs.Heap.{store};
 ghost use Rattle.sk_model.specs.Eval.{add_index};
-ghost use Rattle.sk_interp.specs.Gives.{Gives, GivesAs, ComputesAs};
+ghost use Rattle.sk_interp.specs.Gives.{Gives};
+ghost use Rattle.sk_interp.specs.Records.{ComputesAs};
 ghost use Rattle.sk_interp.specs.Paths.{load};
-ghost use Rattle.sk_model.specs.Exec.{onward};
-ghost use Rattle.sk_interp.specs.Calling.{flow_of};
 ghost use Rattle.sk_interp.specs.Places.{location_of, root_of};
 
-use crate::call::Flow;
 use crate::memory::Memory;
 use crate::stop::Stop;
 use sk_base::Span;
@@ -92,20 +90,5 @@ impl Location {
                 memory.store_field(alloc, span, reference, *field, indexes, v)
             }
         }
-    }
-
-    /// Puts a value there, and goes on.
-    #[inline(never)]
-    pub fn assign(
-        &self,
-        alloc: Global,
-        memory: &mut Memory,
-        span: Span,
-        v: Value,
-    ) -> Result<Flow, Stop>
-        ensures { GivesAs flow_of result memory.new (onward (store span (location_of self.now) v) memory.old) }
-    {
-        self.store(alloc, memory, span, v)?;
-        Ok(Flow::Onward)
     }
 }

@@ -5,7 +5,7 @@ ghost use Rattle.sk_prog.specs.declared.value.Value.TheVariants as value;
 ghost use Rattle.sk_model.specs.Values.{zero_of};
 ghost use Rattle.sk_model.specs.Heap.{blank, read, written, record_at, read_field, store, Variable, Field};
 ghost use Rattle.sk_model.specs.Eval.{or_fail};
-ghost use Rattle.sk_interp.specs.Gives.{Gives, Computes};
+ghost use Rattle.sk_interp.specs.Gives.{Gives, Finds};
 ghost use Rattle.sk_interp.specs.Paths.{part, load};
 
 use crate::row::Row;
@@ -82,7 +82,7 @@ fn take_at(slots: &mut Row<Value>, slot: u32) -> Value
 
 /// A copy of the part of a value that the indexes name.
 fn copy_part(alloc: Global, span: Span, v: &Value, indexes: &[i64]) -> Result<Value, Stop>
-    ensures { Computes result (or_fail span (part indexes.now v.now)) }
+    ensures { Finds result (or_fail span (part indexes.now v.now)) }
 {
     match part(v, indexes) {
         None => Err(Stop::Failed { span }),
@@ -101,7 +101,7 @@ fn copy_part_at(
     i: u32,
     indexes: &[i64],
 ) -> Result<Value, Stop>
-    ensures { Computes result (or_fail span (part indexes.now (slice_index_or vs.now i blank))) }
+    ensures { Finds result (or_fail span (part indexes.now (slice_index_or vs.now i blank))) }
 {
     match vs.get(i as usize) {
         Some(v) => copy_part(alloc, span, v, indexes),

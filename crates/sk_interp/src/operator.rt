@@ -5,7 +5,7 @@ ghost use Rattle.std.specs.Ordering.{int_eq};
 ghost use Rattle.sk_model.specs.Operators.{number_operator, bit_operator, bits_operator, shift, operand, on_operands, operator, unary_operator, to_int, bits_of, array_of, divided, pairwise};
 ghost use Rattle.sk_base.specs.Word.{wrapped};
 ghost use Rattle.sk_interp.specs.Ripple.{of_bits};
-ghost use Rattle.sk_interp.specs.Gives.{Computes};
+ghost use Rattle.sk_interp.specs.Records.{Computes};
 
 use crate::bits::{array_of, bits_of, flipped, moved_down, moved_up, pairwise, sum_of};
 use crate::number::{add, divide, multiply, negate, remainder, subtract};

@@ -3,7 +3,7 @@
 ghost use Rattle.std.specs.Prelude.{◌≡◌, ◌≤◌, IfOk};
 ghost use Rattle.sk_model.specs.Eval.{number_at, literal, padded_at, unfilled, indexed, sliced};
 ghost use Rattle.sk_model.specs.Step.{pure};
-ghost use Rattle.sk_interp.specs.Gives.{Computes};
+ghost use Rattle.sk_interp.specs.Records.{Computes};
 
 use crate::stop::Stop;
 use crate::value::{copy, copy_all, element, elements, padded};

@@ -16,7 +16,7 @@ use Rattle.clap.proofs.WalkLemmas.{raw_values-rows}
 use Rattle.sk_opts.specs.declared.setting.Setting.{Setting}
 use Rattle.sk_opts.specs.declared.words.Words.{Words}
 use Rattle.sk_opts.specs.Reader.{words_of}
-use Rattle.sk_opts.specs.Matching.{has_short_word, command_app, matched_positionals, matched_words, SameReading, IsOptions, NoOptions, BoundsOptions, SynthOptions}
+use Rattle.sk_opts.specs.Matching.{has_short_word, command_app, matched_positionals, matched_words, SameReading, IsOptions, NoOptions, BoundsOptions, SynthOptions, TraceOptions}
 use Rattle.sk_opts.proofs.ClapRules.{simple_is}
 use Rattle.sk_opts.proofs.ClapReading.{faulty_words, matched_read}
 
@@ -30,6 +30,7 @@ simple_app : (has : List Setting) → IsOptions has → is_simple (command_app h
 simple_app has NoOptions = refl
 simple_app has BoundsOptions = refl
 simple_app has SynthOptions = refl
+simple_app has TraceOptions = refl
 
 -- the words are matched
 pub words_matched : (has : List Setting) (command : Command) (ws : List Text) (m : ArgMatches) (found : Option Words) → IsOptions has → has_short_word ws ≡ false → app_of command ≡ command_app has

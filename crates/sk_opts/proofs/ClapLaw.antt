@@ -10,7 +10,7 @@ use Rattle.clap.specs.declared.error.kind.ErrorKind.TheVariants.{MissingRequired
 use Rattle.clap.proofs.FaultLemmas.{leaf_fault}
 use Rattle.sk_opts.specs.declared.setting.Setting.{Setting}
 use Rattle.sk_opts.specs.Settings.{is_flag}
-use Rattle.sk_opts.specs.Matching.{setting_name, has_short_word, command_app, IsOptions, NoOptions, BoundsOptions, SynthOptions}
+use Rattle.sk_opts.specs.Matching.{setting_name, has_short_word, command_app, IsOptions, NoOptions, BoundsOptions, SynthOptions, TraceOptions}
 use Rattle.sk_opts.proofs.ClapRules.{built_as, built_rules, built_shape}
 use Rattle.sk_opts.proofs.ClapRows.{Seen}
 use Rattle.sk_opts.proofs.ClapWords.{at}
@@ -61,6 +61,7 @@ fault_built : (has : List Setting) (ws : List Text) → IsOptions has → fault_
 fault_built has ws NoOptions = refl
 fault_built has ws BoundsOptions = refl
 fault_built has ws SynthOptions = refl
+fault_built has ws TraceOptions = refl
 
 pub fault_is : (has : List Setting) (ws : List Text) → IsOptions has → fault_of (command_app has) ws ≡ total has (at nothing_held idle false) ws
 fault_is has ws o = fault_built has ws o ∙ leaf_fault (record { top = built_shape has; subs = [] }) nothing_held ws refl ∙ level_is has ws
@@ -69,6 +70,7 @@ pub matches_are : (has : List Setting) (ws : List Text) → IsOptions has → ma
 matches_are has ws NoOptions = refl
 matches_are has ws BoundsOptions = refl
 matches_are has ws SynthOptions = refl
+matches_are has ws TraceOptions = refl
 
 -- The law of the walk
 

@@ -1,5 +1,5 @@
 -- What words say by the matches of `clap` is what reading them one after the other finds.
-use Rattle.std.proofs.Common.{◌≡◌, ℕ, Bool, true, false, ◌&&◌, ◌||◌, cond, eqb, List, [], ◌∷◌, ◌++◌, length, Option, Some, None, is_some, refl, sym, ap, ap₂, ◌∙◌, subst, codes, append_assoc, append-nil}
+use Rattle.std.proofs.Common.{◌≡◌, ℕ, Bool, true, false, ◌&&◌, ◌||◌, cond, eqb, List, [], ◌∷◌, ◌++◌, length, Option, Some, None, is_some, refl, sym, ap, ap₂, ◌∙◌, subst, codes, append_assoc, append-nil, option_map}
 use Rattle.std.specs.Prelude.{nat_le}
 use Rattle.std.specs.List.{fold, list_any}
 use Rattle.std.specs.Str.{bytes_eq}
@@ -11,13 +11,18 @@ use Rattle.clap.specs.Faults.{fault_of}
 use Rattle.sk_tree.specs.Shapes.{is_digit}
 use Rattle.sk_tree.specs.Tokens.{number_of}
 use Rattle.sk_opts.specs.declared.setting.Setting.{Setting}
-use Rattle.sk_opts.specs.declared.setting.Setting.TheVariants.{HoleBits, InputBits, Turns, Calls, IntBits, Rounds, Conflicts, Certificate}
+use Rattle.sk_opts.specs.declared.setting.Setting.TheVariants.{HoleBits, InputBits, Turns, Calls, IntBits, Rounds, Conflicts, Certificate, Holes}
 use Rattle.sk_opts.specs.declared.setting.Given.{Given}
+use Rattle.sk_opts.specs.declared.setting.GivenValue.{GivenValue}
+use Rattle.sk_opts.specs.declared.setting.GivenValue.TheVariants.{Number, Numbers}
 use Rattle.sk_opts.specs.declared.words.Words.{Words}
-use Rattle.sk_opts.specs.Settings.{setting_bytes, lowest, highest, is_flag, setting_among, is_number, number_in, value_in, all_once, is_of}
+use Rattle.sk_opts.specs.Settings.{setting_bytes, lowest, highest, is_flag, is_list, setting_among, is_number, value_in, all_once, is_of}
+use Rattle.sk_opts.specs.SpeltValues.{between_commas, longer_first, both}
+use Rattle.sk_opts.specs.GivenValues.{long_numbers, given_value}
 use Rattle.sk_opts.specs.CommandLine.{is_option}
 use Rattle.sk_opts.specs.Reader.{Piece, Ends, Names, Sets, Plain, Unknown, before_equals, after_equals, option_piece, piece_of, with_setting, with_positional, words_with, words_from, if_once, words_of}
 use Rattle.sk_opts.specs.Matching.{has_short_word, command_app, IsOptions, SameReading, words_with_settings, matched_words}
+use Rattle.sk_opts.proofs.InRange.{flag_has_none}
 use Rattle.sk_opts.proofs.ClapRules.{built_rules, eq_turned}
 use Rattle.sk_opts.proofs.ClapRows.{Seen, text_of, seen_option, seen_word}
 use Rattle.sk_opts.proofs.ClapWords.{at}
@@ -43,16 +48,16 @@ behind_none None ps = refl
 behind_none (Some gs) ps = refl
 
 -- one more option, at the end
-abbrev ended : Option (List Given) → Setting → Option ℕ → Option (List Given)
+abbrev ended : Option (List Given) → Setting → Option GivenValue → Option (List Given)
 ended None s n = None
 ended (Some gs) s None = None
 ended (Some gs) s (Some n) = Some (gs ++ record { setting = s; value = n } ∷ [])
 
-ended_first : (s : Setting) (n : Option ℕ) → value_more s n (Some []) ≡ ended (Some []) s n
+ended_first : (s : Setting) (n : Option GivenValue) → value_more s n (Some []) ≡ ended (Some []) s n
 ended_first s None = refl
 ended_first s (Some n) = refl
 
-ended_later : (t : Setting) (k : Option ℕ) (o : Option (List Given)) (s : Setting) (n : Option ℕ) → value_more t k (ended o s n) ≡ ended (value_more t k o) s n
+ended_later : (t : Setting) (k : Option GivenValue) (o : Option (List Given)) (s : Setting) (n : Option GivenValue) → value_more t k (ended o s n) ≡ ended (value_more t k o) s n
 ended_later t None o s n = refl
 ended_later t (Some k) None s n = refl
 ended_later t (Some k) (Some gs) s None = refl
@@ -62,7 +67,7 @@ valued_more : (texts : Texts) (s : Setting) (v : List ℕ) → valued (texts ++ 
 valued_more [] s v = ended_first s (value_by s v)
 valued_more (g ∷ gs) s v = ap (value_more g.0 (value_by g.0 g.1)) (valued_more gs s v) ∙ ended_later g.0 (value_by g.0 g.1) (valued gs) s (value_by s v)
 
-ended_behind : (o : Option (List Given)) (ps : List Text) (s : Setting) (n : Option ℕ) (more : Option Words) → behind (ended o s n) ps more ≡ behind o ps (with_setting s n more)
+ended_behind : (o : Option (List Given)) (ps : List Text) (s : Setting) (n : Option GivenValue) (more : Option Words) → behind (ended o s n) ps more ≡ behind o ps (with_setting s n more)
 ended_behind None ps s n more = refl
 ended_behind (Some gs) ps s None more = refl
 ended_behind (Some gs) ps s (Some n) None = refl
@@ -92,11 +97,11 @@ not_once (x ∷ xs) g more e =
       | false ↦ λ b f. ap (λ v. cond (list_any (is_of x.setting) (xs ++ g ∷ more)) false v) (not_once xs g more f) ∙ never (list_any (is_of x.setting) (xs ++ g ∷ more))
     ] refl e
 
-twice_none : (has : List Setting) (texts : Texts) (ps : List Text) (s : Setting) (n : Option ℕ) (more : Option Words) → AllRead has texts → is_some (text_of s texts) ≡ true
+twice_none : (has : List Setting) (texts : Texts) (ps : List Text) (s : Setting) (n : Option GivenValue) (more : Option Words) → AllRead has texts → is_some (text_of s texts) ≡ true
     → if_once (behind (valued texts) ps (with_setting s n more)) ≡ None
 twice_none has texts ps s n more k e = by_values (valued texts) n more refl
   where
-    by_values : (o : Option (List Given)) (n : Option ℕ) (more : Option Words) → valued texts ≡ o → if_once (behind o ps (with_setting s n more)) ≡ None
+    by_values : (o : Option (List Given)) (n : Option GivenValue) (more : Option Words) → valued texts ≡ o → if_once (behind o ps (with_setting s n more)) ≡ None
     by_values None n more f = refl
     by_values (Some gs) None more f = refl
     by_values (Some gs) (Some n) None f = refl
@@ -106,6 +111,11 @@ twice_none has texts ps s n more k e = by_values (valued texts) n more refl
 
 -- Values begin with no minus sign
 
+and_false : (x y : Bool) → (x && (y && false)) ≡ false
+and_false true true = refl
+and_false true false = refl
+and_false false y = refl
+
 minus_number : (w : List ℕ) → is_option w ≡ true → is_number w ≡ false
 unfolding is_digit
 minus_number [] e = absurd (false_true e)
@@ -113,17 +123,36 @@ minus_number (b ∷ []) e = absurd (false_true e)
 minus_number (b ∷ c ∷ r) e =
     let at : b ≡ 45 = eqb-true b 45 e in
     subst (λ x. is_number (x ∷ c ∷ r) ≡ false) (sym at) (and_false (nat_le 1 (length (45 ∷ c ∷ r))) (nat_le (length (45 ∷ c ∷ r)) 10))
-  where
-    and_false : (x y : Bool) → (x && (y && false)) ≡ false
-    and_false true true = refl
-    and_false true false = refl
-    and_false false y = refl
 
-no_value : (s : Setting) (w : List ℕ) → is_option w ≡ true → value_in s w ≡ None
-no_value s w e =
+no_number : (s : Setting) (w : List ℕ) → is_option w ≡ true → value_in s w ≡ None
+no_number s w e =
     elim (is_flag s) as (λ b. cond b None (cond (is_number w && (nat_le (lowest s) (number_of w) && nat_le (number_of w) (highest s))) (Some (number_of w)) None) ≡ None) [
       | true ↦ refl
       | false ↦ ap (λ b. cond (b && (nat_le (lowest s) (number_of w) && nat_le (number_of w) (highest s))) (Some (number_of w)) None) (minus_number w e)
+    ]
+
+-- what stands before the first comma begins so too
+never_number : (v : List ℕ) → (is_number (45 ∷ v) && (nat_le 0 (number_of (45 ∷ v)) && nat_le (number_of (45 ∷ v)) 9999999999)) ≡ false
+unfolding is_digit
+never_number v = ap (λ b. b && (nat_le 0 (number_of (45 ∷ v)) && nat_le (number_of (45 ∷ v)) 9999999999)) (and_false (nat_le 1 (length (45 ∷ v))) (nat_le (length (45 ∷ v)) 10))
+
+no_first : (v : List ℕ) (ws : List (List ℕ)) → long_numbers ((45 ∷ v) ∷ ws) ≡ None
+no_first v ws = ap (λ b. both (cond b (Some (number_of (45 ∷ v))) None) (long_numbers ws)) (never_number v)
+
+minus_piece : (w : List ℕ) → is_option w ≡ true → long_numbers (between_commas w) ≡ None
+minus_piece [] e = absurd (false_true e)
+minus_piece (b ∷ []) e = absurd (false_true e)
+minus_piece (b ∷ c ∷ r) e = subst (λ x. long_numbers (between_commas (x ∷ c ∷ r)) ≡ None) (sym (eqb-true b 45 e)) (first (between_commas (c ∷ r)))
+  where
+    first : (ws : List (List ℕ)) → long_numbers (longer_first 45 ws) ≡ None
+    first [] = no_first [] []
+    first (v ∷ ws) = no_first v ws
+
+no_value : (s : Setting) (w : List ℕ) → is_option w ≡ true → given_value s w ≡ None
+no_value s w e =
+    elim (is_list s) as (λ b. cond b (option_map Numbers (long_numbers (between_commas w))) (option_map Number (value_in s w)) ≡ None) [
+      | true ↦ ap (option_map Numbers) (minus_piece w e)
+      | false ↦ ap (option_map Number) (no_number s w e)
     ]
 
 -- All words
@@ -159,7 +188,7 @@ reads_words has seen ws k = (by_values (valued seen.texts) refl, k)
         ∙ ap (λ b. cond b (Some (record { settings = gs; positionals = seen.positionals ++ ws })) None) (once_if has seen.texts gs k e).once
 
 -- an option with its text
-reads_option : (has : List Setting) (ws : List Text) (s : Setting) (v : List ℕ) (n : Option ℕ) (seen : Seen) → ReadsOn has ws → AllRead has seen.texts → setting_among has (setting_bytes s) ≡ Some s → (is_flag s ≡ true → v ≡ codes "true") → value_by s v ≡ n
+reads_option : (has : List Setting) (ws : List Text) (s : Setting) (v : List ℕ) (n : Option GivenValue) (seen : Seen) → ReadsOn has ws → AllRead has seen.texts → setting_among has (setting_bytes s) ≡ Some s → (is_flag s ≡ true → v ≡ codes "true") → value_by s v ≡ n
     → Reads has (once_more s v seen (λ x. read_texts has None x ws)) (from_here has seen (with_setting s n (words_from has None ws)))
 reads_option has ws s v n seen next k among flag is =
     elim (is_some (text_of s seen.texts)) as (λ b. is_some (text_of s seen.texts) ≡ b → Reads has (cond b None (read_texts has None (seen_option s v seen) ws)) (from_here has seen (with_setting s n (words_from has None ws)))) [
@@ -202,14 +231,14 @@ reads_piece : (has : List Setting) (p : Piece) (w : Text) (ws : List Text) (seen
     → Reads has (read_piece p w ws seen (λ m x. read_texts has m x ws)) (from_here has seen (words_with p w ws (λ m. words_from has m ws)))
 reads_piece has Ends w ws seen known k next = reads_words has seen ws k
 reads_piece has (Names s) w ws seen known k next =
-    elim (is_flag s) as (λ b. is_flag s ≡ b → Reads has (cond b (once_more s (codes "true") seen (λ x. read_texts has None x ws)) (read_texts has (Some s) seen ws)) (from_here has seen (cond b (with_setting s (Some 0) (words_from has None ws)) (words_from has (Some s) ws)))) [
-      | true ↦ λ e. reads_option has ws s (codes "true") (Some 0) seen next k known (λ f. refl) (ap (λ b. cond b (Some 0) (value_in s (codes "true"))) e)
+    elim (is_flag s) as (λ b. is_flag s ≡ b → Reads has (cond b (once_more s (codes "true") seen (λ x. read_texts has None x ws)) (read_texts has (Some s) seen ws)) (from_here has seen (cond b (with_setting s (Some (Number 0)) (words_from has None ws)) (words_from has (Some s) ws)))) [
+      | true ↦ λ e. reads_option has ws s (codes "true") (Some (Number 0)) seen next k known (λ f. refl) (ap (λ b. cond b (Some (Number 0)) (given_value s (codes "true"))) e)
       | false ↦ λ e. next (Some s) seen (e, known) k
     ] refl
 reads_piece has (Sets s v) w ws seen known k next =
-    elim (is_flag s) as (λ b. is_flag s ≡ b → Reads has (cond b None (once_more s v seen (λ x. read_texts has None x ws))) (from_here has seen (with_setting s (value_in s v) (words_from has None ws)))) [
-      | true ↦ λ e. reads_none has seen (with_setting s (value_in s v) (words_from has None ws)) (ap (λ b. with_setting s (cond b None (number_in (lowest s) (highest s) v)) (words_from has None ws)) e)
-      | false ↦ λ e. reads_option has ws s v (value_in s v) seen next k known (λ f. absurd (false_true (sym e ∙ f))) (ap (λ b. cond b (Some 0) (value_in s v)) e)
+    elim (is_flag s) as (λ b. is_flag s ≡ b → Reads has (cond b None (once_more s v seen (λ x. read_texts has None x ws))) (from_here has seen (with_setting s (given_value s v) (words_from has None ws)))) [
+      | true ↦ λ e. reads_none has seen (with_setting s (given_value s v) (words_from has None ws)) (ap (λ n. with_setting s n (words_from has None ws)) (flag_has_none s v e))
+      | false ↦ λ e. reads_option has ws s v (given_value s v) seen next k known (λ f. absurd (false_true (sym e ∙ f))) (ap (λ b. cond b (Some (Number 0)) (given_value s v)) e)
     ] refl
 reads_piece has Plain w ws seen known k next =
     subst (Reads has (read_texts has None (seen_word w seen) ws)) (ap if_once (word_behind (valued seen.texts) seen.positionals w (words_from has None ws))) (next None (seen_word w seen) tt k)
@@ -221,9 +250,9 @@ reads has [] None seen m k =
 reads has [] (Some s) seen m k = reads_none has seen None refl
 reads has (w ∷ ws) None seen m k = reads_piece has (piece_of has w) w ws seen (is_known has w) k (reads has ws)
 reads has (w ∷ ws) (Some s) seen m k =
-    elim (is_option w) as (λ b. is_option w ≡ b → Reads has (cond b None (once_more s w seen (λ x. read_texts has None x ws))) (from_here has seen (with_setting s (value_in s w) (words_from has None ws)))) [
-      | true ↦ λ e. reads_none has seen (with_setting s (value_in s w) (words_from has None ws)) (ap (λ n. with_setting s n (words_from has None ws)) (no_value s w e))
-      | false ↦ λ e. reads_option has ws s w (value_in s w) seen (reads has ws) k m.1 (λ f. absurd (false_true (sym m.0 ∙ f))) (ap (λ b. cond b (Some 0) (value_in s w)) m.0)
+    elim (is_option w) as (λ b. is_option w ≡ b → Reads has (cond b None (once_more s w seen (λ x. read_texts has None x ws))) (from_here has seen (with_setting s (given_value s w) (words_from has None ws)))) [
+      | true ↦ λ e. reads_none has seen (with_setting s (given_value s w) (words_from has None ws)) (ap (λ n. with_setting s n (words_from has None ws)) (no_value s w e))
+      | false ↦ λ e. reads_option has ws s w (given_value s w) seen (reads has ws) k m.1 (λ f. absurd (false_true (sym m.0 ∙ f))) (ap (λ b. cond b (Some (Number 0)) (given_value s w)) m.0)
     ] refl
 
 behind_nothing : (o : Option Words) → behind (Some []) [] o ≡ o
@@ -247,6 +276,7 @@ minus_first s c r e = elim (eqb c 61) as (λ b. bytes_eq (45 ∷ cond b [] (c �
     short Rounds = refl
     short Conflicts = refl
     short Certificate = refl
+    short Holes = refl
 
     other : (s : Setting) → bytes_eq (45 ∷ c ∷ before_equals r) (setting_bytes s) ≡ false
     other HoleBits = rw e refl
@@ -257,6 +287,7 @@ minus_first s c r e = elim (eqb c 61) as (λ b. bytes_eq (45 ∷ cond b [] (c �
     other Rounds = rw e refl
     other Conflicts = rw e refl
     other Certificate = rw e refl
+    other Holes = rw e refl
 
 none_among : (has : List Setting) (c : ℕ) (r : List ℕ) → eqb c 45 ≡ false → setting_among has (before_equals (45 ∷ c ∷ r)) ≡ None
 none_among [] c r e = refl
@@ -293,18 +324,18 @@ short_piece has w s =
 short_option : (w : List ℕ) → IsShort w → is_option w ≡ true
 short_option w s = ap is_option s.spelt
 
-with_none : (s : Setting) (n : Option ℕ) → with_setting s n None ≡ None
+with_none : (s : Setting) (n : Option GivenValue) → with_setting s n None ≡ None
 with_none s None = refl
 with_none s (Some n) = refl
 
 piece_none : (has : List Setting) (p : Piece) (w : Text) (ws : List Text) → (p ≡ Ends → ⊥) → ((m : Option Setting) → words_from has m ws ≡ None) → words_with p w ws (λ m. words_from has m ws) ≡ None
 piece_none has Ends w ws differ next = absurd (differ refl)
 piece_none has (Names s) w ws differ next =
-    elim (is_flag s) as (λ b. cond b (with_setting s (Some 0) (words_from has None ws)) (words_from has (Some s) ws) ≡ None) [
-      | true ↦ ap (with_setting s (Some 0)) (next None)
+    elim (is_flag s) as (λ b. cond b (with_setting s (Some (Number 0)) (words_from has None ws)) (words_from has (Some s) ws) ≡ None) [
+      | true ↦ ap (with_setting s (Some (Number 0))) (next None)
       | false ↦ next (Some s)
     ]
-piece_none has (Sets s v) w ws differ next = ap (with_setting s (value_in s v)) (next None) ∙ with_none s (value_in s v)
+piece_none has (Sets s v) w ws differ next = ap (with_setting s (given_value s v)) (next None) ∙ with_none s (given_value s v)
 piece_none has Plain w ws differ next = ap (with_positional w) (next None)
 piece_none has Unknown w ws differ next = refl
 
@@ -337,7 +368,7 @@ short_none has (w ∷ ws) e m =
 
     later : (m : Option Setting) → bytes_eq w (codes "--") ≡ false → ((x : Option Setting) → words_from has x ws ≡ None) → words_from has m (w ∷ ws) ≡ None
     later None b next = piece_none has (piece_of has w) w ws (not_ends has w b) next
-    later (Some t) b next = ap (with_setting t (value_in t w)) (next None) ∙ with_none t (value_in t w)
+    later (Some t) b next = ap (with_setting t (given_value t w)) (next None) ∙ with_none t (given_value t w)
 
 -- What `words_of` of the code rests on
 

@@ -6,9 +6,9 @@ use Rattle.clap.specs.Walk.{Rule, arg_by_id, arg_by_index, arg_by_long}
 use Rattle.clap.specs.Simple.{Shape, built, filled, new_rule, with_index}
 use Rattle.clap.specs.Faults.{is_simple_and_free}
 use Rattle.sk_opts.specs.declared.setting.Setting.{Setting}
-use Rattle.sk_opts.specs.declared.setting.Setting.TheVariants.{HoleBits, InputBits, Turns, Calls, IntBits, Rounds, Conflicts, Certificate}
+use Rattle.sk_opts.specs.declared.setting.Setting.TheVariants.{HoleBits, InputBits, Turns, Calls, IntBits, Rounds, Conflicts, Certificate, Holes}
 use Rattle.sk_opts.specs.Settings.{setting_bytes, is_flag, setting_among}
-use Rattle.sk_opts.specs.Matching.{setting_name, setting_action, words_rule, command_app, IsOptions, NoOptions, BoundsOptions, SynthOptions}
+use Rattle.sk_opts.specs.Matching.{setting_name, setting_action, words_rule, command_app, IsOptions, NoOptions, BoundsOptions, SynthOptions, TraceOptions}
 use Rattle.sk_opts.proofs.InRange.{same_setting}
 
 -- Texts
@@ -67,11 +67,13 @@ pub built_is : (has : List Setting) → IsOptions has → built (command_app has
 built_is has NoOptions = refl
 built_is has BoundsOptions = refl
 built_is has SynthOptions = refl
+built_is has TraceOptions = refl
 
 pub simple_is : (has : List Setting) → IsOptions has → is_simple_and_free (command_app has) ≡ true
 simple_is has NoOptions = refl
 simple_is has BoundsOptions = refl
 simple_is has SynthOptions = refl
+simple_is has TraceOptions = refl
 
 -- Names
 
@@ -84,6 +86,7 @@ name_test IntBits n = or_false (bytes_eq (setting_name IntBits) n) ∙ eq_turned
 name_test Rounds n = or_false (bytes_eq (setting_name Rounds) n) ∙ eq_turned (setting_name Rounds) n
 name_test Conflicts n = or_false (bytes_eq (setting_name Conflicts) n) ∙ eq_turned (setting_name Conflicts) n
 name_test Certificate n = or_false (bytes_eq (setting_name Certificate) n) ∙ eq_turned (setting_name Certificate) n
+name_test Holes n = or_false (bytes_eq (setting_name Holes) n) ∙ eq_turned (setting_name Holes) n
 
 pub whole_name : (s : Setting) → 45 ∷ 45 ∷ setting_name s ≡ setting_bytes s
 whole_name HoleBits = refl
@@ -94,6 +97,7 @@ whole_name IntBits = refl
 whole_name Rounds = refl
 whole_name Conflicts = refl
 whole_name Certificate = refl
+whole_name Holes = refl
 
 pub no_words : (s : Setting) → bytes_eq (setting_name s) (codes "words") ≡ false
 no_words HoleBits = refl
@@ -104,6 +108,7 @@ no_words IntBits = refl
 no_words Rounds = refl
 no_words Conflicts = refl
 no_words Certificate = refl
+no_words Holes = refl
 
 pub words_differ : (s : Setting) → bytes_eq (codes "words") (setting_name s) ≡ false
 words_differ s = eq_turned (codes "words") (setting_name s) ∙ no_words s

@@ -8,7 +8,10 @@ use Rattle.clap.specs.Walk.{Row, Text, first_of, has_row, more_values, reading_b
 use Rattle.clap.specs.declared.parser.matches.ValueSource.TheVariants.{DefaultValue}
 use Rattle.sk_opts.specs.declared.setting.Setting.{Setting}
 use Rattle.sk_opts.specs.declared.setting.Given.{Given}
-use Rattle.sk_opts.specs.Settings.{setting_bytes, is_flag, setting_among, value_in, all_once, is_of, last_from, last_of}
+use Rattle.sk_opts.specs.declared.setting.GivenValue.{GivenValue}
+use Rattle.sk_opts.specs.declared.setting.GivenValue.TheVariants.{Number}
+use Rattle.sk_opts.specs.Settings.{setting_bytes, is_flag, setting_among, all_once, is_of, last_from, last_value}
+use Rattle.sk_opts.specs.GivenValues.{given_value}
 use Rattle.sk_opts.specs.Matching.{setting_name, flag_match, value_match, match_of, more_by, matched_settings, matched_positionals, SameReading, words_with_settings}
 use Rattle.sk_opts.proofs.InRange.{same_setting}
 use Rattle.sk_opts.proofs.ClapRules.{built_as, built_option, built_rules, eq_turned, no_words, names_as, names_differ, same_name}
@@ -147,10 +150,10 @@ abbrev pub Texts : Type 0
 Texts = List (Setting × List ℕ)
 
 -- the value that an option has by its text
-abbrev pub value_by : Setting → List ℕ → Option ℕ
-value_by s v = cond (is_flag s) (Some 0) (value_in s v)
+abbrev pub value_by : Setting → List ℕ → Option GivenValue
+value_by s v = cond (is_flag s) (Some (Number 0)) (given_value s v)
 
-abbrev pub value_more : Setting → Option ℕ → Option (List Given) → Option (List Given)
+abbrev pub value_more : Setting → Option GivenValue → Option (List Given) → Option (List Given)
 value_more s n more = more_by s (value_match n) more
 
 abbrev pub valued : Texts → Option (List Given)
@@ -225,12 +228,12 @@ more_as : (s : Setting) (o m : Option Text) (more : Option (List Given)) → ((v
     → more_by s (match_of s (or_row o m)) more ≡ taken_more s o more
 more_as s None None more flag none is = refl
 more_as s None (Some w) more flag none is =
-    elim (is_flag s) as (λ b. is_flag s ≡ b → more_by s (cond b (flag_match (bytes_eq w (codes "true"))) (value_match (value_in s w))) more ≡ more) [
+    elim (is_flag s) as (λ b. is_flag s ≡ b → more_by s (cond b (flag_match (bytes_eq w (codes "true"))) (value_match (given_value s w))) more ≡ more) [
       | true ↦ λ e. ap (λ x. more_by s (flag_match (bytes_eq x (codes "true"))) more) is
       | false ↦ λ e. absurd (some_none (sym (none e)))
     ] refl
 more_as s (Some v) m more flag none is =
-    elim (is_flag s) as (λ b. is_flag s ≡ b → more_by s (cond b (flag_match (bytes_eq v (codes "true"))) (value_match (value_in s v))) more ≡ value_more s (cond b (Some 0) (value_in s v)) more) [
+    elim (is_flag s) as (λ b. is_flag s ≡ b → more_by s (cond b (flag_match (bytes_eq v (codes "true"))) (value_match (given_value s v))) more ≡ value_more s (cond b (Some (Number 0)) (given_value s v)) more) [
       | true ↦ λ e. ap (λ x. more_by s (flag_match (bytes_eq x (codes "true"))) more) (flag v refl e)
       | false ↦ λ e. refl
     ] refl
@@ -251,15 +254,15 @@ pub record IsBad (texts : Texts) : Type 0 where
   pub found : text_of setting texts ≡ Some text
   pub bad : value_by setting text ≡ None
 
-abbrev value_of : Setting → Texts → Option ℕ
+abbrev value_of : Setting → Texts → Option GivenValue
 value_of s texts = option_and_then (value_by s) (text_of s texts)
 
-last_is : (found : Option ℕ) (s : Setting) (gs : List Given) → last_from found s gs ≡ or_row (last_of s gs) found
+last_is : (found : Option GivenValue) (s : Setting) (gs : List Given) → last_from found s gs ≡ or_row (last_value s gs) found
 last_is found s [] = refl
 last_is found s (g ∷ gs) =
-    last_is (cond (is_of s g) (Some g.value) found) s gs ∙ both (last_of s gs) (is_of s g) ∙ ap (λ o. or_row o found) (sym (last_is (cond (is_of s g) (Some g.value) None) s gs))
+    last_is (cond (is_of s g) (Some g.value) found) s gs ∙ both (last_value s gs) (is_of s g) ∙ ap (λ o. or_row o found) (sym (last_is (cond (is_of s g) (Some g.value) None) s gs))
   where
-    both : (o : Option ℕ) (b : Bool) → or_row o (cond b (Some g.value) found) ≡ or_row (or_row o (cond b (Some g.value) None)) found
+    both : (o : Option GivenValue) (b : Bool) → or_row o (cond b (Some g.value) found) ≡ or_row (or_row o (cond b (Some g.value) None)) found
     both None true = refl
     both None false = refl
     both (Some n) b = refl
@@ -267,7 +270,7 @@ last_is found s (g ∷ gs) =
 -- the values of texts
 pub record IsValued (texts : Texts) (gs : List Given) : Type 0 where
   pub any : (s : Setting) → list_any (is_of s) gs ≡ is_some (text_of s texts)
-  pub last : (s : Setting) → last_of s gs ≡ option_and_then (value_by s) (text_of s texts)
+  pub last : (s : Setting) → last_value s gs ≡ option_and_then (value_by s) (text_of s texts)
   pub once : all_once gs ≡ true
   pub fits : (s : Setting) (v : List ℕ) → text_of s texts ≡ Some v → value_by s v ≡ None → ⊥
 
@@ -278,7 +281,7 @@ Valued texts (Some gs) = IsValued texts gs
 named : (t s : Setting) → bytes_eq (setting_name t) (setting_name s) ≡ true → t ≡ s
 named t s b = sym (same_setting s t (sym (names_as t s) ∙ b))
 
-valued_with : (g : Setting × List ℕ) (gs : Texts) (n : ℕ) (vs : List Given) → text_of g.0 gs ≡ None → value_by g.0 g.1 ≡ Some n → IsValued gs vs → IsValued (g ∷ gs) (record { setting = g.0; value = n } ∷ vs)
+valued_with : (g : Setting × List ℕ) (gs : Texts) (n : GivenValue) (vs : List Given) → text_of g.0 gs ≡ None → value_by g.0 g.1 ≡ Some n → IsValued gs vs → IsValued (g ∷ gs) (record { setting = g.0; value = n } ∷ vs)
 valued_with g gs n vs once is h = record {
   any = λ s.
       ap₂ (λ a b. a || b) (sym (names_as g.0 s)) (h.any s)
@@ -321,7 +324,7 @@ pub valued_is : (has : List Setting) (texts : Texts) → AllRead has texts → V
 valued_is has [] k = record { any = λ s. refl; last = λ s. refl; once = refl; fits = λ s v e bad. some_none e }
 valued_is has (g ∷ gs) k = step (value_by g.0 g.1) (valued gs) refl (valued_is has gs k.3)
   where
-    step : (n : Option ℕ) (o : Option (List Given)) → value_by g.0 g.1 ≡ n → Valued gs o → Valued (g ∷ gs) (value_more g.0 n o)
+    step : (n : Option GivenValue) (o : Option (List Given)) → value_by g.0 g.1 ≡ n → Valued gs o → Valued (g ∷ gs) (value_more g.0 n o)
     step None o e h = bad_here g gs e
     step (Some n) None e h = bad_later g gs k.2 h
     step (Some n) (Some vs) e h = valued_with g gs n vs k.2 e h
@@ -331,14 +334,14 @@ once_if has texts gs k e = subst (Valued texts) e (valued_is has texts k)
 
 -- the values by the matches
 record IsTaken (has : List Setting) (texts : Texts) (gs : List Given) : Type 0 where
-  last : (s : Setting) → last_of s gs ≡ cond (is_some (setting_among has (setting_bytes s))) (value_of s texts) None
+  last : (s : Setting) → last_value s gs ≡ cond (is_some (setting_among has (setting_bytes s))) (value_of s texts) None
   fits : (s : Setting) (v : List ℕ) → is_some (setting_among has (setting_bytes s)) ≡ true → text_of s texts ≡ Some v → value_by s v ≡ None → ⊥
 
 abbrev Taken : List Setting → Texts → Option (List Given) → Type 0
 Taken has texts None = IsBad texts
 Taken has texts (Some gs) = IsTaken has texts gs
 
-both_none : (b : Bool) → cond {A = Option ℕ} b None None ≡ None
+both_none : (b : Bool) → cond {A = Option GivenValue} b None None ≡ None
 both_none true = refl
 both_none false = refl
 
@@ -364,7 +367,7 @@ taken_without t ss texts gs none h = record {
     absent : (s : Setting) → bytes_eq (setting_bytes s) (setting_bytes t) ≡ true → value_of s texts ≡ None
     absent s b = ap (option_and_then (value_by s)) (ap (λ x. text_of x texts) (same_setting s t b) ∙ none)
 
-taken_with : (t : Setting) (ss : List Setting) (texts : Texts) (v : List ℕ) (n : ℕ) (gs : List Given) → text_of t texts ≡ Some v → value_by t v ≡ Some n → IsTaken ss texts gs
+taken_with : (t : Setting) (ss : List Setting) (texts : Texts) (v : List ℕ) (n : GivenValue) (gs : List Given) → text_of t texts ≡ Some v → value_by t v ≡ Some n → IsTaken ss texts gs
     → IsTaken (t ∷ ss) texts (record { setting = t; value = n } ∷ gs)
 taken_with t ss texts v n gs found is h = record {
   last = λ s.
@@ -401,7 +404,7 @@ taken_is (t ∷ ss) texts =
     without None e h = h
     without (Some gs) e h = taken_without t ss texts gs e h
 
-    with : (v : List ℕ) → text_of t texts ≡ Some v → (n : Option ℕ) (o : Option (List Given)) → value_by t v ≡ n → Taken ss texts o → Taken (t ∷ ss) texts (value_more t n o)
+    with : (v : List ℕ) → text_of t texts ≡ Some v → (n : Option GivenValue) (o : Option (List Given)) → value_by t v ≡ n → Taken ss texts o → Taken (t ∷ ss) texts (value_more t n o)
     with v e None o is h = record { setting = t; text = v; found = e; bad = is }
     with v e (Some n) None is h = h
     with v e (Some n) (Some gs) is h = taken_with t ss texts v n gs e is h

@@ -7,7 +7,7 @@ use Rattle.sk_opts.specs.Reader.{line_of}
 use Rattle.sk_opts.specs.BoundsOf.{bounds_of}
 use Rattle.sk_opts.specs.SpeltValues.{spells_value}
 use Rattle.sk_opts.proofs.LineLaws.{found_is_line, none_is_line}
-use Rattle.sk_opts.specs.Examples.{SynthAlone, SynthWithOptions, ExecBeforeOption, ExecOfNegative, SelfOfSeven, ValuePastRange, OptionTwice, OptionForValue, PositionalOfSynth, ValueMissing, BoundsOfPragmas, BoundsPassedOver, no_set, no_budget, with_int_bits, GridOfBits, TooFewScalars, NegativeInt}
+use Rattle.sk_opts.specs.Examples.{SynthAlone, SynthWithOptions, ExecBeforeOption, ExecOfNegative, SelfOfSeven, TraceWithHoles, TraceWithoutHoles, ValuePastRange, OptionTwice, OptionForValue, PositionalOfSynth, ValueMissing, HolesOfExec, NoNumberOfHoles, BoundsOfPragmas, BoundsPassedOver, no_set, no_budget, with_int_bits, GridOfBits, TooFewScalars, NegativeInt}
 
 pub synth_alone : SynthAlone
 unfolding line_of
@@ -29,6 +29,14 @@ pub self_of_seven : SelfOfSeven
 unfolding line_of is_digit number_of
 self_of_seven = found_is_line (codes "self" ∷ codes "7" ∷ []) (line.Itself 7) refl
 
+pub trace_with_holes : TraceWithHoles
+unfolding line_of is_digit number_of
+trace_with_holes = found_is_line (codes "trace" ∷ codes "f" ∷ codes "--holes" ∷ codes "3,9999999999,0" ∷ codes "4" ∷ []) (line.Trace no_set (codes "f") (codes "4" ∷ []) (Some (3 ∷ 9999999999 ∷ 0 ∷ []))) refl
+
+pub trace_without_holes : TraceWithoutHoles
+unfolding line_of
+trace_without_holes = found_is_line (codes "trace" ∷ codes "f" ∷ []) (line.Trace no_set (codes "f") [] None) refl
+
 pub value_past_range : ValuePastRange
 unfolding line_of is_digit number_of
 value_past_range = none_is_line (codes "synth" ∷ codes "--bnd-cbits" ∷ codes "17" ∷ []) refl
@@ -48,6 +56,14 @@ positional_of_synth = none_is_line (codes "synth" ∷ codes "x" ∷ []) refl
 pub value_missing : ValueMissing
 unfolding line_of
 value_missing = none_is_line (codes "check" ∷ codes "--int-bits" ∷ []) refl
+
+pub holes_of_exec : HolesOfExec
+unfolding line_of
+holes_of_exec = none_is_line (codes "exec" ∷ codes "f" ∷ codes "--holes" ∷ codes "1" ∷ []) refl
+
+pub no_number_of_holes : NoNumberOfHoles
+unfolding line_of is_digit number_of
+no_number_of_holes = none_is_line (codes "trace" ∷ codes "f" ∷ codes "--holes" ∷ codes "1,,2" ∷ []) refl
 
 pub bounds_of_pragmas : BoundsOfPragmas
 unfolding bounds_of is_blank is_digit number_of

@@ -3,17 +3,22 @@ use Rattle.std.proofs.Common.{◌≡◌, ℕ, Bool, true, false, cond, leb, ◌&
 use Rattle.std.specs.Str.{bytes_eq}
 use Rattle.std.proofs.lemmas.Bool.{leb-true}
 use Rattle.std.proofs.lemmas.Slice.Eq.{bytes_eq-Decides}
+use Rattle.std.specs.Option.{option_and_then}
 use Rattle.sk_tree.specs.Tokens.{number_of}
 use Rattle.sk_opts.specs.declared.line.Set.{Set}
 use Rattle.sk_opts.specs.declared.line.Line.{Line}
 use Rattle.sk_opts.specs.declared.line.Line.TheVariants as line
 use Rattle.sk_opts.specs.declared.setting.Setting.{Setting}
-use Rattle.sk_opts.specs.declared.setting.Setting.TheVariants.{HoleBits, InputBits, Turns, Calls, IntBits, Rounds, Conflicts, Certificate}
+use Rattle.sk_opts.specs.declared.setting.Setting.TheVariants.{HoleBits, InputBits, Turns, Calls, IntBits, Rounds, Conflicts, Certificate, Holes}
 use Rattle.sk_opts.specs.declared.setting.Given.{Given}
+use Rattle.sk_opts.specs.declared.setting.GivenValue.{GivenValue}
+use Rattle.sk_opts.specs.declared.setting.GivenValue.TheVariants.{Number, Numbers}
 use Rattle.sk_opts.specs.declared.words.Words.{Words}
-use Rattle.sk_opts.specs.Settings.{setting_bytes, lowest, highest, is_flag, of_bounds, of_synth, setting_among, is_number, number_in, value_in, all_once, is_of, last_from, last_of}
+use Rattle.sk_opts.specs.Settings.{setting_bytes, lowest, highest, is_flag, is_list, of_bounds, of_synth, of_trace, setting_among, is_number, number_in, value_in, all_once, is_of, last_from, number_given, last_of, last_list}
+use Rattle.sk_opts.specs.SpeltValues.{between_commas}
+use Rattle.sk_opts.specs.GivenValues.{long_numbers, given_value}
 use Rattle.sk_opts.specs.CommandLine.{set_of, budget_of}
-use Rattle.sk_opts.specs.Reader.{Piece, Ends, Names, Sets, Plain, Unknown, piece_of, with_setting, with_positional, words_with, words_from, if_once, words_of, if_none, synth_line, exec_with, exec_line, check_line, self_with, self_line, line_of}
+use Rattle.sk_opts.specs.Reader.{Piece, Ends, Names, Sets, Plain, Unknown, piece_of, with_setting, with_positional, words_with, words_from, if_once, words_of, if_none, synth_line, exec_with, exec_line, trace_with, trace_line, check_line, self_with, self_line, line_of}
 use Rattle.sk_opts.specs.Ranges.{IsBetween, LiesIn, IsInRanges, LineIsInRanges}
 
 -- Values
@@ -36,8 +41,39 @@ value_lies s w =
       | false ↦ between (lowest s) (highest s) (number_of w) (is_number w)
     ]
 
+-- the number of a value lies in the range of its option
+abbrev pub ValueLies : Setting → Option GivenValue → Type 0
+ValueLies s value = LiesIn s (option_and_then number_given value)
+
+given_lies : (s : Setting) (w : List ℕ) → ValueLies s (given_value s w)
+given_lies s w =
+    elim (is_list s) as (λ b. ValueLies s (cond b (option_map Numbers (long_numbers (between_commas w))) (option_map Number (value_in s w)))) [
+      | true ↦ no_number (long_numbers (between_commas w))
+      | false ↦ subst (LiesIn s) (sym (one_number (value_in s w))) (value_lies s w)
+    ]
+  where
+    no_number : (o : Option (List ℕ)) → ValueLies s (option_map Numbers o)
+    no_number None = tt
+    no_number (Some ns) = tt
+
+    one_number : (o : Option ℕ) → option_and_then number_given (option_map Number o) ≡ o
+    one_number None = refl
+    one_number (Some n) = refl
+
 not_flag : false ≡ true → ⊥
 not_flag e = cc
+
+-- a flag has no value
+pub flag_has_none : (s : Setting) (w : List ℕ) → is_flag s ≡ true → given_value s w ≡ None
+flag_has_none HoleBits w e = absurd (not_flag e)
+flag_has_none InputBits w e = absurd (not_flag e)
+flag_has_none Turns w e = absurd (not_flag e)
+flag_has_none Calls w e = absurd (not_flag e)
+flag_has_none IntBits w e = absurd (not_flag e)
+flag_has_none Rounds w e = absurd (not_flag e)
+flag_has_none Conflicts w e = absurd (not_flag e)
+flag_has_none Certificate w e = refl
+flag_has_none Holes w e = absurd (not_flag e)
 
 flag_lies : (s : Setting) → is_flag s ≡ true → LiesIn s (Some 0)
 flag_lies HoleBits e = absurd (not_flag e)
@@ -48,18 +84,19 @@ flag_lies IntBits e = absurd (not_flag e)
 flag_lies Rounds e = absurd (not_flag e)
 flag_lies Conflicts e = absurd (not_flag e)
 flag_lies Certificate e = (omega arith, omega arith)
+flag_lies Holes e = absurd (not_flag e)
 
 -- Words
 
 abbrev pub AllLie : List Given → Type 0
 AllLie [] = Unit {0}
-AllLie (g ∷ gs) = LiesIn g.setting (Some g.value) × AllLie gs
+AllLie (g ∷ gs) = ValueLies g.setting (Some g.value) × AllLie gs
 
 abbrev pub WordsLie : Option Words → Type 0
 WordsLie None = Unit {0}
 WordsLie (Some words) = AllLie words.settings
 
-setting_lies : (s : Setting) (n : Option ℕ) (more : Option Words) → LiesIn s n → WordsLie more → WordsLie (with_setting s n more)
+setting_lies : (s : Setting) (n : Option GivenValue) (more : Option Words) → ValueLies s n → WordsLie more → WordsLie (with_setting s n more)
 setting_lies s None more h k = tt
 setting_lies s (Some n) None h k = tt
 setting_lies s (Some n) (Some more) h k = (h, k)
@@ -71,11 +108,11 @@ positional_lies w (Some more) k = k
 piece_lies : (p : Piece) (w : List ℕ) (ws : List (List ℕ)) (read : Option Setting → Option Words) → ((waiting : Option Setting) → WordsLie (read waiting)) → WordsLie (words_with p w ws read)
 piece_lies Ends w ws read h = tt
 piece_lies (Names s) w ws read h =
-    elim (is_flag s) as (λ v. is_flag s ≡ v → WordsLie (cond v (with_setting s (Some 0) (read None)) (read (Some s)))) [
-      | true ↦ λ e. setting_lies s (Some 0) (read None) (flag_lies s e) (h None)
+    elim (is_flag s) as (λ v. is_flag s ≡ v → WordsLie (cond v (with_setting s (Some (Number 0)) (read None)) (read (Some s)))) [
+      | true ↦ λ e. setting_lies s (Some (Number 0)) (read None) (flag_lies s e) (h None)
       | false ↦ λ e. h (Some s)
     ] refl
-piece_lies (Sets s value) w ws read h = setting_lies s (value_in s value) (read None) (value_lies s value) (h None)
+piece_lies (Sets s value) w ws read h = setting_lies s (given_value s value) (read None) (given_lies s value) (h None)
 piece_lies Plain w ws read h = positional_lies w (read None) (h None)
 piece_lies Unknown w ws read h = tt
 
@@ -83,7 +120,7 @@ words_lie : (has : List Setting) (waiting : Option Setting) (ws : List (List ℕ
 words_lie has None [] = tt
 words_lie has (Some s) [] = tt
 words_lie has None (w ∷ ws) = piece_lies (piece_of has w) w ws (λ waiting. words_from has waiting ws) (λ waiting. words_lie has waiting ws)
-words_lie has (Some s) (w ∷ ws) = setting_lies s (value_in s w) (words_from has None ws) (value_lies s w) (words_lie has None ws)
+words_lie has (Some s) (w ∷ ws) = setting_lies s (given_value s w) (words_from has None ws) (given_lies s w) (words_lie has None ws)
 
 once_lie : (words : Option Words) → WordsLie words → WordsLie (if_once words)
 once_lie None k = tt
@@ -94,7 +131,10 @@ behind has ws = once_lie (words_from has None ws) (words_lie has None ws)
 
 -- Sets
 
-known : (s : Setting) → setting_among of_synth (setting_bytes s) ≡ Some s
+abbrev every : List Setting
+every = Holes ∷ of_synth
+
+known : (s : Setting) → setting_among every (setting_bytes s) ≡ Some s
 known HoleBits = refl
 known InputBits = refl
 known Turns = refl
@@ -103,20 +143,21 @@ known IntBits = refl
 known Rounds = refl
 known Conflicts = refl
 known Certificate = refl
+known Holes = refl
 
 pub same_setting : (s t : Setting) → bytes_eq (setting_bytes s) (setting_bytes t) ≡ true → s ≡ t
 same_setting s t e =
-    let f : Some s ≡ Some t = sym (known s) ∙ ap (setting_among of_synth) ((bytes_eq-Decides (setting_bytes s) (setting_bytes t)).0 e) ∙ known t in
+    let f : Some s ≡ Some t = sym (known s) ∙ ap (setting_among every) ((bytes_eq-Decides (setting_bytes s) (setting_bytes t)).0 e) ∙ known t in
     cc
 
-later_lies : (s : Setting) (g : Given) (found : Option ℕ) → LiesIn s found → LiesIn g.setting (Some g.value) → LiesIn s (cond (is_of s g) (Some g.value) found)
+later_lies : (s : Setting) (g : Given) (found : Option GivenValue) → ValueLies s found → ValueLies g.setting (Some g.value) → ValueLies s (cond (is_of s g) (Some g.value) found)
 later_lies s g found h k =
-    elim (is_of s g) as (λ v. is_of s g ≡ v → LiesIn s (cond v (Some g.value) found)) [
-      | true ↦ λ e. subst (λ t. LiesIn t (Some g.value)) (sym (same_setting s g.setting e)) k
+    elim (is_of s g) as (λ v. is_of s g ≡ v → ValueLies s (cond v (Some g.value) found)) [
+      | true ↦ λ e. subst (λ t. ValueLies t (Some g.value)) (sym (same_setting s g.setting e)) k
       | false ↦ λ e. h
     ] refl
 
-last_lies : (s : Setting) (found : Option ℕ) (gs : List Given) → LiesIn s found → AllLie gs → LiesIn s (last_from found s gs)
+last_lies : (s : Setting) (found : Option GivenValue) (gs : List Given) → ValueLies s found → AllLie gs → ValueLies s (last_from found s gs)
 last_lies s found [] h k = h
 last_lies s found (g ∷ gs) h k = last_lies s (cond (is_of s g) (Some g.value) found) gs (later_lies s g found h k.0) k.1
 
@@ -151,6 +192,14 @@ exec_lies : (words : Option Words) → WordsLie words → LineLies (exec_line wo
 exec_lies None k = tt
 exec_lies (Some w) k = exec_with_lies (set_of w.settings) w.positionals (set_lies w.settings k)
 
+trace_with_lies : (set : Set) (holes : Option (List ℕ)) (ps : List (List ℕ)) → IsInRanges set → LineLies (trace_with set holes ps)
+trace_with_lies set holes [] h = tt
+trace_with_lies set holes (name ∷ values) h = h
+
+trace_lies : (words : Option Words) → WordsLie words → LineLies (trace_line words)
+trace_lies None k = tt
+trace_lies (Some w) k = trace_with_lies (set_of w.settings) (last_list Holes w.settings) w.positionals (set_lies w.settings k)
+
 check_lies : (words : Option Words) → WordsLie words → LineLies (check_line words)
 check_lies None k = tt
 check_lies (Some w) k = alone_lies w.positionals (line.Check (set_of w.settings)) (set_lies w.settings k)
@@ -177,13 +226,15 @@ words_line_lies (w ∷ ws) =
     let help : Option Line = cond (is (codes "--help")) (if_none ws line.Help) version in
     let itself : Option Line = cond (is (codes "self")) (self_line (words_of [] ws)) help in
     let check : Option Line = cond (is (codes "check")) (check_line (words_of of_bounds ws)) itself in
-    let exec : Option Line = cond (is (codes "exec")) (exec_line (words_of of_bounds ws)) check in
+    let trace : Option Line = cond (is (codes "trace")) (trace_line (words_of of_trace ws)) check in
+    let exec : Option Line = cond (is (codes "exec")) (exec_line (words_of of_bounds ws)) trace in
     choice_lies (is (codes "synth")) (synth_line (words_of of_synth ws)) exec (synth_lies (words_of of_synth ws) (behind of_synth ws))
-    (choice_lies (is (codes "exec")) (exec_line (words_of of_bounds ws)) check (exec_lies (words_of of_bounds ws) (behind of_bounds ws))
+    (choice_lies (is (codes "exec")) (exec_line (words_of of_bounds ws)) trace (exec_lies (words_of of_bounds ws) (behind of_bounds ws))
+    (choice_lies (is (codes "trace")) (trace_line (words_of of_trace ws)) check (trace_lies (words_of of_trace ws) (behind of_trace ws))
     (choice_lies (is (codes "check")) (check_line (words_of of_bounds ws)) itself (check_lies (words_of of_bounds ws) (behind of_bounds ws))
     (choice_lies (is (codes "self")) (self_line (words_of [] ws)) help (self_lies (words_of [] ws))
     (choice_lies (is (codes "--help")) (if_none ws line.Help) version (alone_lies ws line.Help tt)
-    (choice_lies (is (codes "--version")) (if_none ws line.Version) None (alone_lies ws line.Version tt) tt)))))
+    (choice_lies (is (codes "--version")) (if_none ws line.Version) None (alone_lies ws line.Version tt) tt))))))
 
 pub line_in_ranges : (words : List (List ℕ)) (l : Line) → line_of words ≡ Some l → LineIsInRanges l
 line_in_ranges words l e = subst LineLies e (words_line_lies words)

@@ -1,5 +1,7 @@
 mod Computed
 pub mod Numbers
+pub mod Lists
+pub mod LastValues
 pub mod PragmaWords
 pub mod InRange
 pub mod LineLaws

@@ -10,12 +10,15 @@ use Rattle.std.proofs.lemmas.List.Elements.{All-nil, All-cons, All-tail}
 use Rattle.sk_opts.specs.declared.line.Line.{Line}
 use Rattle.sk_opts.specs.declared.line.Line.TheVariants as line
 use Rattle.sk_opts.specs.declared.setting.Setting.{Setting}
-use Rattle.sk_opts.specs.declared.setting.Setting.TheVariants.{HoleBits, InputBits, Turns, Calls, IntBits, Rounds, Conflicts, Certificate}
+use Rattle.sk_opts.specs.declared.setting.Setting.TheVariants.{HoleBits, InputBits, Turns, Calls, IntBits, Rounds, Conflicts, Certificate, Holes}
+use Rattle.sk_opts.specs.declared.setting.GivenValue.{GivenValue}
+use Rattle.sk_opts.specs.declared.setting.GivenValue.TheVariants.{Number}
 use Rattle.sk_opts.specs.declared.words.Words.{Words}
-use Rattle.sk_opts.specs.Settings.{setting_bytes, lowest, highest, is_flag, of_bounds, of_synth, setting_among, number_in, value_in, all_once, last_of}
+use Rattle.sk_opts.specs.Settings.{setting_bytes, is_flag, of_bounds, of_synth, of_trace, setting_among, number_in, all_once, last_of, last_list}
+use Rattle.sk_opts.specs.GivenValues.{given_value}
 use Rattle.sk_opts.specs.CommandLine.{Part, Apart, Joined, Flag, Positional, part_words, is_option, IsPart, part_settings, part_positionals, end_words, Divides, HasWords, set_of, budget_of, IsLine}
-use Rattle.sk_opts.specs.Reader.{Piece, Ends, Names, Sets, Plain, Unknown, before_equals, after_equals, option_piece, piece_of, with_setting, with_positional, words_with, words_from, if_once, words_of, if_none, synth_line, exec_with, exec_line, check_line, self_with, self_line, line_of}
-use Rattle.sk_opts.proofs.InRange.{same_setting}
+use Rattle.sk_opts.specs.Reader.{Piece, Ends, Names, Sets, Plain, Unknown, before_equals, after_equals, option_piece, piece_of, with_setting, with_positional, words_with, words_from, if_once, words_of, if_none, synth_line, exec_with, exec_line, trace_with, trace_line, check_line, self_with, self_line, line_of}
+use Rattle.sk_opts.proofs.InRange.{same_setting, flag_has_none}
 
 some_none : {X : Type 0} {x : X} → None ≡ Some x → ⊥
 some_none e = cc
@@ -69,6 +72,7 @@ named_piece has IntBits at = ap (λ o. option_piece o None) (among_found has Int
 named_piece has Rounds at = ap (λ o. option_piece o None) (among_found has Rounds at)
 named_piece has Conflicts at = ap (λ o. option_piece o None) (among_found has Conflicts at)
 named_piece has Certificate at = ap (λ o. option_piece o None) (among_found has Certificate at)
+named_piece has Holes at = ap (λ o. option_piece o None) (among_found has Holes at)
 
 joined_piece : (has : List Setting) (s : Setting) (v : List ℕ) → Contains has s → piece_of has (setting_bytes s ++ codes "=" ++ v) ≡ Sets s v
 joined_piece has HoleBits v at = ap (λ o. option_piece o (Some v)) (among_found has HoleBits at)
@@ -79,6 +83,7 @@ joined_piece has IntBits v at = ap (λ o. option_piece o (Some v)) (among_found 
 joined_piece has Rounds v at = ap (λ o. option_piece o (Some v)) (among_found has Rounds at)
 joined_piece has Conflicts v at = ap (λ o. option_piece o (Some v)) (among_found has Conflicts at)
 joined_piece has Certificate v at = ap (λ o. option_piece o (Some v)) (among_found has Certificate at)
+joined_piece has Holes v at = ap (λ o. option_piece o (Some v)) (among_found has Holes at)
 
 -- a word that is no option is a positional
 not_ends : (w : List ℕ) → is_option w ≡ false → bytes_eq w (codes "--") ≡ false
@@ -139,14 +144,17 @@ given_by parts end = record { settings = flat_map part_settings parts; positiona
 abbrev pub all_words : List Part → Option (List (List ℕ)) → List (List ℕ)
 all_words parts end = flat_map part_words parts ++ end_words end
 
-value_no_flag : (s : Setting) (v : List ℕ) (n : ℕ) → value_in s v ≡ Some n → is_flag s ≡ false
+value_no_flag : (s : Setting) (v : List ℕ) (n : GivenValue) → given_value s v ≡ Some n → is_flag s ≡ false
 value_no_flag s v n e =
-    elim (is_flag s) as (λ f. cond f None (number_in (lowest s) (highest s) v) ≡ Some n → f ≡ false) [ true ↦ λ g. absurd (some_none g) | false ↦ λ g. refl ] e
+    elim (is_flag s) as (λ f. is_flag s ≡ f → f ≡ false) [
+      | true ↦ λ f. absurd (some_none (sym (flag_has_none s v f) ∙ e))
+      | false ↦ λ f. refl
+    ] refl
 
 first_part : (has : List Setting) (p : Part) (ps : List Part) (end : Option (List (List ℕ))) → IsPart has p → words_from has None (all_words ps end) ≡ Some (given_by ps end) → words_from has None (all_words (p ∷ ps) end) ≡ Some (given_by (p ∷ ps) end)
 first_part has (Apart g v) ps end is rest =
     ap (λ q. words_with q (setting_bytes g.setting) (v ∷ all_words ps end) (λ waiting. words_from has waiting (v ∷ all_words ps end))) (named_piece has g.setting is.0)
-    ∙ ap (λ b. cond b (with_setting g.setting (Some 0) (words_from has None (v ∷ all_words ps end))) (words_from has (Some g.setting) (v ∷ all_words ps end))) (value_no_flag g.setting v g.value is.1)
+    ∙ ap (λ b. cond b (with_setting g.setting (Some (Number 0)) (words_from has None (v ∷ all_words ps end))) (words_from has (Some g.setting) (v ∷ all_words ps end))) (value_no_flag g.setting v g.value is.1)
     ∙ ap (λ n. with_setting g.setting n (words_from has None (all_words ps end))) is.1
     ∙ ap (with_setting g.setting (Some g.value)) rest
 first_part has (Joined g v) ps end is rest =
@@ -155,8 +163,8 @@ first_part has (Joined g v) ps end is rest =
     ∙ ap (with_setting g.setting (Some g.value)) rest
 first_part has (Flag s) ps end is rest =
     ap (λ q. words_with q (setting_bytes s) (all_words ps end) (λ waiting. words_from has waiting (all_words ps end))) (named_piece has s is.0)
-    ∙ ap (λ b. cond b (with_setting s (Some 0) (words_from has None (all_words ps end))) (words_from has (Some s) (all_words ps end))) is.1
-    ∙ ap (with_setting s (Some 0)) rest
+    ∙ ap (λ b. cond b (with_setting s (Some (Number 0)) (words_from has None (all_words ps end))) (words_from has (Some s) (all_words ps end))) is.1
+    ∙ ap (with_setting s (Some (Number 0))) rest
 first_part has (Positional w) ps end is rest =
     ap (λ q. words_with q w (all_words ps end) (λ waiting. words_from has waiting (all_words ps end))) (plain_piece has w is)
     ∙ ap (with_positional w) rest
@@ -185,14 +193,14 @@ one_part has p words w is d = record {
   positionals = ap (λ l. part_positionals p ++ l) d.positionals ∙ sym (append_assoc (part_positionals p) (flat_map part_positionals d.parts) (unwrap_or d.end []));
 }
 
-record HadSetting (s : Setting) (n : Option ℕ) (more : Option Words) (w : Words) : Type 0 where
-  value : ℕ
+record HadSetting (s : Setting) (n : Option GivenValue) (more : Option Words) (w : Words) : Type 0 where
+  value : GivenValue
   rest : Words
   number : n ≡ Some value
   others : more ≡ Some rest
   whole : w ≡ record { settings = record { setting = s; value = value } ∷ rest.settings; positionals = rest.positionals }
 
-had_setting : (s : Setting) (n : Option ℕ) (more : Option Words) (w : Words) → with_setting s n more ≡ Some w → HadSetting s n more w
+had_setting : (s : Setting) (n : Option GivenValue) (more : Option Words) (w : Words) → with_setting s n more ≡ Some w → HadSetting s n more w
 had_setting s None more w e = absurd (some_none e)
 had_setting s (Some n) None w e = absurd (some_none e)
 had_setting s (Some n) (Some rest) w e = record { value = n; rest = rest; number = refl; others = refl; whole = sym (some_same e) }
@@ -223,17 +231,17 @@ by_piece has word ws read Ends is w e =
     let whole : record { settings = []; positionals = ws } ≡ w = some_same e in
     subst (Divides has (word ∷ ws)) whole (record { parts = []; end = Some ws; each = All-nil (IsPart has); spelt = ap (λ x. x ∷ ws) is; settings = refl; positionals = refl })
 by_piece has word ws read (Names s) is w e =
-    elim (is_flag s) as (λ v. is_flag s ≡ v → cond v (with_setting s (Some 0) (words_from has None ws)) (words_from has (Some s) ws) ≡ Some w → Divides has (word ∷ ws) w) [
+    elim (is_flag s) as (λ v. is_flag s ≡ v → cond v (with_setting s (Some (Number 0)) (words_from has None ws)) (words_from has (Some s) ws) ≡ Some w → Divides has (word ∷ ws) w) [
       | true ↦ λ flag f. (
-          let had = had_setting s (Some 0) (words_from has None ws) w f in
-          let zero_is : 0 ≡ had.value = some_same had.number in
+          let had = had_setting s (Some (Number 0)) (words_from has None ws) w f in
+          let zero_is : Number 0 ≡ had.value = some_same had.number in
           let d = one_part has (Flag s) ws had.rest (is.0, flag) (read None tt had.rest had.others) in
           subst (λ x. Divides has (x ∷ ws) w) (sym is.1) (subst (Divides has (setting_bytes s ∷ ws)) (sym (had.whole ∙ ap (λ n. let x : Words = record { settings = record { setting = s; value = n } ∷ had.rest.settings; positionals = had.rest.positionals } in x) (sym zero_is))) d)
           )
       | false ↦ λ flag f. subst (λ x. Divides has (x ∷ ws) w) (sym is.1) (read (Some s) is.0 w f)
     ] refl e
 by_piece has word ws read (Sets s v) is w e =
-    let had = had_setting s (value_in s v) (words_from has None ws) w e in
+    let had = had_setting s (given_value s v) (words_from has None ws) w e in
     let d = one_part has (Joined (record { setting = s; value = had.value }) v) ws had.rest (is.0, had.number) (read None tt had.rest had.others) in
     subst (λ x. Divides has (x ∷ ws) w) (sym is.1) (subst (Divides has ((setting_bytes s ++ codes "=" ++ v) ∷ ws)) (sym had.whole) d)
 by_piece has word ws read Plain is w e =
@@ -248,7 +256,7 @@ read_is_divided has [] None may w e =
 read_is_divided has [] (Some s) may w e = absurd (some_none e)
 read_is_divided has (word ∷ ws) None may w e = by_piece has word ws (read_is_divided has ws) (piece_of has word) (word_is has word) w e
 read_is_divided has (word ∷ ws) (Some s) may w e =
-    let had = had_setting s (value_in s word) (words_from has None ws) w e in
+    let had = had_setting s (given_value s word) (words_from has None ws) w e in
     subst (Divides has (setting_bytes s ∷ word ∷ ws)) (sym had.whole)
     (one_part has (Apart (record { setting = s; value = had.value }) word) ws had.rest (may, had.number) (read_is_divided has ws None tt had.rest had.others))
 
@@ -299,6 +307,14 @@ exec_spelt ws (Some w) e =
       | p ∷ ps ↦ λ f. (w, has_words (codes "exec") of_bounds ws w e, f, refl)
     ] refl
 
+trace_spelt : (ws : List (List ℕ)) (o : Option Words) → words_of of_trace ws ≡ o → MaySpell (codes "trace" ∷ ws) (trace_line o)
+trace_spelt ws None e = tt
+trace_spelt ws (Some w) e =
+    elim w.positionals as (λ ps. w.positionals ≡ ps → MaySpell (codes "trace" ∷ ws) (trace_with (set_of w.settings) (last_list Holes w.settings) ps)) [
+      | [] ↦ λ f. tt
+      | p ∷ ps ↦ λ f. (w, has_words (codes "trace") of_trace ws w e, f, refl, refl)
+    ] refl
+
 check_spelt : (ws : List (List ℕ)) (o : Option Words) → words_of of_bounds ws ≡ o → MaySpell (codes "check" ∷ ws) (check_line o)
 check_spelt ws None e = tt
 check_spelt ws (Some w) e =
@@ -340,13 +356,15 @@ words_spell (w ∷ ws) =
     let help : Option Line = cond (is (codes "--help")) (if_none ws line.Help) version in
     let itself : Option Line = cond (is (codes "self")) (self_line (words_of [] ws)) help in
     let check : Option Line = cond (is (codes "check")) (check_line (words_of of_bounds ws)) itself in
-    let exec : Option Line = cond (is (codes "exec")) (exec_line (words_of of_bounds ws)) check in
+    let trace : Option Line = cond (is (codes "trace")) (trace_line (words_of of_trace ws)) check in
+    let exec : Option Line = cond (is (codes "exec")) (exec_line (words_of of_bounds ws)) trace in
     choice_spelt w (codes "synth") ws (synth_line (words_of of_synth ws)) exec (synth_spelt ws (words_of of_synth ws) refl)
-    (choice_spelt w (codes "exec") ws (exec_line (words_of of_bounds ws)) check (exec_spelt ws (words_of of_bounds ws) refl)
+    (choice_spelt w (codes "exec") ws (exec_line (words_of of_bounds ws)) trace (exec_spelt ws (words_of of_bounds ws) refl)
+    (choice_spelt w (codes "trace") ws (trace_line (words_of of_trace ws)) check (trace_spelt ws (words_of of_trace ws) refl)
     (choice_spelt w (codes "check") ws (check_line (words_of of_bounds ws)) itself (check_spelt ws (words_of of_bounds ws) refl)
     (choice_spelt w (codes "self") ws (self_line (words_of [] ws)) help (self_spelt ws (words_of [] ws) refl)
     (choice_spelt w (codes "--help") ws (if_none ws line.Help) version (alone_spelt (codes "--help") ws line.Help (λ e. e))
-    (choice_spelt w (codes "--version") ws (if_none ws line.Version) None (alone_spelt (codes "--version") ws line.Version (λ e. e)) tt)))))
+    (choice_spelt w (codes "--version") ws (if_none ws line.Version) None (alone_spelt (codes "--version") ws line.Version (λ e. e)) tt))))))
 
 pub found_is_line : (words : List (List ℕ)) (l : Line) → line_of words ≡ Some l → IsLine words l
 found_is_line words l e = subst (MaySpell words) e (words_spell words)
@@ -361,6 +379,8 @@ line_is_found words (line.Synth set budget cert) (w, has, none, sets, budgets, c
     ∙ rw (sets, budgets, certs) refl
 line_is_found words (line.Exec set name values) (w, has, some, sets) =
     ap line_of has.first ∙ ap exec_line (words_whole (codes "exec") of_bounds words w has) ∙ ap (exec_with (set_of w.settings)) some ∙ rw sets refl
+line_is_found words (line.Trace set name values holes) (w, has, some, sets, lists) =
+    ap line_of has.first ∙ ap trace_line (words_whole (codes "trace") of_trace words w has) ∙ ap (trace_with (set_of w.settings) (last_list Holes w.settings)) some ∙ rw (sets, lists) refl
 line_is_found words (line.Check set) (w, has, none, sets) =
     ap line_of has.first ∙ ap check_line (words_whole (codes "check") of_bounds words w has) ∙ ap (λ ps. if_none ps (line.Check (set_of w.settings))) none ∙ rw sets refl
 line_is_found words (line.Itself n) (w, has, (digits, one, number)) =

@@ -9,12 +9,15 @@ use Rattle.sk_tree.specs.Shapes.{is_blank, is_digit}
 use Rattle.sk_tree.specs.Tokens.{number_of}
 use Rattle.sk_opts.specs.declared.line.Set.{Set}
 use Rattle.sk_opts.specs.declared.setting.Setting.{Setting}
-use Rattle.sk_opts.specs.declared.setting.Setting.TheVariants.{HoleBits, InputBits, Turns, Calls, IntBits, Rounds, Conflicts, Certificate}
+use Rattle.sk_opts.specs.declared.setting.Setting.TheVariants.{HoleBits, InputBits, Turns, Calls, IntBits, Rounds, Conflicts, Certificate, Holes}
 use Rattle.sk_opts.specs.declared.setting.Given.{Given}
-use Rattle.sk_opts.specs.Settings.{lowest, highest, is_flag, of_pragmas, setting_among, is_number, number_in, value_in, last_from}
+use Rattle.sk_opts.specs.declared.setting.GivenValue.{GivenValue}
+use Rattle.sk_opts.specs.declared.setting.GivenValue.TheVariants.{Number}
+use Rattle.sk_opts.specs.Settings.{lowest, highest, is_flag, of_pragmas, setting_among, is_number, number_in, value_in, number_given}
 use Rattle.sk_opts.specs.BoundsOf.{between_blanks, if_any, blank_words, longer_first, given_if, set_by_word, words_settings, item_settings}
-use Rattle.sk_opts.specs.Steps.{settings_from, given_here, is_unblank, set_by, set_after}
+use Rattle.sk_opts.specs.Steps.{settings_from, given_here, is_unblank, set_by, set_after, number_from}
 use Rattle.sk_opts.specs.CommandLine.{set_of}
+use Rattle.sk_opts.proofs.LastValues.{last_number}
 
 -- Words that set something with the word behind them are those that are read one after the other.
 
@@ -61,7 +64,7 @@ one_word None w ws rest = rest
 one_word (Some s) w ws rest =
     elim (value_in s w) as (λ o. value_in s w ≡ o → given_here s o (settings_from (setting_among of_pragmas w) ws) (settings_from None ws) ≡ given_if s o ++ by_pairs w ws) [
       | None ↦ λ e. rest
-      | Some n ↦ λ e. ap (λ gs. record { setting = s; value = n } ∷ gs) (ap (λ b. settings_from b ws) (sym (value_alone s w n e)) ∙ rest)
+      | Some n ↦ λ e. ap (λ gs. record { setting = s; value = Number n } ∷ gs) (ap (λ b. settings_from b ws) (sym (value_alone s w n e)) ∙ rest)
     ] refl
 
 read_pairs : (w : List ℕ) (ws : List (List ℕ)) → settings_from (setting_among of_pragmas w) ws ≡ by_pairs w ws
@@ -74,9 +77,9 @@ read_settings (w ∷ ws) = read_pairs w ws
 
 -- what all settings come to, from a set on
 abbrev pub set_with : Set → List Given → Set
-set_with set gs = record { cbits = last_from set.cbits HoleBits gs; inbits = last_from set.inbits InputBits gs; unroll = last_from set.unroll Turns gs; inline_amnt = last_from set.inline_amnt Calls gs; int_bits = last_from set.int_bits IntBits gs }
+set_with set gs = record { cbits = number_from set.cbits HoleBits gs; inbits = number_from set.inbits InputBits gs; unroll = number_from set.unroll Turns gs; inline_amnt = number_from set.inline_amnt Calls gs; int_bits = number_from set.int_bits IntBits gs }
 
-one_more : (set : Set) (s : Setting) (n : ℕ) (gs : List Given) → set_with (set_by set s n) gs ≡ set_with set (record { setting = s; value = n } ∷ gs)
+one_more : (set : Set) (s : Setting) (v : GivenValue) (gs : List Given) → set_with (set_by set s (number_given v)) gs ≡ set_with set (record { setting = s; value = v } ∷ gs)
 one_more set HoleBits n gs = refl
 one_more set InputBits n gs = refl
 one_more set Turns n gs = refl
@@ -85,17 +88,18 @@ one_more set IntBits n gs = refl
 one_more set Rounds n gs = refl
 one_more set Conflicts n gs = refl
 one_more set Certificate n gs = refl
+one_more set Holes n gs = refl
 
 pub set_after_is : (set : Set) (gs : List Given) → set_after set gs ≡ set_with set gs
 unfolding set_after
 set_after_is set [] = refl
-set_after_is set (g ∷ gs) = set_after_is (set_by set g.setting g.value) gs ∙ one_more set g.setting g.value gs
+set_after_is set (g ∷ gs) = set_after_is (set_by set g.setting (number_given g.value)) gs ∙ one_more set g.setting g.value gs
 
 -- the settings of one more list
 pub after_both : (set : Set) (gs hs : List Given) → set_after set (gs ++ hs) ≡ set_after (set_after set gs) hs
 unfolding set_after
 after_both set [] hs = refl
-after_both set (g ∷ gs) hs = after_both (set_by set g.setting g.value) gs hs
+after_both set (g ∷ gs) hs = after_both (set_by set g.setting (number_given g.value)) gs hs
 
 -- a word at which no number is awaited, and one that is no number in range
 pub word_alone : (set : Set) (w : List ℕ) (before next : Option Setting) → before ≡ None → next ≡ setting_among of_pragmas w → (more : List (List ℕ)) → set_after set (settings_from before (w ∷ more)) ≡ set_after set (settings_from next more)
@@ -108,7 +112,7 @@ word_other set w before next s e n f more =
     ∙ ap (λ v. set_after set (given_here s v (settings_from (setting_among of_pragmas w) more) (settings_from None more))) (sym n)
     ∙ ap (λ b. set_after set (settings_from b more)) (sym f)
 
-pub word_number : (set new : Set) (w : List ℕ) (before : Option Setting) (s : Setting) (n : ℕ) → before ≡ Some s → Some n ≡ value_in s w → new ≡ set_by set s n → (more : List (List ℕ)) → set_after set (settings_from before (w ∷ more)) ≡ set_after new (settings_from None more)
+pub word_number : (set new : Set) (w : List ℕ) (before : Option Setting) (s : Setting) (n : ℕ) → before ≡ Some s → Some n ≡ value_in s w → new ≡ set_by set s (Some n) → (more : List (List ℕ)) → set_after set (settings_from before (w ∷ more)) ≡ set_after new (settings_from None more)
 unfolding set_after
 word_number set new w before s n e v f more =
     ap (λ b. set_after set (settings_from b (w ∷ more))) e
@@ -157,7 +161,16 @@ abbrev pub no_set : Set
 no_set = record { cbits = None; inbits = None; unroll = None; inline_amnt = None; int_bits = None }
 
 pub set_of_all : (gs : List Given) (set : Set) → set ≡ set_after no_set gs → set ≡ set_of gs
-set_of_all gs set e = e ∙ set_after_is no_set gs
+set_of_all gs set e = e ∙ set_after_is no_set gs ∙ numbers_are
+  where
+    numbers_are : set_with no_set gs ≡ set_of gs
+    numbers_are = λ i. record {
+      cbits = sym (last_number HoleBits gs) i;
+      inbits = sym (last_number InputBits gs) i;
+      unroll = sym (last_number Turns gs) i;
+      inline_amnt = sym (last_number Calls gs) i;
+      int_bits = sym (last_number IntBits gs) i;
+    }
 
 -- the items of a text, one after the other
 pub more_items : (set new : Set) (items : List Item) (i : ℕ) (it : Item) → i < length items → it ≡ get_or items i it → new ≡ set_after set (item_settings it) → set_after set (flat_map item_settings (drop i items)) ≡ set_after new (flat_map item_settings (drop (i + 1) items))

@@ -13,6 +13,7 @@ use Rattle.sk_opts.specs.Settings.{of_pragmas, setting_among, value_in, last_of}
 use Rattle.sk_opts.specs.declared.setting.Setting.{Setting}
 use Rattle.sk_opts.specs.declared.setting.Setting.TheVariants.{HoleBits, InputBits, Turns, Calls}
 use Rattle.sk_opts.specs.declared.setting.Given.{Given}
+use Rattle.sk_opts.specs.declared.setting.GivenValue.TheVariants.{Number}
 
 -- Words of a pragma
 
@@ -41,7 +42,7 @@ neighbours words = zip words (drop 1 words)
 
 abbrev pub given_if : Setting → Option ℕ → List Given
 given_if s None = []
-given_if s (Some n) = record { setting = s; value = n } ∷ []
+given_if s (Some n) = record { setting = s; value = Number n } ∷ []
 
 -- what a word sets with the one behind it: one of the four, with a number in its range
 abbrev pub set_by_word : Option Setting → List ℕ → List Given

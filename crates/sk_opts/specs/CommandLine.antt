@@ -7,10 +7,12 @@ use Rattle.sk_base.specs.declared.bounds.Budget.{Budget}
 use Rattle.sk_opts.specs.declared.line.Set.{Set}
 use Rattle.sk_opts.specs.declared.line.Line.{Line}
 use Rattle.sk_opts.specs.declared.line.Line.TheVariants as line
-use Rattle.sk_opts.specs.Settings.{setting_bytes, is_flag, of_bounds, of_synth, number_in, value_in, all_once, last_of}
+use Rattle.sk_opts.specs.Settings.{setting_bytes, is_flag, of_bounds, of_synth, of_trace, number_in, all_once, last_of, last_list}
+use Rattle.sk_opts.specs.GivenValues.{given_value}
 use Rattle.sk_opts.specs.declared.setting.Setting.{Setting}
-use Rattle.sk_opts.specs.declared.setting.Setting.TheVariants.{Certificate, HoleBits, InputBits, Turns, Calls, IntBits, Rounds, Conflicts}
+use Rattle.sk_opts.specs.declared.setting.Setting.TheVariants.{Certificate, HoleBits, InputBits, Turns, Calls, IntBits, Rounds, Conflicts, Holes}
 use Rattle.sk_opts.specs.declared.setting.Given.{Given}
+use Rattle.sk_opts.specs.declared.setting.GivenValue.TheVariants.{Number}
 use Rattle.sk_opts.specs.declared.words.Words.{Words}
 
 -- Parts of a line
@@ -39,10 +41,10 @@ is_option (b ∷ []) = false
 is_option (b ∷ c ∷ bs) = b == 45
 
 -- whether it is a part behind a command that has these options: what spells a value is a number in the range of
--- its option
+-- its option, or for `--holes` numbers with commas between them
 abbrev pub IsPart : List Setting → Part → Type 0
-IsPart has (Apart g v) = Contains has g.setting × (value_in g.setting v ≡ Some g.value)
-IsPart has (Joined g v) = Contains has g.setting × (value_in g.setting v ≡ Some g.value)
+IsPart has (Apart g v) = Contains has g.setting × (given_value g.setting v ≡ Some g.value)
+IsPart has (Joined g v) = Contains has g.setting × (given_value g.setting v ≡ Some g.value)
 IsPart has (Flag s) = Contains has s × (is_flag s ≡ true)
 IsPart has (Positional w) = is_option w ≡ false
 
@@ -50,7 +52,7 @@ IsPart has (Positional w) = is_option w ≡ false
 abbrev pub part_settings : Part → List Given
 part_settings (Apart g v) = g ∷ []
 part_settings (Joined g v) = g ∷ []
-part_settings (Flag s) = record { setting = s; value = 0 } ∷ []
+part_settings (Flag s) = record { setting = s; value = Number 0 } ∷ []
 part_settings (Positional w) = []
 
 abbrev pub part_positionals : Part → List (List ℕ)
@@ -98,6 +100,9 @@ IsLine words (line.Synth set budget cert) =
     × (cert ≡ is_some (last_of Certificate w.settings))
 -- a name and values
 IsLine words (line.Exec set name values) = (w : Words) × HasWords (codes "exec") of_bounds words w × (w.positionals ≡ name ∷ values) × (set ≡ set_of w.settings)
+-- a name and values, and perhaps numbers for holes
+IsLine words (line.Trace set name values holes) =
+    (w : Words) × HasWords (codes "trace") of_trace words w × (w.positionals ≡ name ∷ values) × (set ≡ set_of w.settings) × (holes ≡ last_list Holes w.settings)
 IsLine words (line.Check set) = (w : Words) × HasWords (codes "check") of_bounds words w × (w.positionals ≡ []) × (set ≡ set_of w.settings)
 -- one number from 0 to 60
 IsLine words (line.Itself n) = (w : Words) × HasWords (codes "self") [] words w × ((digits : List ℕ) × (w.positionals ≡ digits ∷ []) × (number_in 0 60 digits ≡ Some n))

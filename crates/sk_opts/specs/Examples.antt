@@ -51,6 +51,15 @@ ExecOfNegative = Taken (codes "exec" ∷ codes "f" ∷ codes "--" ∷ codes "-1"
 abbrev pub SelfOfSeven : Type 0
 SelfOfSeven = Taken (codes "self" ∷ codes "7" ∷ []) (line.Itself 7)
 
+-- Numbers for holes are numbers of 1 to 10 digits.
+abbrev pub TraceWithHoles : Type 0
+TraceWithHoles =
+    Taken (codes "trace" ∷ codes "f" ∷ codes "--holes" ∷ codes "3,9999999999,0" ∷ codes "4" ∷ [])
+    (line.Trace no_set (codes "f") (codes "4" ∷ []) (Some (3 ∷ 9999999999 ∷ 0 ∷ [])))
+
+abbrev pub TraceWithoutHoles : Type 0
+TraceWithoutHoles = Taken (codes "trace" ∷ codes "f" ∷ []) (line.Trace no_set (codes "f") [] None)
+
 -- Lines that are refused
 
 abbrev pub ValuePastRange : Type 0
@@ -67,6 +76,12 @@ PositionalOfSynth = Refused (codes "synth" ∷ codes "x" ∷ [])
 
 abbrev pub ValueMissing : Type 0
 ValueMissing = Refused (codes "check" ∷ codes "--int-bits" ∷ [])
+
+abbrev pub HolesOfExec : Type 0
+HolesOfExec = Refused (codes "exec" ∷ codes "f" ∷ codes "--holes" ∷ codes "1" ∷ [])
+
+abbrev pub NoNumberOfHoles : Type 0
+NoNumberOfHoles = Refused (codes "trace" ∷ codes "f" ∷ codes "--holes" ∷ codes "1,,2" ∷ [])
 
 -- Bounds
 

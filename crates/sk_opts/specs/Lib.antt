@@ -4,6 +4,7 @@ pub mod CommandLine
 pub mod Reader
 pub mod BoundsOf
 pub mod SpeltValues
+pub mod GivenValues
 pub mod Told
 pub mod Steps
 pub mod Laws

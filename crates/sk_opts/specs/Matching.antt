@@ -8,10 +8,13 @@ use Rattle.clap.specs.declared.builder.action.ArgAction.{ArgAction}
 use Rattle.clap.specs.declared.builder.action.ArgAction.TheVariants.{Append, Set as Single, SetTrue}
 use Rattle.sk_opts.specs.declared.setting.Setting.{Setting}
 use Rattle.sk_opts.specs.declared.setting.Given.{Given}
+use Rattle.sk_opts.specs.declared.setting.GivenValue.{GivenValue}
+use Rattle.sk_opts.specs.declared.setting.GivenValue.TheVariants.{Number}
 use Rattle.sk_opts.specs.declared.words.Words.{Words}
 use Rattle.sk_opts.specs.declared.matching.Matched.{Matched}
 use Rattle.sk_opts.specs.declared.matching.Matched.TheVariants.{Absent, Value, NoValue}
-use Rattle.sk_opts.specs.Settings.{setting_bytes, is_flag, of_bounds, of_synth, value_in, last_of}
+use Rattle.sk_opts.specs.Settings.{setting_bytes, is_flag, of_bounds, of_synth, of_trace, last_value}
+use Rattle.sk_opts.specs.GivenValues.{given_value}
 
 -- Commands
 
@@ -52,22 +55,22 @@ has_short_word (w ∷ ws) = if bytes_eq w (codes "--") then false else (is_short
 -- Matches
 
 abbrev pub flag_match : Bool → Matched
-flag_match true = Value 0
+flag_match true = Value (Number 0)
 flag_match false = Absent
 
-abbrev pub value_match : Option ℕ → Matched
+abbrev pub value_match : Option GivenValue → Matched
 value_match None = NoValue
-value_match (Some n) = Value n
+value_match (Some v) = Value v
 
 -- what an option's text in the matches says of it
 abbrev pub match_of : Setting → Option (List ℕ) → Matched
 match_of s None = Absent
-match_of s (Some text) = if is_flag s then flag_match (bytes_eq text (codes "true")) else value_match (value_in s text)
+match_of s (Some text) = if is_flag s then flag_match (bytes_eq text (codes "true")) else value_match (given_value s text)
 
 -- an option, in front of what the others give: none where its text is no value of it
 abbrev pub more_by : Setting → Matched → Option (List Given) → Option (List Given)
 more_by s Absent more = more
-more_by s (Value n) more = option_map (λ gs. record { setting = s; value = n } ∷ gs) more
+more_by s (Value v) more = option_map (λ gs. record { setting = s; value = v } ∷ gs) more
 more_by s NoValue more = None
 
 -- what the matches give these options, in their order
@@ -82,7 +85,7 @@ matched_positionals rows = unwrap_or (all_of (codes "words") rows) []
 
 -- two readings have the same positionals, and each option has the same value in both
 abbrev pub SameWords : Words → Words → Type 0
-SameWords v w = (v.positionals ≡ w.positionals) × ((s : Setting) → last_of s v.settings ≡ last_of s w.settings)
+SameWords v w = (v.positionals ≡ w.positionals) × ((s : Setting) → last_value s v.settings ≡ last_value s w.settings)
 
 -- both find nothing, or the same
 abbrev pub SameReading : Option Words → Option Words → Type 0
@@ -106,3 +109,4 @@ pub data IsOptions : List Setting → Type 0 where
   NoOptions : IsOptions []
   BoundsOptions : IsOptions of_bounds
   SynthOptions : IsOptions of_synth
+  TraceOptions : IsOptions of_trace

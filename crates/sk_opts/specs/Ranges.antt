@@ -29,6 +29,7 @@ pub record IsInRanges (set : Set) : Type 0 where
 abbrev pub LineIsInRanges : Line → Type 0
 LineIsInRanges (line.Synth set budget cert) = IsInRanges set
 LineIsInRanges (line.Exec set name values) = IsInRanges set
+LineIsInRanges (line.Trace set name values holes) = IsInRanges set
 LineIsInRanges (line.Check set) = IsInRanges set
 LineIsInRanges (line.Itself n) = Unit {0}
 LineIsInRanges line.Help = Unit {0}

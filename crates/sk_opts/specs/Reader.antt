@@ -6,9 +6,12 @@ use Rattle.std.specs.Str.{bytes_eq}
 use Rattle.sk_opts.specs.declared.line.Set.{Set}
 use Rattle.sk_opts.specs.declared.line.Line.{Line}
 use Rattle.sk_opts.specs.declared.line.Line.TheVariants as line
-use Rattle.sk_opts.specs.Settings.{is_flag, of_bounds, of_synth, setting_among, number_in, value_in, all_once, last_of}
+use Rattle.sk_opts.specs.Settings.{is_flag, of_bounds, of_synth, of_trace, setting_among, number_in, all_once, last_of, last_list}
+use Rattle.sk_opts.specs.GivenValues.{given_value}
 use Rattle.sk_opts.specs.declared.setting.Setting.{Setting}
-use Rattle.sk_opts.specs.declared.setting.Setting.TheVariants.{Certificate}
+use Rattle.sk_opts.specs.declared.setting.Setting.TheVariants.{Certificate, Holes}
+use Rattle.sk_opts.specs.declared.setting.GivenValue.{GivenValue}
+use Rattle.sk_opts.specs.declared.setting.GivenValue.TheVariants.{Number}
 use Rattle.sk_opts.specs.declared.words.Words.{Words}
 use Rattle.sk_opts.specs.CommandLine.{is_option, set_of, budget_of}
 
@@ -48,10 +51,10 @@ piece_of has word =
 
 -- All words
 
-abbrev pub with_setting : Setting → Option ℕ → Option Words → Option Words
+abbrev pub with_setting : Setting → Option GivenValue → Option Words → Option Words
 with_setting s None more = None
-with_setting s (Some n) None = None
-with_setting s (Some n) (Some more) = Some (record { settings = record { setting = s; value = n } ∷ more.settings; positionals = more.positionals })
+with_setting s (Some v) None = None
+with_setting s (Some v) (Some more) = Some (record { settings = record { setting = s; value = v } ∷ more.settings; positionals = more.positionals })
 
 abbrev pub with_positional : List ℕ → Option Words → Option Words
 with_positional word None = None
@@ -60,8 +63,8 @@ with_positional word (Some more) = Some (record { settings = more.settings; posi
 -- one word, the words behind it, and how these are read: with or without a name that waits for its value
 abbrev pub words_with : Piece → List ℕ → List (List ℕ) → (Option Setting → Option Words) → Option Words
 words_with Ends word more read = Some (record { settings = []; positionals = more })
-words_with (Names s) word more read = if is_flag s then with_setting s (Some 0) (read None) else read (Some s)
-words_with (Sets s value) word more read = with_setting s (value_in s value) (read None)
+words_with (Names s) word more read = if is_flag s then with_setting s (Some (Number 0)) (read None) else read (Some s)
+words_with (Sets s value) word more read = with_setting s (given_value s value) (read None)
 words_with Plain word more read = with_positional word (read None)
 words_with Unknown word more read = None
 
@@ -70,7 +73,7 @@ abbrev pub words_from : List Setting → Option Setting → List (List ℕ) → 
 words_from has None [] = Some (record { settings = []; positionals = [] })
 words_from has (Some s) [] = None
 words_from has None (w ∷ ws) = words_with (piece_of has w) w ws (λ waiting. words_from has waiting ws)
-words_from has (Some s) (w ∷ ws) = with_setting s (value_in s w) (words_from has None ws)
+words_from has (Some s) (w ∷ ws) = with_setting s (given_value s w) (words_from has None ws)
 
 abbrev pub if_once : Option Words → Option Words
 if_once None = None
@@ -100,6 +103,15 @@ abbrev pub exec_line : Option Words → Option Line
 exec_line None = None
 exec_line (Some w) = exec_with (set_of w.settings) w.positionals
 
+-- a name and values, with the numbers for holes
+abbrev pub trace_with : Set → Option (List ℕ) → List (List ℕ) → Option Line
+trace_with set holes [] = None
+trace_with set holes (name ∷ values) = Some (line.Trace set name values holes)
+
+abbrev pub trace_line : Option Words → Option Line
+trace_line None = None
+trace_line (Some w) = trace_with (set_of w.settings) (last_list Holes w.settings) w.positionals
+
 abbrev pub check_line : Option Words → Option Line
 check_line None = None
 check_line (Some w) = if_none w.positionals (line.Check (set_of w.settings))
@@ -120,8 +132,9 @@ line_of [] = None
 line_of (w ∷ ws) =
     if bytes_eq w (codes "synth") then synth_line (words_of of_synth ws)
     else (if bytes_eq w (codes "exec") then exec_line (words_of of_bounds ws)
+    else (if bytes_eq w (codes "trace") then trace_line (words_of of_trace ws)
     else (if bytes_eq w (codes "check") then check_line (words_of of_bounds ws)
     else (if bytes_eq w (codes "self") then self_line (words_of [] ws)
     else (if bytes_eq w (codes "--help") then if_none ws line.Help
     else (if bytes_eq w (codes "--version") then if_none ws line.Version
-    else None)))))
+    else None))))))

@@ -51,7 +51,7 @@ abbrev pub between_commas : List ℕ → List (List ℕ)
 between_commas [] = [] ∷ []
 between_commas (b ∷ bs) = if b == 44 then [] ∷ between_commas bs else longer_first b (between_commas bs)
 
-abbrev pub both : Option Value → Option (List Value) → Option (List Value)
+abbrev pub both : {A : Type 0} → Option A → Option (List A) → Option (List A)
 both None vs = None
 both (Some v) None = None
 both (Some v) (Some vs) = Some (v ∷ vs)

@@ -1,23 +1,27 @@
 //! Command lines, bounds and values, each computed by the check.
-ghost use Rattle.sk_opts.specs.Examples.{SynthAlone, SynthWithOptions, ExecBeforeOption, ExecOfNegative, SelfOfSeven, ValuePastRange, OptionTwice, OptionForValue, PositionalOfSynth, ValueMissing, BoundsOfPragmas, BoundsPassedOver, GridOfBits, TooFewScalars, NegativeInt};
+ghost use Rattle.sk_opts.specs.Examples.{SynthAlone, SynthWithOptions, ExecBeforeOption, ExecOfNegative, SelfOfSeven, TraceWithHoles, TraceWithoutHoles, ValuePastRange, OptionTwice, OptionForValue, PositionalOfSynth, ValueMissing, HolesOfExec, NoNumberOfHoles, BoundsOfPragmas, BoundsPassedOver, GridOfBits, TooFewScalars, NegativeInt};
 
-/// Five lines that are taken.
+/// Lines that are taken.
 pub fn lines_that_are_taken()
     ensures synth { SynthAlone }
     ensures options { SynthWithOptions }
     ensures exec { ExecBeforeOption }
     ensures negative { ExecOfNegative }
     ensures itself { SelfOfSeven }
+    ensures trace { TraceWithHoles }
+    ensures bare_trace { TraceWithoutHoles }
 {}
 
-/// Five that are refused: a value past its range, an option twice, an unknown option, a positional where
-/// there is none, and an option without its value.
+/// Lines that are refused: a value past its range, an option twice, an unknown option, a positional where there is none,
+/// an option without its value, numbers for holes of a line that takes none, and nothing between two commas.
 pub fn lines_that_are_refused()
     ensures range { ValuePastRange }
     ensures twice { OptionTwice }
     ensures unknown { OptionForValue }
     ensures positional { PositionalOfSynth }
     ensures missing { ValueMissing }
+    ensures exec_holes { HolesOfExec }
+    ensures empty_hole { NoNumberOfHoles }
 {}
 
 /// The later of two pragmas wins, numbers out of range are passed over, and a narrow `int` narrows

@@ -16,3 +16,4 @@ mod words;
 pub use limits::bounds;
 pub use line::{Line, Set, Usage};
 pub use lines::options;
+pub use number::pieces_of;

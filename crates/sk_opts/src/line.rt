@@ -35,6 +35,14 @@ pub enum Line {
         name: Name,
         values: List<Name>,
     },
+    /// Run a function of a filled sketch, and show the run step by step.
+    Trace {
+        set: Set,
+        name: Name,
+        values: List<Name>,
+        /// The numbers that the sketch is filled with; none where no option gives them.
+        holes: Option<List<u64>>,
+    },
     /// Check a certificate.
     Check {
         set: Set,

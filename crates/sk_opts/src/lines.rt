@@ -1,16 +1,16 @@
 //! The line that words spell.
-ghost use Rattle.std.specs.Prelude.{◌≡◌, [], ◌∷◌, ℕ, Some, None, map, unwrap_or, IfOk, IfErr, if◌then◌else◌};
+ghost use Rattle.std.specs.Prelude.{◌≡◌, [], ◌∷◌, ℕ, None, map, unwrap_or, IfOk, IfErr, if◌then◌else◌};
 ghost use Rattle.std.specs.String.{string_bytes};
-ghost use Rattle.sk_opts.specs.Settings.{is_of, last_of, of_bounds, of_synth};
+ghost use Rattle.sk_opts.specs.Settings.{is_of, number_given, numbers_given, last_of, last_list, of_bounds, of_synth, of_trace};
 ghost use Rattle.sk_opts.specs.CommandLine.{set_of, budget_of, IsLine};
-ghost use Rattle.sk_opts.specs.Reader.{if_none, synth_line, exec_with, exec_line, check_line, self_with, self_line, words_of, line_of};
+ghost use Rattle.sk_opts.specs.Reader.{if_none, synth_line, exec_with, exec_line, trace_with, trace_line, check_line, self_with, self_line, words_of, line_of};
 ghost use Rattle.sk_opts.specs.Ranges.{LineIsInRanges};
 ghost use Rattle.sk_opts.specs.Told.{IsTold};
 ghost use Rattle.sk_opts.specs.declared.line.Line.{Line};
 
 use crate::line::{Line, Set, Usage};
 use crate::number::number_in;
-use crate::setting::{Given, Setting, setting_bytes};
+use crate::setting::{Given, GivenValue, Setting, setting_bytes};
 use crate::words::{Words, words_of};
 use sk_base::{Budget, List, Name};
 use std::alloc::{AllocError, Global};
@@ -34,25 +34,63 @@ const OF_SYNTH: [Setting; 8] = [
     Setting::Calls,
 ];
 
-fn later(found: Option<u32>, setting: Setting, given: Given) -> Option<u32>
-    ensures { result ≡ (if is_of setting given then Some given.value else found) }
+const OF_TRACE: [Setting; 6] = [
+    Setting::Holes,
+    Setting::IntBits,
+    Setting::HoleBits,
+    Setting::InputBits,
+    Setting::Turns,
+    Setting::Calls,
+];
+
+fn later(found: Option<u32>, setting: Setting, given: &Given) -> Option<u32>
+    ensures { result ≡ (if is_of setting given.now then number_given given.now.value else found) }
 {
-    if setting_bytes(setting) == setting_bytes(given.setting) {
-        Some(given.value)
-    } else {
-        found
+    if setting_bytes(setting) != setting_bytes(given.setting) {
+        return found;
+    }
+    match given.value {
+        GivenValue::Number(number) => Some(number),
+        GivenValue::Numbers(_) => None,
     }
 }
 
-// The last value of a setting.
+// The number that is the last value of a setting.
+#[tactic(auto, using(crate::proofs::LastValues::last_number))]
 fn last_of(setting: Setting, settings: &[Given]) -> Option<u32>
     ensures { result ≡ last_of setting settings.now }
 {
     let mut found = None;
     let mut rest = settings;
     while let [given, after @ ..] = rest {
-        found = later(found, setting, *given);
+        found = later(found, setting, given);
         rest = after;
+    }
+    found
+}
+
+fn later_list(found: Option<List<u64>>, setting: Setting, given: Given) -> Option<List<u64>>
+    ensures { result ≡ (if is_of setting given then numbers_given given.value else found) }
+{
+    if setting_bytes(setting) != setting_bytes(given.setting) {
+        return found;
+    }
+    match given.value {
+        GivenValue::Number(_) => None,
+        GivenValue::Numbers(numbers) => Some(numbers),
+    }
+}
+
+// The list that is the last value of a setting.
+#[tactic(auto, using(crate::proofs::LastValues::last_numbers))]
+fn last_list(setting: Setting, settings: List<Given>) -> Option<List<u64>>
+    ensures { result ≡ last_list setting settings }
+{
+    let mut found = None;
+    let mut rest = settings;
+    while !rest.is_empty() {
+        let given = rest.remove(0);
+        found = later_list(found, setting, given);
     }
     found
 }
@@ -155,6 +193,39 @@ fn exec_line(words: Option<Words>) -> Option<Line>
     }
 }
 
+fn trace_with(set: Set, holes: Option<List<u64>>, positionals: List<Name>) -> Option<Line>
+    ensures { result ≡ trace_with set holes positionals }
+{
+    let mut values = positionals;
+    if values.is_empty() {
+        return None;
+    }
+    let name = values.remove(0);
+    Some(Line::Trace {
+        set,
+        name,
+        values,
+        holes,
+    })
+}
+
+fn trace_line(words: Option<Words>) -> Option<Line>
+    ensures { result ≡ trace_line words }
+{
+    match words {
+        None => None,
+        Some(words) => {
+            let Words {
+                settings,
+                positionals,
+            } = words;
+            let set = set_of(settings.as_slice());
+            let holes = last_list(Setting::Holes, settings);
+            trace_with(set, holes, positionals)
+        }
+    }
+}
+
 fn self_with(positionals: &[Name]) -> Option<Line>
     ensures { result ≡ self_with positionals.now }
 {
@@ -190,6 +261,13 @@ fn exec_of(alloc: Global, words: &[String]) -> Result<Option<Line>, AllocError>
     Ok(exec_line(words_of(alloc, &OF_BOUNDS, words)?))
 }
 
+#[tactic(auto, using(crate::proofs::SameLines::trace_same))]
+fn trace_of(alloc: Global, words: &[String]) -> Result<Option<Line>, AllocError>
+    ensures { IfOk result (λ line. line ≡ trace_line (words_of of_trace (map string_bytes words.now))) }
+{
+    Ok(trace_line(words_of(alloc, &OF_TRACE, words)?))
+}
+
 #[tactic(auto, using(crate::proofs::SameLines::check_same))]
 fn check_of(alloc: Global, words: &[String]) -> Result<Option<Line>, AllocError>
     ensures { IfOk result (λ line. line ≡ check_line (words_of of_bounds (map string_bytes words.now))) }
@@ -223,6 +301,8 @@ fn line_behind(alloc: Global, command: &[u8], words: &[String]) -> Result<Option
         Ok(synth_of(alloc, words)?)
     } else if command == b"exec".as_slice() {
         Ok(exec_of(alloc, words)?)
+    } else if command == b"trace".as_slice() {
+        Ok(trace_of(alloc, words)?)
     } else if command == b"check".as_slice() {
         Ok(check_of(alloc, words)?)
     } else if command == b"self".as_slice() {

@@ -3,20 +3,21 @@ ghost use Rattle.std.specs.Prelude.{◌≡◌, false, option_map, codes, IfOk};
 ghost use Rattle.std.specs.Str.{bytes_eq};
 ghost use Rattle.clap.specs.Walk.{rule_of};
 ghost use Rattle.clap.specs.Simple.{app_of};
-ghost use Rattle.sk_opts.specs.Settings.{is_flag, value_in};
+ghost use Rattle.sk_opts.specs.Settings.{is_flag};
+ghost use Rattle.sk_opts.specs.GivenValues.{given_value};
 ghost use Rattle.sk_opts.specs.Matching.{setting_name, setting_action as action_as, option_rule, words_rule, bare_app, command_app, flag_match, value_match, match_of};
 
-use crate::setting::{Setting, is_flag, value_in};
+use crate::setting::{GivenValue, Setting, given_value, is_flag};
 use clap::{Arg, ArgAction, Command};
 use std::alloc::{AllocError, Global};
 
 /// What the matches say of an option.
-#[derive(Debug, Drop, Clone, Copy, PartialEq, Eq)]
+#[derive(Debug, Drop)]
 pub enum Matched {
     /// It was not given.
     Absent,
     /// It was given this value.
-    Value(u32),
+    Value(GivenValue),
     /// It was given a text that is no value of it.
     NoValue,
 }
@@ -34,6 +35,7 @@ pub fn setting_name<'a>(setting: Setting) -> &'a str
         Setting::Rounds => "rounds",
         Setting::Conflicts => "conflicts",
         Setting::Certificate => "cert",
+        Setting::Holes => "holes",
     }
 }
 
@@ -90,32 +92,32 @@ fn flag_match(text: &str) -> Matched
     ensures { result ≡ flag_match (bytes_eq text.now (codes "true")) }
 {
     if text == "true" {
-        Matched::Value(0)
+        Matched::Value(GivenValue::Number(0))
     } else {
         Matched::Absent
     }
 }
 
-fn value_match(setting: Setting, text: &str) -> Matched
-    ensures { result ≡ value_match (value_in setting text.now) }
+fn value_match(alloc: Global, setting: Setting, text: &str) -> Result<Matched, AllocError>
+    ensures { IfOk result (λ matched. matched ≡ value_match (given_value setting text.now)) }
 {
-    match value_in(setting, text.as_bytes()) {
-        None => Matched::NoValue,
-        Some(value) => Matched::Value(value),
+    match given_value(alloc, setting, text.as_bytes())? {
+        None => Ok(Matched::NoValue),
+        Some(value) => Ok(Matched::Value(value)),
     }
 }
 
 /// What the text of an option in the matches says of it.
-pub fn match_of(setting: Setting, text: Option<&str>) -> Matched
-    ensures { result ≡ match_of setting (option_map (λ s. s.now) text.entry) }
+pub fn match_of(alloc: Global, setting: Setting, text: Option<&str>) -> Result<Matched, AllocError>
+    ensures { IfOk result (λ matched. matched ≡ match_of setting (option_map (λ s. s.now) text.entry)) }
 {
     match text {
-        None => Matched::Absent,
+        None => Ok(Matched::Absent),
         Some(text) => {
             if is_flag(setting) {
-                flag_match(text)
+                Ok(flag_match(text))
             } else {
-                value_match(setting, text)
+                value_match(alloc, setting, text)
             }
         }
     }

@@ -1,5 +1,5 @@
 //! What the pragmas of a text set.
-ghost use Rattle.std.specs.Prelude.{◌≡◌, ◌≤◌, ◌∷◌, ℕ, List, None, length, codes};
+ghost use Rattle.std.specs.Prelude.{◌≡◌, ◌≤◌, ◌∷◌, ℕ, List, Some, None, length, codes};
 ghost use Rattle.std.specs.List.{prefix_len, flat_map};
 ghost use Rattle.sk_tree.specs.Shapes.{is_blank};
 ghost use Rattle.sk_opts.specs.BoundsOf.{blank_words, words_settings, item_settings, pragma_settings};
@@ -40,7 +40,7 @@ fn unblank_len(text: &[u8]) -> usize
 }
 
 fn set_by(set: Set, setting: Setting, value: u32) -> Set
-    ensures value { result ≡ set_by set setting value }
+    ensures value { result ≡ set_by set setting (Some value) }
     ensures ranges { IsInRanges set → LiesIn setting (Some value) → IsInRanges result }
 {
     match setting {
@@ -67,6 +67,7 @@ fn set_by(set: Set, setting: Setting, value: u32) -> Set
         Setting::Rounds => set,
         Setting::Conflicts => set,
         Setting::Certificate => set,
+        Setting::Holes => set,
     }
 }
 

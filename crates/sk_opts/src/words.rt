@@ -67,21 +67,26 @@ fn with_match(
     }
 }
 
-fn matched_option(matches: &ArgMatches<'_>, setting: Setting) -> Matched
-    ensures { result ≡ match_of setting (first_of (setting_name setting) (rows_of (found_of matches.now))) }
+fn matched_option(
+    alloc: Global,
+    matches: &ArgMatches<'_>,
+    setting: Setting,
+) -> Result<Matched, AllocError>
+    ensures { IfOk result (λ matched. matched ≡ match_of setting (first_of (setting_name setting) (rows_of (found_of matches.now)))) }
 {
-    match_of(setting, matches.get_str(setting_name(setting)))
+    match_of(alloc, setting, matches.get_str(setting_name(setting)))
 }
 
 // One more option, with what the matches say of it.
 fn with_option(
+    alloc: Global,
     settings: List<Given>,
     setting: Setting,
     matches: &ArgMatches<'_>,
 ) -> Result<Option<List<Given>>, AllocError>
     ensures { IfOk result (GoesOnBy settings setting (match_of setting (first_of (setting_name setting) (rows_of (found_of matches.now))))) }
 {
-    let matched = matched_option(matches, setting);
+    let matched = matched_option(alloc, matches, setting)?;
     Ok(with_match(settings, setting, matched)?)
 }
 
@@ -96,7 +101,7 @@ fn matched_settings(
     let mut settings = List::new(alloc);
     let mut rest = has;
     while let [setting, others @ ..] = rest {
-        match with_option(settings, *setting, matches)? {
+        match with_option(alloc, settings, *setting, matches)? {
             None => return Ok(None),
             Some(more) => settings = more,
         }

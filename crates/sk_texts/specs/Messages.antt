@@ -72,7 +72,7 @@ size_limit Sites = most_sites
 size_limit Steps = most_steps
 size_limit News = most_news
 
--- why `exec` runs nothing
+-- why `exec` or `trace` runs nothing
 pub data ExecFault : Type 0 where
   -- no function of the text has the name
   NoFunction : ExecFault
@@ -91,6 +91,17 @@ exec_fault_name Unfilled = codes "Unfilled"
 exec_fault_name References = codes "References"
 exec_fault_name Count = codes "Count"
 exec_fault_name Value = codes "Value"
+
+-- why `trace` fills no sketch
+pub data FillFault : Type 0 where
+  -- there are not as many numbers as sites
+  WrongLength : FillFault
+  -- a number is not below the size of its site
+  OutOfRange : FillFault
+
+abbrev pub fill_fault_name : FillFault → List ℕ
+fill_fault_name WrongLength = codes "WrongLength"
+fill_fault_name OutOfRange = codes "OutOfRange"
 
 -- what is wrong with a text that is no certificate: its form, or its version
 pub data CertFault : Type 0 where
@@ -122,6 +133,8 @@ pub data Refusal : Type 0 where
   NotRun : ExecFault → Refusal
   -- what stands behind the sketch departs from the form of a certificate, first in this line, from 1
   NotCertificate : CertFault → ℕ → Refusal
+  -- the numbers fill no sketch
+  NotFilled : FillFault → Refusal
 
 abbrev pub refusal_status : Refusal → ℕ
 refusal_status NotALine = 10
@@ -134,6 +147,7 @@ refusal_status TooLong = 16
 refusal_status Memory = 17
 refusal_status (NotRun fault) = 18
 refusal_status (NotCertificate fault line) = 19
+refusal_status (NotFilled fault) = 22
 
 -- the message, which a line feed follows on standard error
 abbrev pub refusal_message : Refusal → List ℕ
@@ -147,3 +161,4 @@ refusal_message TooLong = codes "too long"
 refusal_message Memory = codes "no memory"
 refusal_message (NotRun fault) = codes "exec " ++ exec_fault_name fault
 refusal_message (NotCertificate fault line) = codes "certificate " ++ cert_fault_name fault ++ codes " " ++ decimal line
+refusal_message (NotFilled fault) = codes "fill " ++ fill_fault_name fault

@@ -1,37 +1,8 @@
--- Scalars between commas, one after another, and their rows.
-use Rattle.std.proofs.Common.{◌≡◌, ℕ, zero, suc, ◌-◌, ◌<◌, eqb, List, [], ◌∷◌, ◌++◌, take, drop, Option, Some, None, ◌+◌, refl, sym, ap, ◌∙◌, arith, append_assoc}
-use Rattle.std.specs.List.{slice_split, onto_first}
-use Rattle.std.proofs.lemmas.List.{append-nil}
+-- Rows of scalars.
+use Rattle.std.proofs.Common.{◌≡◌, ℕ, zero, suc, ◌-◌, ◌<◌, List, [], ◌∷◌, ◌++◌, take, drop, ◌+◌, refl, sym, ap, ◌∙◌, arith, append_assoc}
 use Rattle.sk_prog.specs.declared.value.Value.{Value}
 use Rattle.sk_prog.specs.declared.value.Value.TheVariants as value
-use Rattle.sk_opts.specs.SpeltValues.{between_commas, longer_first, both, rows_of}
-
-same_first : (b : ℕ) (words : List (List ℕ)) → onto_first b words ≡ longer_first b words
-same_first b [] = refl
-same_first b (w ∷ ws) = refl
-
--- the pieces are those of std
-pub pieces_are : (word : List ℕ) → slice_split (λ b. eqb b 44) word ≡ between_commas word
-pieces_are [] = refl
-pieces_are (b ∷ bs) = let rest = pieces_are bs in rw rest (rw (same_first b (between_commas bs)) refl)
-
--- these values in front of those that are found, if some are
-abbrev pub behind : List Value → Option (List Value) → Option (List Value)
-behind vs None = None
-behind vs (Some ws) = Some (vs ++ ws)
-
-pub behind_none : (found : Option (List Value)) → found ≡ behind [] found
-behind_none None = refl
-behind_none (Some ws) = refl
-
-pub behind_one : (vs : List Value) (v : Value) (found : Option (List Value)) → behind vs (both (Some v) found) ≡ behind (vs ++ v ∷ []) found
-behind_one vs v None = refl
-behind_one vs v (Some ws) = ap Some (sym (append_assoc vs (v ∷ []) ws))
-
-pub behind_all : (vs : List Value) → behind vs (Some []) ≡ Some vs
-behind_all vs = ap Some (append-nil vs)
-
-pub ruleset steps = (behind_none, behind_one, behind_all)
+use Rattle.sk_opts.specs.SpeltValues.{rows_of}
 
 pub take_next : (n : ℕ) (v : Value) (vs : List Value) → 0 < n → take n (v ∷ vs) ≡ v ∷ take (n - 1) vs
 take_next zero v vs some = absurd (omega arith)

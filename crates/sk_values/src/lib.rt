@@ -11,4 +11,4 @@ mod writer;
 pub use arguments::read_arguments;
 pub use fault::ArgumentFault;
 pub use value::read_value;
-pub use writer::run_text;
+pub use writer::{push_run, push_value, run_text};

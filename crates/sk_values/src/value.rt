@@ -6,19 +6,13 @@ ghost use Rattle.sk_opts.specs.SpeltValues.{between_commas, spell_scalars, spell
 
 use crate::scalar::read_scalar;
 use sk_base::{Bounds, List};
+use sk_opts::pieces_of;
 use sk_prog::{Elem, Ty, Value};
 use std::alloc::{AllocError, Global};
 use std::vec::IntoIter;
 
-/// What stands between the commas of a word.
-fn pieces_of(alloc: Global, word: &[u8]) -> Result<Vec<&[u8]>, AllocError>
-    ensures { IfOk result (λ pieces. map (λ piece. piece.now) pieces.items ≡ between_commas word.now) }
-{
-    word.split(|b| *b == b',').collect(alloc)
-}
-
 /// The scalars that these words spell, if each spells one.
-#[tactic(auto, using(crate::proofs::Scalars::steps))]
+#[tactic(auto, using(sk_opts::proofs::Lists::steps))]
 fn read_scalars(
     alloc: Global,
     bounds: &Bounds,

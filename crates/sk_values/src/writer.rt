@@ -18,8 +18,9 @@ fn push_bit(out: &mut Vec<u8>, bit: bool) -> Result<(), AllocError>
     Ok(())
 }
 
+/// Appends how a value is spelt.
 #[cycle(push_value)]
-fn push_value(out: &mut Vec<u8>, value: &Value) -> Result<(), AllocError>
+pub fn push_value(out: &mut Vec<u8>, value: &Value) -> Result<(), AllocError>
     ensures { OnOk result (out.new.items ≡ out.old.items ++ value_text value.now) }
 {
     match value {
@@ -31,8 +32,14 @@ fn push_value(out: &mut Vec<u8>, value: &Value) -> Result<(), AllocError>
             push_signed(out, *n)?;
             Ok(())
         }
-        Value::Null => Ok(()),
-        Value::Place(_) => Ok(()),
+        Value::Null => {
+            out.extend_from_slice(b"null")?;
+            Ok(())
+        }
+        Value::Place(_) => {
+            out.extend_from_slice(b"ref")?;
+            Ok(())
+        }
         Value::Array(values) => {
             push_values(out, values.as_slice())?;
             Ok(())
@@ -138,27 +145,26 @@ fn push_done(
     Ok(())
 }
 
-/// What is written of a run of a function.
-pub fn run_text(alloc: Global, fun: &Fun, outcome: &Outcome) -> Result<Vec<u8>, AllocError>
-    ensures { IfOk result (λ out. out.items ≡ run_text fun.now outcome.now) }
+/// Appends what is written of a run of a function.
+pub fn push_run(out: &mut Vec<u8>, fun: &Fun, outcome: &Outcome) -> Result<(), AllocError>
+    ensures { OnOk result (out.new.items ≡ out.old.items ++ run_text fun.now outcome.now) }
 {
-    let mut out = Vec::new(alloc);
     match outcome {
         Outcome::Done {
             result: value,
             refs,
             cost,
-        } => {
-            push_done(&mut out, fun, value.as_ref(), refs.as_slice(), *cost)?;
-            Ok(out)
-        }
-        Outcome::Failed { span } => {
-            push_end(&mut out, b"failed ", *span)?;
-            Ok(out)
-        }
-        Outcome::Skipped { span } => {
-            push_end(&mut out, b"skipped ", *span)?;
-            Ok(out)
-        }
+        } => push_done(out, fun, value.as_ref(), refs.as_slice(), *cost),
+        Outcome::Failed { span } => push_end(out, b"failed ", *span),
+        Outcome::Skipped { span } => push_end(out, b"skipped ", *span),
     }
+}
+
+/// What is written of a run of a function.
+pub fn run_text(alloc: Global, fun: &Fun, outcome: &Outcome) -> Result<Vec<u8>, AllocError>
+    ensures { IfOk result (λ out. out.items ≡ run_text fun.now outcome.now) }
+{
+    let mut out = Vec::new(alloc);
+    push_run(&mut out, fun, outcome)?;
+    Ok(out)
 }

@@ -106,6 +106,9 @@ returns-clause-exec_skipped g c = laws.exec_skipped c.answer-ending.ensures
 pub returns-clause-not_run : goal.returns-clause-not_run
 returns-clause-not_run g c = laws.not_run c.answer-ending.ensures
 
+pub returns-clause-not_filled : goal.returns-clause-not_filled
+returns-clause-not_filled g c = laws.not_filled c.answer-ending.ensures
+
 pub returns-clause-ends_copies : goal.returns-clause-ends_copies
 returns-clause-ends_copies g c = laws.ends_copies c.answer-ending.ensures
 

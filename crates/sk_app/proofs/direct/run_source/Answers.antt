@@ -9,7 +9,7 @@ pub returns-in-Ok-Whole : goal.returns-in-Ok-Whole
 returns-in-Ok-Whole g c =
     let m = c.in-Ok-Whole in
     record {
-      runs = whole m.text.items (subst (λ x. IsRead x (g.S.Source.faults c.args.source.now) (g.S.Source.faults c.read_text.new.source) (g.S.Source.left c.args.source.now)) m.field-0-is m.ensures.read) (subst (λ x. RunsText c.args.set.now c.args.name.now c.args.values.now x c.run_text.result (g.K.Sink.faults c.args.sink.now) (g.K.Sink.faults c.run_text.new.sink) (g.K.Sink.held c.args.sink.now) (g.K.Sink.held c.run_text.new.sink)) c.as_slice.ensures.value c.run_text.ensures.runs);
+      runs = whole m.text.items (subst (λ x. IsRead x (g.S.Source.faults c.args.source.now) (g.S.Source.faults c.read_text.new.source) (g.S.Source.left c.args.source.now)) m.field-0-is m.ensures.read) (subst (λ x. RunsText c.args.set.now c.args.job.now x c.run_text.result (g.K.Sink.faults c.args.sink.now) (g.K.Sink.faults c.run_text.new.sink) (g.K.Sink.held c.args.sink.now) (g.K.Sink.held c.run_text.new.sink)) c.as_slice.ensures.value c.run_text.ensures.runs);
       place = λ fault e. whole_place (g.S.Source.left c.args.source.now) m.text.items fault (subst (λ x. IsRead x (g.S.Source.faults c.args.source.now) (g.S.Source.faults c.read_text.new.source) (g.S.Source.left c.args.source.now)) m.field-0-is m.ensures.read) (subst (λ x. HasSpan x fault.span) c.as_slice.ensures.value (c.run_text.ensures.place fault e));
       few = m.ensures.few;
     }

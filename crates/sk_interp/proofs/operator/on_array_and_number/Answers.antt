@@ -1,6 +1,6 @@
 use Rattle.std.proofs.Common.{◌∙◌, subst}
 use Rattle.sk_model.specs.Operators.{shift}
-use Rattle.sk_interp.specs.Gives.{Computes}
+use Rattle.sk_interp.specs.Records.{Computes}
 use Rattle.sk_interp.proofs.operator.on_array_and_number.Goals as goal
 
 pub returns : goal.returns

@@ -1,5 +1,5 @@
 use Rattle.std.proofs.Common.{sym, subst}
-use Rattle.sk_interp.specs.Gives.{Computes}
+use Rattle.sk_interp.specs.Records.{Computes}
 use Rattle.sk_interp.proofs.Operating.{others}
 use Rattle.sk_interp.proofs.operator.operator.Goals as goal
 

@@ -1,6 +1,6 @@
 use Rattle.std.proofs.Common.{◌≡◌, map, drop}
 use Rattle.sk_opts.specs.SpeltValues.{spell_scalars}
-use Rattle.sk_values.proofs.Scalars.{behind}
+use Rattle.sk_opts.proofs.Lists.{behind}
 use Rattle.sk_values.proofs.value.read_scalars.Given as goal
 
 -- the values so far, and those that the words to come spell

@@ -1,4 +1,4 @@
-use Rattle.std.proofs.Common.{◌≡◌, subst}
+use Rattle.std.proofs.Common.{subst}
 use Rattle.sk_interp.specs.Paths.{IsSteady, IsPath}
 use Rattle.sk_interp.specs.Calling.{does_in}
 use Rattle.sk_interp.proofs.Paths.{path_index}

@@ -1,4 +1,4 @@
-use Rattle.std.proofs.Common.{◌≡◌, ◌∙◌, IsTrue, sym, subst}
+use Rattle.std.proofs.Common.{◌∙◌, IsTrue, sym, subst}
 use Rattle.sk_interp.specs.Paths.{IsSteady, is_arithmetic}
 use Rattle.sk_interp.specs.Calling.{does_in}
 use Rattle.sk_interp.proofs.Paths.{steady_binary}

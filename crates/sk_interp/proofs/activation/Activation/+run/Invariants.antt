@@ -1,7 +1,8 @@
 use Rattle.std.proofs.Common.{◌≡◌, ◌+◌, ◌*◌, ◌-◌, ◌++◌, drop, map}
-use Rattle.sk_model.specs.Step.{and_then, Goes}
-use Rattle.sk_model.specs.Eval.{in_order, fields_in_order, copy_back, ref_args}
-use Rattle.sk_model.specs.Exec.{turns}
+use Rattle.sk_path.specs.Recording.{and_then, Goes}
+use Rattle.sk_path.specs.Eval.{in_order, fields_in_order, copy_back, ref_args}
+use Rattle.sk_path.specs.Exec.{turns}
+use Rattle.sk_path.specs.Kept.{kept}
 use Rattle.sk_interp.specs.Calling.{does_in, each_in, field_in, exec_in, exec_all_in}
 use Rattle.sk_interp.proofs.activation.Activation.+run.Given as goal
 
@@ -27,7 +28,7 @@ abbrev pub decreases-copy_back : goal.decreases-copy_back
 decreases-copy_back l = 5 * l.room + 1
 
 abbrev pub decreases-turns : goal.decreases-turns
-decreases-turns l = 5 * l.room + 1
+decreases-turns l = 5 * l.room + 2
 
 abbrev pub decreases-exec_all : goal.decreases-exec_all
 decreases-exec_all l = 5 * l.room + 1
@@ -71,6 +72,9 @@ decreases-number_of l = 5 * l.room + 1
 abbrev pub decreases-pad : goal.decreases-pad
 decreases-pad l = 5 * l.room + 1
 
+abbrev pub decreases-holds : goal.decreases-holds
+decreases-holds l = 5 * l.room + 1
+
 abbrev pub decreases-set : goal.decreases-set
 decreases-set l = 5 * l.room + 1
 
@@ -81,19 +85,19 @@ abbrev pub decreases-drop_value : goal.decreases-drop_value
 decreases-drop_value l = 5 * l.room + 1
 
 abbrev pub decreases-branch : goal.decreases-branch
-decreases-branch l = 5 * l.room + 1
+decreases-branch l = 5 * l.room + 2
 
 abbrev pub decreases-branches : goal.decreases-branches
-decreases-branches l = 5 * l.room + 1
+decreases-branches l = 5 * l.room + 2
 
 abbrev pub decreases-give : goal.decreases-give
 decreases-give l = 5 * l.room + 1
 
 abbrev pub decreases-assert : goal.decreases-assert
-decreases-assert l = 5 * l.room + 1
+decreases-assert l = 5 * l.room + 2
 
 abbrev pub decreases-assume : goal.decreases-assume
-decreases-assume l = 5 * l.room + 1
+decreases-assume l = 5 * l.room + 2
 
 abbrev pub decreases-minimize : goal.decreases-minimize
 decreases-minimize l = 5 * l.room + 1
@@ -101,21 +105,21 @@ decreases-minimize l = 5 * l.room + 1
 -- the values so far and those to come are all values
 abbrev pub invariant-eval_all-loop-e : goal.invariant-eval_all-loop-e
 invariant-eval_all-loop-e l =
-    in_order l.span (each_in l.self l.es) l.fn.memory ≡ and_then (in_order l.span (each_in l.self (drop l.e-index l.es)) l.memory) (λ rest s. Goes (l.values ++ rest) s)
+    in_order l.span (each_in l.self l.es) l.fn.machine ≡ and_then (in_order l.span (each_in l.self (drop l.e-index l.es)) l.machine) (λ rest s. Goes (l.values ++ rest) s)
 
 abbrev pub invariant-eval_fields-loop-f : goal.invariant-eval_fields-loop-f
 invariant-eval_fields-loop-f l =
-    fields_in_order l.span (map (field_in l.self) l.fields) l.fn.memory ≡ and_then (fields_in_order l.span (map (field_in l.self) (drop l.f-index l.fields)) l.memory) (λ rest s. Goes (l.set.items ++ rest) s)
+    fields_in_order l.span (map (field_in l.self) l.fields) l.fn.machine ≡ and_then (fields_in_order l.span (map (field_in l.self) (drop l.f-index l.fields)) l.machine) (λ rest s. Goes (l.set.items ++ rest) s)
 
 -- what is left to do from here is what there was to do from the start
 abbrev pub invariant-copy_back-loop-a : goal.invariant-copy_back-loop-a
 invariant-copy_back-loop-a l =
-    copy_back l.span (ref_args l.fn.params (each_in l.self l.args)) l.fn.refs l.fn.memory ≡ copy_back l.span (ref_args l.params (each_in l.self (drop l.a-index l.args))) l.refs l.memory
+    copy_back l.span (ref_args l.fn.params (each_in l.self l.args)) l.fn.refs l.fn.machine ≡ copy_back l.span (ref_args l.params (each_in l.self (drop l.a-index l.args))) l.refs l.machine
 
 abbrev pub invariant-exec_all-loop-stmt : goal.invariant-exec_all-loop-stmt
 invariant-exec_all-loop-stmt l =
-    exec_all_in l.self l.stmts l.fn.memory ≡ exec_all_in l.self (drop l.stmt-index l.stmts) l.memory
+    exec_all_in l.self l.stmts l.fn.machine ≡ exec_all_in l.self (drop l.stmt-index l.stmts) l.machine
 
 abbrev pub invariant-turns-loop-turn : goal.invariant-turns-loop-turn
 invariant-turns-loop-turn l =
-    turns l.self.bounds.unroll l.span (does_in l.self l.cond) (exec_in l.self l.body) l.fn.memory ≡ turns (l.self.bounds.unroll - l._turn) l.span (does_in l.self l.cond) (exec_in l.self l.body) l.memory
+    turns kept l.self.depth l.self.bounds.unroll l.span (does_in l.self l.cond) (exec_in l.self l.body) l.fn.machine ≡ turns kept l.self.depth (l.self.bounds.unroll - l._turn) l.span (does_in l.self l.cond) (exec_in l.self l.body) l.machine

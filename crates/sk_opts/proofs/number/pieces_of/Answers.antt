@@ -1,8 +1,8 @@
 use Rattle.std.proofs.Common.{rules, tests}
 use Rattle.std.proofs.lemmas.Iterator.Consumers.{map_from_collect}
 use Rattle.std.proofs.lemmas.Iterator.Splits.{YieldsList-from_slice_split}
-use Rattle.sk_values.proofs.Scalars.{pieces_are}
-use Rattle.sk_values.proofs.value.pieces_of.Goals as goal
+use Rattle.sk_opts.proofs.Lists.{pieces_are}
+use Rattle.sk_opts.proofs.number.pieces_of.Goals as goal
 
 pub returns : goal.returns
 returns c =

@@ -1,0 +1,13 @@
+use sk_base::List;
+use sk_model::Outcome;
+use sk_path::Step;
+
+/// A run: its first steps, whether there are others, and how it ends.
+#[derive(Debug, Drop)]
+pub struct Trace {
+    /// The first 65,536 steps, oldest first, or all where there are fewer.
+    pub steps: List<Step>,
+    /// Whether there are others after them.
+    pub more: bool,
+    pub outcome: Outcome,
+}

@@ -1,0 +1,3 @@
+pub mod Fillable
+pub mod Ends
+pub mod TextLaws
