@@ -1,7 +1,6 @@
 -- What the fields of an algebraic struct are, by their places.
-use Rattle.std.proofs.Common.{◌≡◌, ℕ, zero, suc, ◌-◌, ◌<◌, Option, Some, refl, ap, arith}
+use Rattle.std.proofs.Common.{◌≡◌, ℕ, zero, suc, ◌-◌, ◌<◌, Some, refl, ap, arith}
 use Rattle.sk_lower.specs.declared.algebraic.Algebraic.{Algebraic}
-use Rattle.sk_tagged.specs.declared.role.Role.{Role}
 use Rattle.sk_tagged.specs.declared.role.Role.TheVariants as role
 use Rattle.sk_tagged.specs.Tags.{variant_at, of_variant, role_in}
 
