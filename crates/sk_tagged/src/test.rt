@@ -1,0 +1,37 @@
+//! Whether a program is tagged.
+ghost use Rattle.std.specs.Prelude.{◌≡◌, map, IfOk};
+ghost use Rattle.sk_tagged.specs.Tags.{first_of, fun_broken, broken, Answers};
+
+use crate::fault::TagFault;
+use crate::ground::Ground;
+use crate::stmt::all_broken;
+use sk_base::{List, Span};
+use sk_lower::Algebraic;
+use sk_prog::{Fun, Prog};
+use std::alloc::{AllocError, Global};
+
+// The first span of some functions.
+fn funs_broken(alloc: Global, ground: &Ground, funs: &[Fun]) -> Result<Option<Span>, AllocError>
+    ensures { IfOk result (λ span. span ≡ first_of (map (fun_broken ground.now.types.now ground.now.prog.now) funs.now)) }
+{
+    let none = Vec::new(alloc);
+    for fun in funs {
+        if let Some(span) = all_broken(alloc, ground, none.as_slice(), fun.body.as_slice())? {
+            return Ok(Some(span));
+        }
+    }
+    Ok(None)
+}
+
+/// Whether the program uses its algebraic types only as `switch` and `new V` do: `Tagged` says what that is. Else the answer is the first span that breaks
+/// a rule, in the order of the text, that of an expression before those of its parts. Want of memory is an answer of its own.
+#[tactic(auto, unfolding(crate::specs::Tags::broken))]
+pub fn tagged(alloc: Global, prog: &Prog, types: &List<Algebraic>) -> Result<(), TagFault>
+    ensures { Answers result (broken types.now prog.now) }
+{
+    let ground = Ground::new(alloc, prog, types.as_slice())?;
+    match funs_broken(alloc, &ground, prog.funs.as_slice())? {
+        None => Ok(()),
+        Some(span) => Err(TagFault::NotTagged { span }),
+    }
+}
