@@ -17,7 +17,7 @@ use Rattle.sk_place.specs.Lines.{is_feed, IsPlace, IsLineOf}
 use Rattle.sk_place.specs.Spots.{IsSpotOf, pad, marks, line_text, mark_text, excerpt_text, place_text, longest_shown}
 use Rattle.sk_notes.specs.Notes.{is_note}
 use Rattle.sk_explain.specs.declared.explanation.Explanation.{Explanation}
-use Rattle.sk_explain.specs.Explained.{span_of, IsShown, IsSpot, IsExplanation, head_text, shown_text, title_text, layout}
+use Rattle.sk_explain.specs.Explained.{span_of, IsShown, IsSpot, IsExplanation, head_text, shown_text, title_text, layout, IsExplained}
 
 -- one byte in front
 pub cons_ascii : (b : ℕ) (bs : List ℕ) → b < 128 → IsAscii bs → IsAscii (b ∷ bs)
@@ -122,3 +122,12 @@ layout_ascii text ending e small ascii is =
     (title_ascii e.spot e.title.bytes.items spot.head (note_ascii e.title.bytes.items is.title))
     spot.shown)
     (note_ascii e.notes.bytes.items is.notes)
+
+-- what is written of an explanation
+pub explained : (text : List ℕ) (ending : Ending) (e : Explanation) (out : List ℕ) → length text < 2 ^ 63 → IsExplanation text ending e → out ≡ layout e → IsExplained text ending out
+explained text ending e out small explains written = record {
+  explanation = e;
+  explains = explains;
+  written = written;
+  ascii = λ ascii. subst IsAscii (sym written) (layout_ascii text ending e small ascii explains);
+}

@@ -260,7 +260,7 @@ pub fn written(alloc: Global, explanation: &Explanation) -> Result<Name, AllocEr
 
 /// The lines that tell people of an ending: of the words of a line and the text that was read, as `run` ended on them. There
 /// are none where there is nothing to tell.
-#[tactic(auto, using(crate::proofs::AsciiLaws::layout_ascii))]
+#[tactic(auto, using(crate::proofs::AsciiLaws::explained))]
 pub fn explain(
     alloc: Global,
     words: &[String],
