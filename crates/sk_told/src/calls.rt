@@ -277,7 +277,7 @@ fn tell_call(
 }
 
 // What a line calls.
-fn called<'a>(name: &'a Name, values: &'a [Name], is_filled: bool) -> Called<'a> {
+fn call_of<'a>(name: &'a Name, values: &'a [Name], is_filled: bool) -> Called<'a> {
     Called {
         name: name.as_bytes(),
         values,
@@ -295,7 +295,7 @@ pub fn tell_not_run(
 ) -> Result<(), AllocError> {
     match options(alloc, words) {
         Ok(Line::Exec { set, name, values }) => {
-            let called = called(&name, values.as_slice(), false);
+            let called = call_of(&name, values.as_slice(), false);
             tell_call(alloc, told, &set, &called, text, reason)
         }
         Ok(
@@ -306,7 +306,7 @@ pub fn tell_not_run(
                 ..
             },
         ) => {
-            let called = called(&name, values.as_slice(), true);
+            let called = call_of(&name, values.as_slice(), true);
             tell_call(alloc, told, &set, &called, text, reason)
         }
         Ok(Line::Synth { .. } | Line::Check { .. } | Line::Itself { .. }) => {
