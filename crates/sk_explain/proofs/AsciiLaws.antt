@@ -1,5 +1,5 @@
 -- What is written of an ending is ASCII where the text is.
-use Rattle.std.proofs.Common.{ℕ, zero, suc, ◌+◌, ◌-◌, ◌^◌, ◌<◌, ◌≤◌, ◌≡◌, Bool, true, List, [], ◌∷◌, ◌++◌, length, map, take, drop, replicate, count_by, Option, Some, None, subst, sym, arith, lit<, if◌then◌else◌, nat_le, cond}
+use Rattle.std.proofs.Common.{ℕ, zero, suc, ◌+◌, ◌-◌, ◌^◌, ◌<◌, ◌≤◌, ◌≡◌, Bool, true, false, List, [], ◌∷◌, ◌++◌, length, map, take, drop, replicate, count_by, Option, Some, None, subst, sym, arith, lit<, if◌then◌else◌, nat_le, cond}
 use Rattle.std.specs.Str.{IsAscii}
 use Rattle.std.specs.List.{list_all, slice_range}
 use Rattle.std.specs.Fmt.{decimal}
@@ -59,13 +59,13 @@ line_ascii text byte line of ascii =
     subst IsAscii (sym of.bytes) cut
 
 pub line_text_ascii : (line : List ℕ) → IsAscii line → IsAscii (line_text line)
-line_text_ascii line ascii = IsAscii-append _ (10 ∷ []) (IsAscii-append (32 ∷ 32 ∷ 32 ∷ 32 ∷ []) line blanks_ascii ascii) (one_ascii 10 (lit< tt))
+line_text_ascii line ascii = IsAscii-append ((32 ∷ 32 ∷ 32 ∷ 32 ∷ []) ++ line) (10 ∷ []) (IsAscii-append (32 ∷ 32 ∷ 32 ∷ 32 ∷ []) line blanks_ascii ascii) (one_ascii 10 (lit< tt))
 
 pub mark_text_ascii : (spot : Spot) → IsAscii spot.line → IsAscii (mark_text spot)
 mark_text_ascii spot ascii =
     let before = IsAscii-map pad (take (spot.place.column - 1) spot.line) pad_ascii (IsAscii-take spot.line (spot.place.column - 1) ascii) in
-    IsAscii-append _ (10 ∷ [])
-    (IsAscii-append _ (marks spot.width) (IsAscii-append (32 ∷ 32 ∷ 32 ∷ 32 ∷ []) (map pad (take (spot.place.column - 1) spot.line)) blanks_ascii before) (marks_ascii spot.width))
+    IsAscii-append (((32 ∷ 32 ∷ 32 ∷ 32 ∷ []) ++ map pad (take (spot.place.column - 1) spot.line)) ++ marks spot.width) (10 ∷ [])
+    (IsAscii-append ((32 ∷ 32 ∷ 32 ∷ 32 ∷ []) ++ map pad (take (spot.place.column - 1) spot.line)) (marks spot.width) (IsAscii-append (32 ∷ 32 ∷ 32 ∷ 32 ∷ []) (map pad (take (spot.place.column - 1) spot.line)) blanks_ascii before) (marks_ascii spot.width))
     (one_ascii 10 (lit< tt))
 
 pub either_ascii : (b : Bool) (xs ys : List ℕ) → IsAscii xs → IsAscii ys → IsAscii (if b then xs else ys)
