@@ -40,8 +40,8 @@ def lines_of(line, text, answers):
         case, _, wanted = one.partition(" => ")
         words = case.split()
         at = words.index(":")
-        if words[at + 1 : at + 2] == ["clauses"]:
-            continue  # of a formula, which the reference does not make
+        if words[at + 1 :] in (["found"], ["nothing"]) or words[at + 1 : at + 2] == ["clauses"]:
+            continue  # of a search, or of a formula, which the reference does not make
         yield one, wanted, ended(prog, bounds, name, [int(w) for w in words[:at]], words[at + 1 :])
 
 

@@ -62,18 +62,16 @@ fn count_lines(text: &[u8]) -> usize {
 
 // What stands behind so many lines.
 fn behind_lines(text: &[u8], count: usize) -> &[u8] {
-    let mut rest = text;
     let mut left = count;
-    while let [byte, after @ ..] = rest {
+    for (at, byte) in text.iter().enumerate() {
         if left == 0 {
-            return rest;
+            return &text[at..];
         }
         if *byte == b'\n' {
             left = left.saturating_sub(1);
         }
-        rest = after;
     }
-    rest
+    &[]
 }
 
 /// What becomes of a text: the message without its places, where no function is run.

@@ -606,11 +606,5 @@ module _ {words : List (List ℕ)} {r : Ending} {f : Effect} (a : Answers words 
       (for_exec_text (λ set job text. most_bytes < length text → EndsLong r f.read_faults_old f.read_faults_new) (λ set job text w. by_exec.ends_long_by set job r f text w))
 
 -- a call for a line `synth` without a certificate
-pub serves_synth : (l : Line) (set : Set) (budget : Budget) (r : Ending) (f : Effect) → l ≡ line.Synth set budget false → Synthesises set budget r f → Serves l r f
-serves_synth l set budget r f is s = subst (λ x. Serves x r f) (sym is) s
-
--- the same, where the parts of the line were taken out of it
-pub serves_synth_as : (l : Line) (set now : Set) (budget spent : Budget) (cert : Bool) (r : Ending) (f : Effect) → Synthesises now spent r f → l ≡ line.Synth set budget cert → cert ≡ false → now ≡ set → spent ≡ budget → Serves l r f
-serves_synth_as l set now budget spent cert r f s is off same_set same_budget =
-    let synth : l ≡ line.Synth now spent false = let a = is in let b = off in let d = same_set in let e = same_budget in cc in
-    serves_synth l now spent r f synth s
+pub serves_search : (set : Set) (budget : Budget) (cert : Bool) (r : Ending) (f : Effect) → cert ≡ false → Synthesises set budget r f → Serves (line.Synth set budget cert) r f
+serves_search set budget cert r f is s = subst (λ b. Serves (line.Synth set budget b) r f) (sym is) s

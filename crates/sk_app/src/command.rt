@@ -90,6 +90,33 @@ fn synth<S: Source, K: Sink>(
     }
 }
 
+/// Does what a line `synth` asks for.
+fn serve_synth<S: Source, K: Sink>(
+    alloc: Global,
+    set: Set,
+    budget: Budget,
+    cert: bool,
+    source: &mut S,
+    sink: &mut K,
+) -> Ending
+    requires { IsInRanges set }
+    ensures { Serves (line.Synth set budget cert) result (record {
+      left_old = S.left source.old;
+      left_new = S.left source.new;
+      read_faults_old = S.faults source.old;
+      read_faults_new = S.faults source.new;
+      held_old = K.held sink.old;
+      held_new = K.held sink.new;
+      write_faults_old = K.faults sink.old;
+      write_faults_new = K.faults sink.new;
+    }) }
+{
+    if cert {
+        return Ending::NotBuilt;
+    }
+    synth(alloc, &set, &budget, source, sink)
+}
+
 /// Does what a line asks for.
 fn serve<S: Source, K: Sink>(alloc: Global, line: Line, source: &mut S, sink: &mut K) -> Ending
     requires { LineIsInRanges line }
@@ -105,16 +132,7 @@ fn serve<S: Source, K: Sink>(alloc: Global, line: Line, source: &mut S, sink: &m
     }) }
 {
     match line {
-        Line::Synth {
-            set: _,
-            budget: _,
-            cert: true,
-        } => Ending::NotBuilt,
-        Line::Synth {
-            set,
-            budget,
-            cert: false,
-        } => synth(alloc, &set, &budget, source, sink),
+        Line::Synth { set, budget, cert } => serve_synth(alloc, set, budget, cert, source, sink),
         Line::Exec { set, name, values } => {
             let way = Way::Exec;
             run_source(alloc, &set, &Job { name, values, way }, source, sink)

@@ -4,9 +4,9 @@ ghost use Rattle.std.specs.Prelude.{◌≤◌, length};
 ghost use Rattle.sk_model.specs.Fill.{InRange};
 ghost use Rattle.sk_oblig.specs.Formulas.{IsAskable, IsAsked};
 
-use crate::sketch::{LONGEST, Source, set_of};
+use crate::sketch::{Source, expansion_in};
 use sk_base::Bounds;
-use sk_front::{Expansion, expansion_of};
+use sk_front::Expansion;
 use sk_holes::{FillFault, fill};
 use sk_model::{Choice, Expanded};
 use sk_oblig::formula;
@@ -74,18 +74,14 @@ fn counted(
 
 /// How many clauses the formula has that asks for an input that speaks against a choice: one of any obligation, or of the one
 /// with a number. There is nothing where the text means no sketch, and where the choice is not in range.
-#[tactic(auto, using(crate::proofs::Fillable::fillable))]
 pub fn clauses_of(
     alloc: Global,
     source: &Source<'_>,
     choice: Choice,
     obligation: Option<u32>,
 ) -> Result<Option<usize>, AllocError> {
-    if source.text.len() > LONGEST {
-        return Ok(None);
-    }
-    match expansion_of(alloc, &set_of(source), source.text) {
-        Ok(it) => counted(alloc, &it, choice, obligation),
-        Err(_) => Ok(None),
+    match expansion_in(alloc, source) {
+        Some(it) => counted(alloc, &it, choice, obligation),
+        None => Ok(None),
     }
 }

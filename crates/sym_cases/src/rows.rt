@@ -5,6 +5,7 @@ ghost use Rattle.std.specs.Prelude.{◌≤◌, IfSome};
 use crate::ending::ending_text;
 use crate::formulas::clauses_of;
 use crate::runs::{Subject, run_filled, run_over_nodes};
+use crate::sessions::{Searches, searches_of};
 use crate::sketch::{Sketch, Source, function_named, sketch_of};
 use row_files::{BlockRow, Row, first_line, first_section, words_of};
 use sk_base::{List, Name};
@@ -136,6 +137,30 @@ fn most_in(words: &[String]) -> Option<Most> {
             })
         }
         _ => None,
+    }
+}
+
+/// What the words of a line speak of that stand behind the values of the sites.
+#[derive(Clone, Copy)]
+enum Said {
+    /// How many clauses a formula has.
+    Formula(Most),
+    /// That searches find these values.
+    Found,
+    /// That they find that there are none.
+    Nothing,
+    /// A run on the arguments that the words spell.
+    Run,
+}
+
+fn said_in(words: &[String]) -> Said {
+    match words {
+        [word] if word.as_str() == "found" => Said::Found,
+        [word] if word.as_str() == "nothing" => Said::Nothing,
+        _ => match most_in(words) {
+            Some(most) => Said::Formula(most),
+            None => Said::Run,
+        },
     }
 }
 
@@ -297,6 +322,44 @@ fn judge_formula(
     }
 }
 
+// Tells what does not hold of what a line says.
+fn tell_false(out: &mut Vec<u8>, line: &[u8], who: &[u8], holds: bool) -> Result<(), AllocError> {
+    let came: &[u8] = if holds { b"so" } else { b"otherwise" };
+    tell(out, line, who, b"so", came)
+}
+
+// Tells what searches do otherwise than a line says.
+fn judge_found(line: &[u8], searches: Searches, out: &mut Vec<u8>) -> Result<(), AllocError> {
+    tell_false(out, line, b"first call of a session", searches.calls.first)?;
+    tell_false(
+        out,
+        line,
+        b"second call of a session",
+        searches.calls.second,
+    )?;
+    tell_false(
+        out,
+        line,
+        b"clauses of the first call first",
+        searches.calls.begins,
+    )?;
+    tell_false(out, line, b"search of its own", searches.alone)
+}
+
+// Tells where searches find something else than these values, or than that there are none.
+fn judge_searches(
+    alloc: Global,
+    source: &Source<'_>,
+    line: &[u8],
+    wanted: Option<&Choice>,
+    out: &mut Vec<u8>,
+) -> Result<(), AllocError> {
+    match searches_of(alloc, source, wanted)? {
+        None => tell(out, line, b"text", b"a sketch", b"none"),
+        Some(searches) => judge_found(line, searches, out),
+    }
+}
+
 // Tells what is wrong with a run under a choice on the arguments that words spell.
 fn judge_run_on(
     alloc: Global,
@@ -333,9 +396,12 @@ fn judge_choice(
     wanted: Option<&[u8]>,
     out: &mut Vec<u8>,
 ) -> Result<(), AllocError> {
-    match most_in(words) {
-        None => judge_run_on(alloc, subject, line, choice, words, wanted, out),
-        Some(most) => judge_formula(alloc, &subject.source, line, choice, most, out),
+    let source = &subject.source;
+    match said_in(words) {
+        Said::Formula(most) => judge_formula(alloc, source, line, choice, most, out),
+        Said::Found => judge_searches(alloc, source, line, Some(&choice), out),
+        Said::Nothing => judge_searches(alloc, source, line, None, out),
+        Said::Run => judge_run_on(alloc, subject, line, choice, words, wanted, out),
     }
 }
 

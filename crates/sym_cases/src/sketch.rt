@@ -1,12 +1,13 @@
 //! The sketch of a row.
 
-ghost use Rattle.std.specs.Prelude.{◌≡◌, ◌≤◌, length, IfOk, IsTrue};
+ghost use Rattle.std.specs.Prelude.{◌≡◌, ◌≤◌, length, IfSome, IsTrue};
 ghost use Rattle.sk_holes.specs.Needs.{are_narrow};
 ghost use Rattle.sk_model.specs.Sites.{sites};
+ghost use Rattle.sk_oblig.specs.Formulas.{IsAskable};
 ghost use Rattle.sk_opts.specs.Ranges.{IsInRanges};
 
 use sk_base::{Bounds, Name};
-use sk_front::expansion_of;
+use sk_front::{Expansion, expansion_of};
 use sk_model::Expanded;
 use sk_opts::Set;
 use sk_prog::FunId;
@@ -60,6 +61,21 @@ pub fn sketch_of(alloc: Global, source: &Source<'_>) -> Option<Sketch> {
             bounds: it.bounds,
             expanded: it.expanded,
         }),
+        Err(_) => None,
+    }
+}
+
+/// What a text expands to, of which queries can be put. There is nothing where it means no sketch.
+#[tactic(auto, using(crate::proofs::Fillable::fillable))]
+pub fn expansion_in(alloc: Global, source: &Source<'_>) -> Option<Expansion>
+    ensures askable { IfSome result (λ it. IsAskable it.expanded it.bounds) }
+    ensures few { IfSome result (λ it. length it.expanded.sites ≤ 4294967296) }
+{
+    if source.text.len() > LONGEST {
+        return None;
+    }
+    match expansion_of(alloc, &set_of(source), source.text) {
+        Ok(it) => Some(it),
         Err(_) => None,
     }
 }

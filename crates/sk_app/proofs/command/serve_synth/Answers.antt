@@ -1,0 +1,20 @@
+use Rattle.sk_app.proofs.EffectLaws.{serves_search}
+use Rattle.sk_app.proofs.command.serve_synth.Goals as goal
+
+pub returns : goal.returns
+returns g c =
+    let s = c.synth.ensures in
+    serves_search c.args.set c.args.budget c.args.cert c.synth.result _ c.if-cert.false (record {
+      ends = s.ends;
+      completed = s.completed;
+      none = s.none;
+      rounds = s.rounds;
+      conflicts = s.conflicts;
+      told = s.told;
+      place = s.place;
+      read_fault = s.read_fault;
+      write_fault = s.write_fault;
+      prefix = s.prefix;
+      kept = s.kept;
+      few = s.few;
+    })
