@@ -1,5 +1,5 @@
 -- What is written of an ending is ASCII where the text is.
-use Rattle.std.proofs.Common.{ℕ, zero, suc, ◌+◌, ◌-◌, ◌^◌, ◌<◌, ◌≤◌, ◌≡◌, Bool, true, false, List, [], ◌∷◌, ◌++◌, length, map, take, drop, replicate, count_by, Option, Some, None, subst, sym, arith, lit<, if◌then◌else◌, nat_le, cond}
+use Rattle.std.proofs.Common.{ℕ, zero, suc, ◌-◌, ◌^◌, ◌<◌, ◌≤◌, ◌≡◌, Bool, true, false, List, [], ◌∷◌, ◌++◌, length, map, take, drop, replicate, Option, Some, None, subst, sym, arith, lit<, if◌then◌else◌, nat_le}
 use Rattle.std.specs.Str.{IsAscii}
 use Rattle.std.specs.List.{list_all, slice_range}
 use Rattle.std.specs.Fmt.{decimal}
@@ -14,7 +14,7 @@ use Rattle.sk_app.specs.declared.ending.Ending.{Ending}
 use Rattle.sk_place.specs.declared.places.Place.{Place}
 use Rattle.sk_place.specs.declared.spots.Spot.{Spot}
 use Rattle.sk_place.specs.Lines.{is_feed, IsPlace, IsLineOf}
-use Rattle.sk_place.specs.Spots.{IsSpotOf, pad, marks, line_text, mark_text, excerpt_text, place_text, longest_shown}
+use Rattle.sk_place.specs.Spots.{pad, marks, line_text, mark_text, excerpt_text, place_text, longest_shown}
 use Rattle.sk_notes.specs.Notes.{is_note}
 use Rattle.sk_explain.specs.declared.explanation.Explanation.{Explanation}
 use Rattle.sk_explain.specs.Explained.{span_of, IsShown, IsSpot, IsExplanation, head_text, shown_text, title_text, layout, IsExplained}
