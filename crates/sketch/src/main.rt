@@ -3,8 +3,9 @@
 #![tactic(auto)]
 
 use sk_app::{Ending, StdSink, StdSource, message, run, status};
+use sk_explain::{KeptSource, explain};
 use std::env;
-use std::io::Write;
+use std::io::{IsTerminal, Write};
 use std::process::ExitCode;
 
 /// The status where the runtime does not give the words.
@@ -34,16 +35,40 @@ fn tell(rt: &HostRuntime, ending: &Ending) -> u8 {
     }
 }
 
+/// Whether lines for people are written: the environment variable `SKETCH_EXPLAIN` says so by `1` or `0`, and else they
+/// are where standard error is a terminal.
+fn is_explained(rt: &HostRuntime) -> bool {
+    match env::var(rt, "SKETCH_EXPLAIN") {
+        Ok(word) if word.as_str() == "1" => true,
+        Ok(word) if word.as_str() == "0" => false,
+        _ => rt.stderr().is_terminal(),
+    }
+}
+
+/// Writes the lines for people, where there was memory for the text that was read. They change nothing else: where they
+/// cannot be made or written, there are none.
+fn say_more(rt: &HostRuntime, words: &[String], text: Option<&[u8]>, ending: &Ending) {
+    if let Some(text) = text {
+        if let Ok(lines) = explain(rt.alloc(), words, text, ending) {
+            let _ = rt.stderr().write_all(lines.as_bytes());
+        }
+    }
+}
+
 fn main(rt: HostRuntime) -> ExitCode {
     let alloc = rt.alloc();
     let Ok(words) = words(&rt) else {
         say(&mut rt.stderr(), b"no words");
         return ExitCode::from(NO_WORDS);
     };
-    let mut source = StdSource::new(rt.stdin());
+    let mut source = KeptSource::new(alloc, StdSource::new(rt.stdin()));
     let mut sink = StdSink::new(rt.stdout());
     let ending = run(alloc, words.as_slice(), &mut source, &mut sink);
-    ExitCode::from(tell(&rt, &ending))
+    let told = tell(&rt, &ending);
+    if told == status(&ending) && is_explained(&rt) {
+        say_more(&rt, words.as_slice(), source.kept(), &ending);
+    }
+    ExitCode::from(told)
 }
 
 /// The words behind the program's own name.

@@ -1,0 +1,275 @@
+//! What there is to tell people of an ending.
+ghost use Rattle.std.specs.Prelude.{◌≡◌, ◌++◌, IfOk, OnOk};
+ghost use Rattle.sk_explain.specs.Explained.{point, lex_span, parse_span, some_span, span_of, IsShown, IsSpot, IsExplanation, head_text, shown_text, title_text, layout, IsExplained};
+
+use sk_app::{Ending, TextFault};
+use sk_base::{Name, Span};
+use sk_lexer::LexFault;
+use sk_notes::{Note, Told, tell_not_built, tell_words};
+use sk_parser::ParseFault;
+use sk_place::{Spot, push_excerpt, push_place, spot_of};
+use sk_told::{
+    push_passed_over, push_warnings, tell_failed, tell_none, tell_not_filled, tell_not_run,
+    tell_size, tell_skipped, tell_spent, tell_text, tell_type,
+};
+use std::alloc::{AllocError, Global};
+
+/// What there is to tell of an ending.
+#[derive(Debug, Drop)]
+pub struct Explanation {
+    /// Of a line, without its end. Nothing is told where it is empty.
+    pub title: Note,
+    /// The place that the ending names, where it names one of the text.
+    pub spot: Option<Spot>,
+    /// Lines.
+    pub notes: Note,
+}
+
+// The bytes from one byte on, none of them.
+fn point(at: u32) -> Option<Span>
+    ensures { result ≡ point at }
+{
+    Some(Span { from: at, to: at })
+}
+
+fn lex_span(fault: &LexFault) -> Option<Span>
+    ensures { result ≡ lex_span fault.now }
+{
+    match fault {
+        LexFault::BadByte { at } => point(*at),
+        LexFault::OpenComment { at } => point(*at),
+        LexFault::LiteralTooLarge { at } => point(*at),
+        LexFault::OpenString { at } => point(*at),
+        LexFault::Memory => None,
+    }
+}
+
+fn parse_span(fault: &ParseFault) -> Option<Span>
+    ensures { result ≡ parse_span fault.now }
+{
+    match fault {
+        ParseFault::NoReading { at } => point(*at),
+        ParseFault::BadAlternative { at } => point(*at),
+        ParseFault::TooManyStrings { at } => point(*at),
+        ParseFault::Memory => None,
+    }
+}
+
+// A span, where it is not that of what has none.
+fn some_span(span: Span) -> Option<Span>
+    ensures { result ≡ some_span span }
+{
+    if span.to == 0 { None } else { Some(span) }
+}
+
+// The bytes that an ending names.
+fn span_of(ending: &Ending) -> Option<Span>
+    ensures { result ≡ span_of ending.now }
+{
+    match ending {
+        Ending::NotText(TextFault::Lex(fault)) => lex_span(fault),
+        Ending::NotText(TextFault::Parse(fault)) => parse_span(fault),
+        Ending::NotTyped(fault) => some_span(fault.span),
+        Ending::ExecFailed { span } | Ending::ExecSkipped { span } => Some(*span),
+        Ending::Completed | Ending::NoCompletion | Ending::HelpShown | Ending::VersionShown => None,
+        Ending::SpentRounds { .. } | Ending::SpentConflicts { .. } | Ending::ExecDone => None,
+        Ending::NotALine | Ending::TooLarge(_) | Ending::NotRun(_) | Ending::NotFilled(_) => None,
+        Ending::NotBuilt
+        | Ending::ReadFault
+        | Ending::WriteFault
+        | Ending::TooLong
+        | Ending::Memory => None,
+    }
+}
+
+// What is shown of a span of a text.
+fn shown(alloc: Global, text: &[u8], span: Span) -> Result<Option<Spot>, AllocError>
+    ensures { IfOk result (IsShown text.now span) }
+{
+    let from = span.from as usize;
+    if from > text.len() {
+        return Ok(None);
+    }
+    let spot = spot_of(alloc, text, from, span.to as usize)?;
+    Ok(Some(spot))
+}
+
+// The place that an ending names in a text.
+fn named_spot(alloc: Global, text: &[u8], ending: &Ending) -> Result<Option<Spot>, AllocError>
+    ensures { IfOk result (IsSpot text.now (span_of ending.now)) }
+{
+    match span_of(ending) {
+        None => Ok(None),
+        Some(span) => {
+            let spot = shown(alloc, text, span)?;
+            Ok(spot)
+        }
+    }
+}
+
+// Tells of an ending for which a search is done.
+fn tell_search(
+    alloc: Global,
+    told: &mut Told,
+    text: &[u8],
+    ending: &Ending,
+) -> Result<(), AllocError> {
+    match ending {
+        Ending::NoCompletion => tell_none(told)?,
+        Ending::SpentRounds { pairs: _, best } => tell_spent(told, b"--rounds", best.is_some())?,
+        Ending::SpentConflicts { best, .. } => tell_spent(told, b"--conflicts", best.is_some())?,
+        _ => {}
+    }
+    push_warnings(alloc, told, text)
+}
+
+fn tell_memory(told: &mut Told) -> Result<(), AllocError> {
+    told.title(&[b"memory ran out, or something nests too deep"])?;
+    told.note(&[b"the calls of a run nest statements and expressions at most 4096 deep in all"])?;
+    told.note(&[b"the copies of generators inside one another nest them at most 768 deep"])
+}
+
+fn tell_too_long(told: &mut Told) -> Result<(), AllocError> {
+    told.title(&[b"the text has more than 1048576 bytes"])
+}
+
+// Tells of an ending that is no search.
+fn tell_refusal(
+    alloc: Global,
+    told: &mut Told,
+    words: &[String],
+    text: &[u8],
+    ending: &Ending,
+) -> Result<(), AllocError> {
+    match ending {
+        Ending::ExecFailed { span } => tell_failed(alloc, told, words, text, *span),
+        Ending::ExecSkipped { span: _ } => tell_skipped(told),
+        Ending::NotALine => tell_words(alloc, told, words),
+        Ending::NotText(fault) => tell_text(alloc, told, text, fault),
+        Ending::NotTyped(fault) => tell_type(alloc, told, words, text, fault),
+        Ending::TooLarge(reason) => tell_size(told, *reason),
+        Ending::NotRun(reason) => tell_not_run(alloc, told, words, text, *reason),
+        Ending::NotFilled(fault) => tell_not_filled(alloc, told, words, text, *fault),
+        Ending::ReadFault => told.title(&[b"standard input failed"]),
+        Ending::WriteFault => {
+            told.title(&[b"standard output failed; it may hold a part of the result"])
+        }
+        Ending::TooLong => tell_too_long(told),
+        Ending::Memory => tell_memory(told),
+        Ending::NotBuilt => tell_not_built(told, words),
+        Ending::ExecDone => push_passed_over(alloc, told, text),
+        Ending::Completed | Ending::NoCompletion | Ending::HelpShown => Ok(()),
+        Ending::SpentRounds { .. } | Ending::SpentConflicts { .. } | Ending::VersionShown => Ok(()),
+    }
+}
+
+// Whether an ending is one of a search.
+fn is_search(ending: &Ending) -> bool {
+    match ending {
+        Ending::Completed | Ending::NoCompletion => true,
+        Ending::SpentRounds { .. } | Ending::SpentConflicts { .. } => true,
+        Ending::HelpShown | Ending::VersionShown | Ending::ExecDone => false,
+        Ending::ExecFailed { .. } | Ending::ExecSkipped { .. } | Ending::NotALine => false,
+        Ending::NotText(_) | Ending::NotTyped(_) | Ending::TooLarge(_) => false,
+        Ending::NotRun(_) | Ending::NotFilled(_) | Ending::ReadFault => false,
+        Ending::WriteFault | Ending::TooLong | Ending::Memory | Ending::NotBuilt => false,
+    }
+}
+
+// What there is to tell, without its place.
+fn told_of(
+    alloc: Global,
+    words: &[String],
+    text: &[u8],
+    ending: &Ending,
+) -> Result<Told, AllocError> {
+    let mut told = Told::new(alloc);
+    if is_search(ending) {
+        tell_search(alloc, &mut told, text, ending)?;
+    } else {
+        tell_refusal(alloc, &mut told, words, text, ending)?;
+    }
+    Ok(told)
+}
+
+/// What there is to tell of an ending: of the words of a line and the text that was read, as `run` ended on them. The place
+/// that it shows is that of the bytes that the ending names.
+pub fn explanation_of(
+    alloc: Global,
+    words: &[String],
+    text: &[u8],
+    ending: &Ending,
+) -> Result<Explanation, AllocError>
+    ensures { IfOk result (IsExplanation text.now ending.now) }
+{
+    let Told { title, notes } = told_of(alloc, words, text, ending)?;
+    let spot = named_spot(alloc, text, ending)?;
+    Ok(Explanation { title, spot, notes })
+}
+
+// Appends the title as a line, behind its place.
+fn push_title(out: &mut Vec<u8>, spot: &Option<Spot>, title: &[u8]) -> Result<(), AllocError>
+    ensures { OnOk result (out.new.items ≡ out.old.items ++ title_text spot.now title.now) }
+{
+    if title.is_empty() {
+        return Ok(());
+    }
+    push_head(out, spot)?;
+    out.extend_from_slice(title)?;
+    out.push(b'\n')?;
+    Ok(())
+}
+
+// Appends the place in front of the title.
+fn push_head(out: &mut Vec<u8>, spot: &Option<Spot>) -> Result<(), AllocError>
+    ensures { OnOk result (out.new.items ≡ out.old.items ++ head_text spot.now) }
+{
+    match spot {
+        None => Ok(()),
+        Some(spot) => {
+            push_place(out, spot.place)?;
+            out.extend_from_slice(b": ")?;
+            Ok(())
+        }
+    }
+}
+
+// Appends the line of the place.
+fn push_shown(out: &mut Vec<u8>, spot: &Option<Spot>) -> Result<(), AllocError>
+    ensures { OnOk result (out.new.items ≡ out.old.items ++ shown_text spot.now) }
+{
+    match spot {
+        None => Ok(()),
+        Some(spot) => {
+            push_excerpt(out, spot)?;
+            Ok(())
+        }
+    }
+}
+
+/// How an explanation is written.
+pub fn written(alloc: Global, explanation: &Explanation) -> Result<Name, AllocError>
+    ensures { IfOk result (λ out. out ≡ layout explanation.now) }
+{
+    let mut out = Vec::new(alloc);
+    push_title(&mut out, &explanation.spot, explanation.title.as_bytes())?;
+    push_shown(&mut out, &explanation.spot)?;
+    out.extend_from_slice(explanation.notes.as_bytes())?;
+    Ok(Name::from_vec(out))
+}
+
+/// The lines that tell people of an ending: of the words of a line and the text that was read, as `run` ended on them. There
+/// are none where there is nothing to tell.
+#[tactic(auto, using(crate::proofs::AsciiLaws::explained))]
+pub fn explain(
+    alloc: Global,
+    words: &[String],
+    text: &[u8],
+    ending: &Ending,
+) -> Result<Name, AllocError>
+    ensures { IfOk result (IsExplained text.now ending.now) }
+{
+    let explanation = explanation_of(alloc, words, text, ending)?;
+    let out = written(alloc, &explanation)?;
+    Ok(out)
+}

@@ -1,0 +1,21 @@
+//! What there is to tell people of texts and runs that are refused, by the causes.
+#![tactic(auto)]
+
+mod calls;
+mod fillings;
+mod lines;
+mod pieces;
+mod reading;
+mod results;
+mod runs;
+mod searches;
+mod sizes;
+mod typing;
+
+pub use calls::tell_not_run;
+pub use fillings::tell_not_filled;
+pub use reading::tell_text;
+pub use runs::{tell_failed, tell_skipped};
+pub use searches::{push_passed_over, push_warnings, tell_none, tell_spent};
+pub use sizes::tell_size;
+pub use typing::tell_type;

@@ -1,0 +1,43 @@
+//! What a line asks for.
+ghost use Rattle.std.specs.Prelude.{◌≤◌, length};
+ghost use Rattle.sk_opts.specs.Ranges.{IsInRanges};
+
+use sk_front::{Expansion, SketchFault, expansion_of};
+use sk_opts::{Line, Set, Usage, options};
+use std::alloc::{AllocError, Global};
+
+/// The greatest number of bytes of a text.
+const MOST_BYTES: usize = 1_048_576;
+
+/// The line that words are, where they are one.
+pub fn line_of(alloc: Global, words: &[String]) -> Result<Option<Line>, AllocError> {
+    match options(alloc, words) {
+        Ok(line) => Ok(Some(line)),
+        Err(Usage::NotALine) => Ok(None),
+        Err(Usage::Memory) => Err(AllocError),
+    }
+}
+
+/// The bounds that the options of a line give, where it is one that takes a text.
+pub fn set_of(line: &Option<Line>) -> Option<Set> {
+    match line {
+        Some(Line::Synth { set, .. }) => Some(*set),
+        Some(Line::Exec { set, .. } | Line::Trace { set, .. }) => Some(*set),
+        Some(Line::Check { .. } | Line::Itself { .. } | Line::Help | Line::Version) => None,
+        None => None,
+    }
+}
+
+/// What a text expands to with these bounds, where it does.
+pub fn expanded(alloc: Global, set: &Set, text: &[u8]) -> Result<Option<Expansion>, AllocError>
+    requires { IsInRanges set.now }
+{
+    if text.len() > MOST_BYTES {
+        return Ok(None);
+    }
+    match expansion_of(alloc, set, text) {
+        Ok(expansion) => Ok(Some(expansion)),
+        Err(SketchFault::Memory) => Err(AllocError),
+        Err(_) => Ok(None),
+    }
+}
