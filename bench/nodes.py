@@ -9,9 +9,10 @@ FOLDER is made, where it is not there: a copy of the crates with one more, `node
 median.
 
 Three tables are printed: what a statement costs that is done so many times (nodes, nanoseconds, and these beside `exec`), over inputs and holes and with the
-choice given; what functions of examples/ make and take on constants; and what is made where a side of a branch, or the rest of a loop, is never run.
+choice given, and the greatest memory of that process, which has an address space of 6 GiB; what functions of examples/ make and take on constants; and what is made where a side of a branch, or the rest of a loop, is never run.
 """
 import os
+import resource
 import shutil
 import statistics
 import subprocess
@@ -20,6 +21,7 @@ import sys
 HERE = os.path.dirname(os.path.abspath(__file__))
 TOP = os.path.dirname(HERE)
 LIBRARIES = "sk_base sk_prog sk_model sk_sites sk_dag sk_arr sk_chosen sk_sym_state sk_sym sk_oblig sk_holes sk_interp sk_opts sk_front sk_meaning sqlite_items smallvec"
+ROOM = 6 << 30  # the address space of a run, in bytes
 PRAGMA = 'pragma options "--bnd-unroll-amnt 64 --bnd-inline-amnt 8";\n'
 HARNESS = "harness void main(int x) { }\n"
 LIST = "struct Node { int value; Node next; }\n"
@@ -113,18 +115,29 @@ def make_copy(folder):
     return bench
 
 
+def with_room():
+    resource.setrlimit(resource.RLIMIT_AS, (ROOM, ROOM))
+
+
 class Bench:
     def __init__(self, program, folder, runs):
-        self.program, self.folder, self.runs = program, folder, runs
+        self.program, self.folder, self.runs, self.memory = program, folder, runs, 0
 
     def measured(self, text, function="f"):
-        """Of each way its nodes, those that are no constants, and its time; of `exec` the time alone."""
+        """Of each way its nodes, those that are no constants, and its time; of `exec` the time alone. Nothing where memory is wanting."""
         path = f"{self.folder}/text.sk"
         with open(path, "w", encoding="utf-8") as file:
             file.write(text)
-        ran = subprocess.run([self.program, path, function, str(self.runs)], capture_output=True, text=True, check=True)
+        command = [self.program, path, function, str(self.runs)]
+        with subprocess.Popen(command, stdout=subprocess.PIPE, stderr=subprocess.DEVNULL, text=True, preexec_fn=with_room) as ran:
+            told = ran.stdout.read()
+            _, status, usage = os.wait4(ran.pid, 0)
+            ran.returncode = os.waitstatus_to_exitcode(status)
+        if ran.returncode != 0:
+            return None
+        self.memory = usage.ru_maxrss / 1024
         found = {}
-        for line in ran.stdout.splitlines():
+        for line in told.splitlines():
             way, *numbers = line.split()
             if way not in ("exec", "open", "given"):
                 sys.exit(f"{line}:\n{text}")
@@ -133,8 +146,11 @@ class Bench:
 
     def row(self, title, done, text):
         found = self.measured(text)
+        if found is None:
+            print(f"{title} | {done} | no memory", flush=True)
+            return
         parts = [f"{found[way][0] / done:.2f} nodes, {found[way][2] / done:.0f} ns, {found[way][2] / found['exec'][0]:.1f}" for way in ("open", "given")]
-        print(f"{title} | {done} | {' | '.join(parts)}", flush=True)
+        print(f"{title} | {done} | {' | '.join(parts)} | {self.memory:.0f}", flush=True)
 
 
 def main(folder, runs="5"):
@@ -147,12 +163,12 @@ def main(folder, runs="5"):
         sys.exit(built.stdout[-3000:] + built.stderr[-3000:])
     bench = Bench(f"{place}/out/node_bench", folder, int(runs))
     print("load", open("/proc/loadavg", encoding="utf-8").read().split()[0])
-    print("statement | done | over inputs and holes: nodes, ns each, beside exec | with the choice given")
+    print("statement | done | over inputs and holes: nodes, ns each, beside exec | with the choice given | MiB")
     for title, inner in SCALARS.items():
         for done, turns in TIMES.items():
             bench.row(title, done, PRAGMA + HARNESS + loops(turns, inner))
     for title, inner in ARRAYS.items():
-        for done, turns in list(TIMES.items())[:4]:
+        for done, turns in TIMES.items():
             bench.row(title, done, PRAGMA + HARNESS + loops(turns, inner, "int[64] a;"))
     for title, built in BUILT.items():
         for done, (a, b, c) in TIMES.items():
@@ -161,6 +177,8 @@ def main(folder, runs="5"):
     for name, many in CONSTANTS.items():
         with open(f"{TOP}/examples/{name}", encoding="utf-8") as file:
             found = bench.measured(PRAGMA + HARNESS + file.read() + many, "many")
+        if found is None:
+            sys.exit(f"{name}: no memory")
         print(f"{name} | {found['exec'][0]:.0f} | {found['given'][0]:.0f} nodes, {found['given'][1]:.0f}, {found['given'][2] / found['exec'][0]:.1f}")
     print("branch | nodes with the choice given, and of them no constants")
     for title, inner in BRANCHES.items():
