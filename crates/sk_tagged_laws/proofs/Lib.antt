@@ -1,0 +1,4 @@
+pub mod Follow
+pub mod Exprs
+pub mod Stmts
+pub mod Filled
