@@ -23,7 +23,7 @@ usage_text =
     ++ codes "  --conflicts        0 to 1000000000, else 0  clauses learnt in one call; 0 is no limit\n"
     ++ codes "  --holes            N,N.., else none         what trace puts in for the sites, as in a line //@ holes\n"
 
--- the statuses with which it ends
+-- the statuses with which it ends, and who gets lines for people
 abbrev pub statuses_text : List ℕ
 statuses_text =
     codes "\n"
@@ -46,6 +46,9 @@ statuses_text =
     ++ codes "  18  the function cannot be run\n"
     ++ codes "  20  not built: a line with check, self or --cert\n"
     ++ codes "  22  the numbers of --holes do not fill the sketch\n"
+    ++ codes "\n"
+    ++ codes "SKETCH_EXPLAIN=1 writes more lines for people to standard error behind the message, =0 none;\n"
+    ++ codes "else they are written where standard error is a terminal.\n"
 
 abbrev pub help_text : List ℕ
 help_text = usage_text ++ statuses_text

@@ -30,7 +30,7 @@ An option is --name N or --name=N, and stands once.
 "
 }
 
-/// The statuses with which it ends.
+/// The statuses with which it ends, and who gets lines for people.
 fn statuses() -> &'static [u8]
     ensures { result.now ≡ statuses_text }
 {
@@ -54,6 +54,9 @@ It ends with one of these, and from 10 on says more on standard error.
   18  the function cannot be run
   20  not built: a line with check, self or --cert
   22  the numbers of --holes do not fill the sketch
+
+SKETCH_EXPLAIN=1 writes more lines for people to standard error behind the message, =0 none;
+else they are written where standard error is a terminal.
 "
 }
 
