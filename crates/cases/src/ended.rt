@@ -1,9 +1,9 @@
 //! How a line ends on a text in memory.
 use crate::halting::Halting;
 use crate::settings::{Settings, Stream};
-use row_files::words_of;
+use row_files::{head_of, words_of};
 use sk_app::{Ending, StdSink, StdSource, message, run, status};
-use sk_base::{List, MemSink, MemSource, push_number};
+use sk_base::{List, MemSink, MemSource};
 use std::alloc::{AllocError, Global};
 
 /// How a line ended, and what it wrote.
@@ -69,15 +69,4 @@ fn told(alloc: Global, ending: &Ending, output: Vec<u8>) -> Result<Ended, AllocE
     let message = message(alloc, ending)?;
     let head = head_of(alloc, status(ending), message.as_bytes())?;
     Ok(Ended { head, output })
-}
-
-/// A status, and behind a blank the message where there is one.
-pub fn head_of(alloc: Global, status: u8, message: &[u8]) -> Result<Vec<u8>, AllocError> {
-    let mut head = Vec::new(alloc);
-    push_number(&mut head, u64::from(status))?;
-    if !message.is_empty() {
-        head.push(b' ')?;
-        head.extend_from_slice(message)?;
-    }
-    Ok(head)
 }

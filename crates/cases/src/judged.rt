@@ -1,30 +1,26 @@
 //! Rows beside how their lines end.
-use crate::ended::{Ended, head_of, run_line};
+use crate::ended::{Ended, run_line};
 use crate::settings::{Settings, calm_settings, settings_of};
 use row_files::{
-    BlockRow, FirstLine, LineRow, Row, Section, first_line, first_section, placed, unmark,
+    BlockRow, FirstLine, Judge, LineRow, Row, Section, first_line, first_section, head_of, joined,
+    no_row, placed, unmark,
 };
 use std::alloc::{AllocError, Global};
 
-/// What is to be told of a row that does not end as it says.
-pub fn judge(alloc: Global, row: &Row<'_>) -> Result<Option<Vec<u8>>, AllocError> {
-    match row {
-        Row::Line(row) => judge_line(alloc, row),
-        Row::Block(row) => judge_block(alloc, row),
-        Row::Unreadable(line) => {
-            let report = lines(alloc, &[b"no row: ", line, b"\n"])?;
-            Ok(Some(report))
+/// Rows say how their lines end.
+pub struct Cases;
+
+impl Judge for Cases {
+    fn judge(&self, alloc: Global, row: &Row<'_>) -> Result<Option<Vec<u8>>, AllocError> {
+        match row {
+            Row::Line(row) => judge_line(alloc, row),
+            Row::Block(row) => judge_block(alloc, row),
+            Row::Unreadable(line) => {
+                let report = no_row(alloc, line)?;
+                Ok(Some(report))
+            }
         }
     }
-}
-
-// Bytes one after another.
-fn lines(alloc: Global, parts: &[&[u8]]) -> Result<Vec<u8>, AllocError> {
-    let mut all = Vec::new(alloc);
-    for part in parts {
-        all.extend_from_slice(*part)?;
-    }
-    Ok(all)
 }
 
 // The status of the endings with this message.
@@ -79,7 +75,7 @@ fn judge_line(alloc: Global, row: &LineRow<'_>) -> Result<Option<Vec<u8>>, Alloc
 fn line_report(alloc: Global, row: &LineRow<'_>, came: &Ended) -> Result<Vec<u8>, AllocError> {
     let head = came.head.as_slice();
     let output = came.output.as_slice();
-    lines(
+    joined(
         alloc,
         &[
             row.around.words,
@@ -98,11 +94,11 @@ fn line_report(alloc: Global, row: &LineRow<'_>, came: &Ended) -> Result<Vec<u8>
 // A row in a block: its line ends as one of the answers says.
 fn judge_block(alloc: Global, row: &BlockRow<'_>) -> Result<Option<Vec<u8>>, AllocError> {
     let Some(FirstLine { line, rest }) = first_line(row.settings) else {
-        let report = lines(alloc, &[row.title, b"\nno line\n"])?;
+        let report = joined(alloc, &[row.title, b"\nno line\n"])?;
         return Ok(Some(report));
     };
     let Some(settings) = settings_of(alloc, rest)? else {
-        let report = lines(alloc, &[row.title, b"\nno setting\n"])?;
+        let report = joined(alloc, &[row.title, b"\nno setting\n"])?;
         return Ok(Some(report));
     };
     judge_run(alloc, row, line, settings)
@@ -185,22 +181,8 @@ fn is_answer(
 fn block_report(
     alloc: Global,
     row: &BlockRow<'_>,
-    what: &[u8],
+    word: &[u8],
     came: &Ended,
 ) -> Result<Vec<u8>, AllocError> {
-    let head = came.head.as_slice();
-    let output = came.output.as_slice();
-    lines(
-        alloc,
-        &[
-            b"=== ",
-            row.title,
-            b"\n",
-            row.answers,
-            what,
-            head,
-            b"\n",
-            output,
-        ],
-    )
+    row.report(alloc, word, came.head.as_slice(), came.output.as_slice())
 }

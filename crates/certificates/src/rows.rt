@@ -1,17 +1,8 @@
 // Judging of rows.
 use crate::tally::Tally;
 use crate::ways::{Way, changed, way_of};
-use row_files::{BlockRow, Row, first_line, first_section};
+use row_files::{BlockRow, Judge, Row, first_line, first_section, titled};
 use std::alloc::{AllocError, Global};
-
-// What is to be told of a row that is wrong.
-fn report(alloc: Global, title: &[u8], came: &[u8]) -> Result<Vec<u8>, AllocError> {
-    let mut out = Vec::from_slice(alloc, b"=== ")?;
-    out.extend_from_slice(title)?;
-    out.push(b'\n')?;
-    out.extend_from_slice(came)?;
-    Ok(out)
-}
 
 // The ends of the fronts of a text.
 fn fronts(tally: &mut Tally, text: &[u8]) -> Result<(), AllocError> {
@@ -50,23 +41,27 @@ fn ends(alloc: Global, way: Way, text: &[u8]) -> Result<Vec<u8>, AllocError> {
 
 fn judge_block(alloc: Global, row: &BlockRow) -> Result<Option<Vec<u8>>, AllocError> {
     let Some(way) = way_of(row.settings) else {
-        return Ok(Some(report(alloc, row.title, b"no settings\n")?));
+        return Ok(Some(titled(alloc, row.title, b"no settings\n")?));
     };
     let Some(wanted) = first_section(row.answers) else {
-        return Ok(Some(report(alloc, row.title, b"no answer\n")?));
+        return Ok(Some(titled(alloc, row.title, b"no answer\n")?));
     };
     let came = ends(alloc, way, row.text.body)?;
     if came.as_slice() == wanted.section.body {
         return Ok(None);
     }
-    Ok(Some(report(alloc, row.title, came.as_slice())?))
+    Ok(Some(titled(alloc, row.title, came.as_slice())?))
 }
 
-/// What is to be told of a row, if its texts do not end as it says.
-pub fn judge(alloc: Global, row: &Row) -> Result<Option<Vec<u8>>, AllocError> {
-    match row {
-        Row::Block(row) => judge_block(alloc, row),
-        Row::Line(row) => Ok(Some(report(alloc, row.text, b"no block\n")?)),
-        Row::Unreadable(line) => Ok(Some(report(alloc, line, b"unreadable\n")?)),
+/// Rows say how texts end that are read as certificates.
+pub struct Certificates;
+
+impl Judge for Certificates {
+    fn judge(&self, alloc: Global, row: &Row<'_>) -> Result<Option<Vec<u8>>, AllocError> {
+        match row {
+            Row::Block(row) => judge_block(alloc, row),
+            Row::Line(row) => Ok(Some(titled(alloc, row.text, b"no block\n")?)),
+            Row::Unreadable(line) => Ok(Some(titled(alloc, line, b"unreadable\n")?)),
+        }
     }
 }

@@ -1,8 +1,8 @@
 //! What is told of how a line ends on a text in memory.
 use crate::settings::Settings;
-use row_files::words_of;
+use row_files::{head_of, words_of};
 use sk_app::{message, run, status};
-use sk_base::{List, MemSink, MemSource, Name, push_number};
+use sk_base::{List, MemSink, MemSource, Name};
 use sk_explain::{KeptSource, explain};
 use std::alloc::{AllocError, Global};
 
@@ -43,15 +43,4 @@ pub fn run_line(
     };
     let told = explain(alloc, words.as_slice(), kept, &ending)?;
     Ok(Ended { head, told })
-}
-
-// A status, and behind a blank the message where there is one.
-fn head_of(alloc: Global, status: u8, message: &[u8]) -> Result<Vec<u8>, AllocError> {
-    let mut head = Vec::new(alloc);
-    push_number(&mut head, u64::from(status))?;
-    if !message.is_empty() {
-        head.push(b' ')?;
-        head.extend_from_slice(message)?;
-    }
-    Ok(head)
 }

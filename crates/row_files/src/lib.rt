@@ -9,16 +9,22 @@
 //! `#` say nothing.
 //!
 //! Marks of places: a text may have a range between `«` and `»`, and is read without these two.
+//!
+//! A program of rows is a `Judge` with a call of `judge_files`, and tells of wrong rows by what `reports` has.
 #![tactic(auto)]
 
+mod judging;
 mod lines;
 mod places;
+mod reports;
 mod rows;
 mod sections;
 mod words;
 
+pub use judging::{Judge, judge_files};
 pub use lines::{FirstLine, first_line};
 pub use places::{Unmarked, placed, unmark};
+pub use reports::{head_of, joined, no_row, titled};
 pub use rows::{Around, BlockRow, LineRow, Row, read_rows};
 pub use sections::{FirstSection, Section, first_section};
 pub use words::words_of;

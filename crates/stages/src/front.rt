@@ -6,7 +6,7 @@ use sk_parser::parse;
 use sk_prog::Prog;
 use sk_program::check;
 use sk_tree::{Token, Tree};
-use std::alloc::{AllocError, Global};
+use std::alloc::Global;
 
 /// The longest text that is divided into tokens, in bytes.
 const LONGEST: usize = 1_048_576;
@@ -40,13 +40,4 @@ pub fn meant(alloc: Global, tree: &Tree, bounds: &Bounds) -> Result<Prog, Fault>
 pub fn program_of(alloc: Global, text: &[u8], bounds: &Bounds) -> Result<Prog, Fault> {
     let tree = tree_of(alloc, text)?;
     meant(alloc, &tree, bounds)
-}
-
-/// Parts in a row.
-pub fn joined(alloc: Global, parts: &[&[u8]]) -> Result<Vec<u8>, AllocError> {
-    let mut whole = Vec::new(alloc);
-    for part in parts {
-        whole.extend_from_slice(*part)?;
-    }
-    Ok(whole)
 }

@@ -17,77 +17,74 @@ mod typing;
 mod written;
 
 use crate::written::written;
-use row_files::{BlockRow, LineRow, Row, first_line, first_section, read_rows};
+use row_files::{BlockRow, Judge, LineRow, Row, first_line, first_section, joined, judge_files};
+use std::alloc::{AllocError, Global};
+use std::io;
 use std::process::ExitCode;
-use std::{env, fs, io};
 
-// The bytes as text, to be printed.
-fn readable<'a>(bytes: &'a [u8]) -> &'a str {
-    str::from_utf8(bytes).unwrap_or("(no UTF-8)\n")
+// The bytes as text, to be shown.
+fn readable<'a>(bytes: &'a [u8]) -> &'a [u8] {
+    match str::from_utf8(bytes) {
+        Ok(_) => bytes,
+        Err(_) => b"(no UTF-8)\n",
+    }
 }
 
-// Whether what came is what was wanted; where it is not, both are printed below the title.
-fn compare(rt: &HostRuntime, title: &[u8], wanted: &[u8], found: &[u8]) -> io::Result<bool> {
+// What is to be told below the title where what came is not what was wanted.
+fn compare(
+    alloc: Global,
+    title: &[u8],
+    wanted: &[u8],
+    found: &[u8],
+) -> Result<Option<Vec<u8>>, AllocError> {
     if found == wanted {
-        return Ok(true);
+        return Ok(None);
     }
     let title = readable(title);
     let wanted = readable(wanted);
     let found = readable(found);
-    println!(rt; "{title}\nwanted:\n{wanted}came:\n{found}")?;
-    Ok(false)
+    let report = joined(
+        alloc,
+        &[title, b"\nwanted:\n", wanted, b"came:\n", found, b"\n"],
+    )?;
+    Ok(Some(report))
 }
 
 // A row in one line wants a line.
-fn line_holds(rt: &HostRuntime, row: &LineRow) -> io::Result<bool> {
-    let mut wanted = Vec::from_slice(rt.alloc(), row.wanted)?;
+fn judge_line(alloc: Global, row: &LineRow<'_>) -> Result<Option<Vec<u8>>, AllocError> {
+    let mut wanted = Vec::from_slice(alloc, row.wanted)?;
     wanted.push(b'\n')?;
-    let text = row.whole(rt.alloc())?;
-    let found = written(rt.alloc(), row.around.words, text.as_slice())?;
-    compare(rt, row.text, wanted.as_slice(), found.as_slice())
+    let text = row.whole(alloc)?;
+    let found = written(alloc, row.around.words, text.as_slice())?;
+    compare(alloc, row.text, wanted.as_slice(), found.as_slice())
 }
 
-fn block_holds(rt: &HostRuntime, row: &BlockRow) -> io::Result<bool> {
+fn judge_block(alloc: Global, row: &BlockRow<'_>) -> Result<Option<Vec<u8>>, AllocError> {
     let Some(settings) = first_line(row.settings) else {
-        return compare(rt, row.title, b"words\n", b"none\n");
+        return compare(alloc, row.title, b"words\n", b"none\n");
     };
     let Some(answer) = first_section(row.answers) else {
-        return compare(rt, row.title, b"an answer\n", b"none\n");
+        return compare(alloc, row.title, b"an answer\n", b"none\n");
     };
-    let found = written(rt.alloc(), settings.line, row.text.body)?;
-    compare(rt, row.title, answer.section.body, found.as_slice())
+    let found = written(alloc, settings.line, row.text.body)?;
+    compare(alloc, row.title, answer.section.body, found.as_slice())
 }
 
-fn holds(rt: &HostRuntime, row: &Row) -> io::Result<bool> {
-    match row {
-        Row::Line(row) => line_holds(rt, row),
-        Row::Block(row) => block_holds(rt, row),
-        Row::Unreadable(line) => compare(rt, line, b"a row\n", b"none\n"),
-    }
-}
+// Rows say what stages write of texts.
+struct Stages;
 
-// Whether all rows of a file hold.
-fn all_hold(rt: &HostRuntime, path: &str) -> io::Result<bool> {
-    let bytes = fs::read(rt, path)?;
-    let rows = read_rows(rt.alloc(), bytes.as_slice())?;
-    let mut all = true;
-    for row in rows.as_slice() {
-        if !holds(rt, row)? {
-            all = false;
+impl Judge for Stages {
+    fn judge(&self, alloc: Global, row: &Row<'_>) -> Result<Option<Vec<u8>>, AllocError> {
+        match row {
+            Row::Line(row) => judge_line(alloc, row),
+            Row::Block(row) => judge_block(alloc, row),
+            Row::Unreadable(line) => compare(alloc, line, b"a row\n", b"none\n"),
         }
     }
-    let count = rows.len();
-    println!(rt; "{path}: {count} rows")?;
-    Ok(all)
 }
 
 fn main(rt: HostRuntime) -> io::Result<ExitCode> {
-    let mut all = true;
-    for path in env::args(&rt)?.skip(1) {
-        if !all_hold(&rt, path.as_str())? {
-            all = false;
-        }
-    }
-    let status = if all { 0 } else { 1 };
+    let wrong = judge_files(&rt, &Stages)?;
+    let status = if wrong == 0 { 0 } else { 1 };
     Ok(ExitCode::from(status))
 }

@@ -1,10 +1,11 @@
 //! Stages of reading: tokens, trees, strings of patterns, spellings and plain trees.
 use crate::fault::Fault;
-use crate::front::{joined, tokens_of, tree_of};
+use crate::front::{tokens_of, tree_of};
 use crate::shown_expr::push_expr;
 use crate::shown_item::push_tree;
 use crate::shown_stmt::push_block;
 use crate::spelled::push_kind;
+use row_files::joined;
 use sk_base::{Span, push_number};
 use sk_plain::{plain, unsteady_step};
 use sk_spell::{spell, strings};

@@ -1,6 +1,7 @@
 //! Stages of typing: where expressions can stand, which rules are broken, and how programs are laid out.
 use crate::fault::Fault;
-use crate::front::{joined, meant, program_of};
+use crate::front::{meant, program_of};
+use row_files::joined;
 use sk_base::{Bounds, List, Name, Span};
 use sk_print::print;
 use sk_tree::{EForm, Expr, Item, Tree};

@@ -16,35 +16,13 @@ mod runs;
 mod sessions;
 mod sketch;
 
-use crate::rows::judge;
-use row_files::read_rows;
-use std::io::{self, Write};
+use crate::rows::Runs;
+use row_files::judge_files;
+use std::io;
 use std::process::ExitCode;
-use std::{env, fs};
-
-// Whether all rows of a file hold.
-fn all_hold(rt: &HostRuntime, path: &str) -> io::Result<bool> {
-    let file = fs::read(rt, path)?;
-    let rows = read_rows(rt.alloc(), file.as_slice())?;
-    let mut all = true;
-    for row in rows.iter() {
-        if let Some(report) = judge(rt.alloc(), row)? {
-            rt.stdout().write_all(report.as_slice())?;
-            all = false;
-        }
-    }
-    let count = rows.len();
-    println!(rt; "{path}: {count} rows")?;
-    Ok(all)
-}
 
 fn main(rt: HostRuntime) -> io::Result<ExitCode> {
-    let mut all = true;
-    for path in env::args(&rt)?.skip(1) {
-        if !all_hold(&rt, path.as_str())? {
-            all = false;
-        }
-    }
-    let status = if all { 0 } else { 1 };
+    let wrong = judge_files(&rt, &Runs)?;
+    let status = if wrong == 0 { 0 } else { 1 };
     Ok(ExitCode::from(status))
 }

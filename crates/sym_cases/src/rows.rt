@@ -7,7 +7,7 @@ use crate::formulas::clauses_of;
 use crate::runs::{Subject, run_filled, run_over_nodes};
 use crate::sessions::{Searches, searches_of};
 use crate::sketch::{Sketch, Source, function_named, sketch_of};
-use row_files::{BlockRow, Row, first_line, first_section, words_of};
+use row_files::{BlockRow, Judge, Row, first_line, first_section, titled, words_of};
 use sk_base::{List, Name};
 use sk_model::Choice;
 use sk_prog::Value;
@@ -515,25 +515,25 @@ fn judge_block(alloc: Global, row: &BlockRow) -> Result<Vec<u8>, AllocError> {
 }
 
 // What is told below a title, if anything is.
-fn titled(alloc: Global, title: &[u8], told: &[u8]) -> Result<Option<Vec<u8>>, AllocError> {
+fn told_below(alloc: Global, title: &[u8], told: &[u8]) -> Result<Option<Vec<u8>>, AllocError> {
     if told.is_empty() {
         return Ok(None);
     }
-    let mut out = Vec::from_slice(alloc, b"=== ")?;
-    for part in [title, b"\n", told] {
-        out.extend_from_slice(part)?;
-    }
-    Ok(Some(out))
+    Ok(Some(titled(alloc, title, told)?))
 }
 
-/// What is to be told of a row, if something is wrong with it.
-pub fn judge(alloc: Global, row: &Row) -> Result<Option<Vec<u8>>, AllocError> {
-    match row {
-        Row::Block(row) => {
-            let told = judge_block(alloc, row)?;
-            titled(alloc, row.title, told.as_slice())
+/// Rows say how functions of sketches run.
+pub struct Runs;
+
+impl Judge for Runs {
+    fn judge(&self, alloc: Global, row: &Row<'_>) -> Result<Option<Vec<u8>>, AllocError> {
+        match row {
+            Row::Block(row) => {
+                let told = judge_block(alloc, row)?;
+                told_below(alloc, row.title, told.as_slice())
+            }
+            Row::Line(row) => told_below(alloc, row.text, b"no block\n"),
+            Row::Unreadable(line) => told_below(alloc, line, b"unreadable\n"),
         }
-        Row::Line(row) => titled(alloc, row.text, b"no block\n"),
-        Row::Unreadable(line) => titled(alloc, line, b"unreadable\n"),
     }
 }
