@@ -10,6 +10,7 @@ mod results;
 mod runs;
 mod searches;
 mod sizes;
+mod strings;
 mod typing;
 
 pub use calls::tell_not_run;

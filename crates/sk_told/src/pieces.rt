@@ -21,6 +21,14 @@ pub fn tokens_of(alloc: Global, text: &[u8]) -> Result<Option<List<Token>>, Allo
     }
 }
 
+/// The tokens of a text; none where it has none.
+pub fn some_tokens(alloc: Global, text: &[u8]) -> Result<List<Token>, AllocError> {
+    match tokens_of(alloc, text)? {
+        Some(tokens) => Ok(tokens),
+        None => Ok(List::new(alloc)),
+    }
+}
+
 /// The bytes of a span; none where it does not lie in the text.
 pub fn bytes_of(text: &[u8], span: Span) -> &[u8] {
     match text.get(span.from as usize..span.to as usize) {
@@ -29,14 +37,21 @@ pub fn bytes_of(text: &[u8], span: Span) -> &[u8] {
     }
 }
 
+/// The tokens from the first on that begins at a byte, or behind it.
+pub fn tokens_from(tokens: &[Token], byte: u32) -> &[Token] {
+    let mut rest = tokens;
+    while let [first, behind @ ..] = rest {
+        if byte <= first.span.from {
+            break;
+        }
+        rest = behind;
+    }
+    rest
+}
+
 /// The first token that begins at a byte, or behind it.
 pub fn token_from(tokens: &[Token], byte: u32) -> Option<&Token> {
-    for token in tokens {
-        if byte <= token.span.from {
-            return Some(token);
-        }
-    }
-    None
+    tokens_from(tokens, byte).first()
 }
 
 /// How many tokens begin before a byte.

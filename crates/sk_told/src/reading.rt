@@ -1,6 +1,6 @@
 //! Texts that have no tokens, or read as no tree.
-use crate::pieces::{bytes_of, is_mark, token_from, tokens_before, tokens_of};
-use sk_base::List;
+use crate::pieces::{bytes_of, is_mark, some_tokens, token_from, tokens_before, tokens_of};
+use crate::strings::{MOST_COUNTED, strings_at};
 use sk_front::TextFault;
 use sk_lexer::LexFault;
 use sk_notes::Told;
@@ -213,10 +213,7 @@ fn push_depth(told: &mut Told, tokens: &[Token], at: u32) -> Result<(), AllocErr
 }
 
 fn tell_no_reading(alloc: Global, told: &mut Told, text: &[u8], at: u32) -> Result<(), AllocError> {
-    let tokens = match tokens_of(alloc, text)? {
-        Some(tokens) => tokens,
-        None => List::new(alloc),
-    };
+    let tokens = some_tokens(alloc, text)?;
     let token = token_from(tokens.as_slice(), at);
     push_no_reading(told, text, token)?;
     let found = helpful(alloc, text, at as usize)?;
@@ -228,6 +225,30 @@ fn tell_no_reading(alloc: Global, told: &mut Told, text: &[u8], at: u32) -> Resu
         Some(_) => Ok(()),
         None => push_open(told, text, tokens.as_slice()),
     }
+}
+
+// Appends how many strings a pattern has.
+fn push_strings(told: &mut Told, count: Option<u64>) -> Result<(), AllocError> {
+    match count {
+        Some(MOST_COUNTED) => {
+            told.title(&[b"more than "])?;
+            told.title.number(MOST_COUNTED - 1)
+        }
+        Some(count) => told.title.number(count),
+        None => told.title(&[b"too many"]),
+    }
+}
+
+// Tells how many strings a pattern has that has too many.
+fn tell_strings(alloc: Global, told: &mut Told, text: &[u8], at: u32) -> Result<(), AllocError> {
+    let tokens = some_tokens(alloc, text)?;
+    let count = strings_at(alloc, tokens.as_slice(), at)?;
+    told.title(&[b"the pattern has "])?;
+    push_strings(told, count)?;
+    told.title(&[b" strings, and 128 is the most"])?;
+    told.note(&[
+        b"a sequence has the product of the numbers of its parts, a choice the sum, a part with ? one more",
+    ])
 }
 
 /// Tells why the tokens of a text read as no tree. Want of memory has an ending of its own.
@@ -243,12 +264,7 @@ pub fn tell_parse(
             told.title(&[b"a string of the pattern reads as no expression"])?;
             told.note(&[b"a string has no call, no new, no ??(n), no ?: and no parentheses"])
         }
-        ParseFault::TooManyStrings { at: _ } => {
-            told.title(&[b"the pattern has more than 128 strings"])?;
-            told.note(&[
-                b"a sequence has the product of the numbers of its parts, a choice the sum",
-            ])
-        }
+        ParseFault::TooManyStrings { at } => tell_strings(alloc, told, text, *at),
         ParseFault::Memory => told.title(&[b"out of memory"]),
     }
 }

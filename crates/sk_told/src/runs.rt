@@ -1,7 +1,7 @@
 //! Runs that failed or were skipped.
 use crate::lines::expanded;
-use crate::pieces::{is_key, is_mark, is_word, tokens_of};
-use sk_base::{Bounds, List, Span};
+use crate::pieces::{is_key, is_mark, is_word, some_tokens};
+use sk_base::{Bounds, Span};
 use sk_notes::Told;
 use sk_opts::{Line, Usage, options};
 use sk_tree::{Key, Mark, Token};
@@ -238,10 +238,7 @@ pub fn tell_failed(
     text: &[u8],
     span: Span,
 ) -> Result<(), AllocError> {
-    let tokens = match tokens_of(alloc, text)? {
-        Some(tokens) => tokens,
-        None => List::new(alloc),
-    };
+    let tokens = some_tokens(alloc, text)?;
     let bounds = bounds_of(alloc, words, text)?;
     let tokens = tokens_in(tokens.as_slice(), span);
     let form = form_of(tokens.first());

@@ -1,7 +1,6 @@
 //! Searches that ended: what was asked, and what of the pragmas was passed over.
-use crate::pieces::{has_key, is_key, tokens_of};
+use crate::pieces::{has_key, is_key, some_tokens};
 use crate::results::push_unreturned;
-use sk_base::List;
 use sk_notes::{CHOICES, Choice, Range, Told, nearest};
 use sk_place::place_of;
 use sk_tree::{Key, Kind, Token};
@@ -146,14 +145,6 @@ fn push_pragmas(
         }
     }
     Ok(())
-}
-
-// The tokens of a text; none where it has none.
-fn some_tokens(alloc: Global, text: &[u8]) -> Result<List<Token>, AllocError> {
-    match tokens_of(alloc, text)? {
-        Some(tokens) => Ok(tokens),
-        None => Ok(List::new(alloc)),
-    }
 }
 
 /// Warns of a text that was run or searched: what its pragmas pass over, and which functions end without a result.

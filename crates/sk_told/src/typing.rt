@@ -1,7 +1,7 @@
 //! Texts that break a rule of names and types.
 use crate::lines::{line_of, set_of};
-use crate::pieces::{bytes_of, is_mark, is_word, tokens_of};
-use sk_base::{List, Span};
+use crate::pieces::{bytes_of, is_mark, is_word, some_tokens};
+use sk_base::Span;
 use sk_check::{Rule, TypeFault};
 use sk_notes::{Told, near_by};
 use sk_tree::{Mark, Token};
@@ -151,10 +151,7 @@ pub fn tell_type(
     text: &[u8],
     fault: &TypeFault,
 ) -> Result<(), AllocError> {
-    let tokens = match tokens_of(alloc, text)? {
-        Some(tokens) => tokens,
-        None => List::new(alloc),
-    };
+    let tokens = some_tokens(alloc, text)?;
     match fault.rule {
         Rule::UnknownName => {
             tell_unknown_name(alloc, told, text, tokens.as_slice(), fault.span)?;
