@@ -1,1 +1,4 @@
+pub mod Near
 pub mod Notes
+pub mod Options
+pub mod Numbers

@@ -1,4 +1,8 @@
 //! Why words are no command line: the first word that is not as it should be.
+ghost use Rattle.std.specs.Prelude.{◌≡◌, option_map};
+ghost use Rattle.sk_notes.specs.Numbers.{front_of, back_of};
+
+use crate::numbers::parts_at;
 use crate::options::{Choice, Command, Range, Takes};
 
 /// What is wrong with words.
@@ -57,13 +61,11 @@ fn is_option(word: &[u8]) -> bool {
 }
 
 /// The front of a word before its first `=`, and what stands behind that.
-pub fn halves<'a>(word: &'a [u8]) -> (&'a [u8], Option<&'a [u8]>) {
-    for (at, byte) in word.iter().enumerate() {
-        if *byte == b'=' {
-            return (&word[..at], Some(&word[at + 1..]));
-        }
-    }
-    (word, None)
+pub fn halves<'a>(word: &'a [u8]) -> (&'a [u8], Option<&'a [u8]>)
+    ensures front { result.0.now ≡ front_of 61 word.now }
+    ensures back { option_map (λ back. back.now) result.1 ≡ back_of 61 word.now }
+{
+    parts_at(b'=', word)
 }
 
 // What is wrong with a value.

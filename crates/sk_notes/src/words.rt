@@ -1,7 +1,8 @@
 //! Words that are no command line.
 use crate::near::nearest;
 use crate::note::Told;
-use crate::options::{CHOICES, Choice, Command, Range, Takes, number_of};
+use crate::numbers::number_of;
+use crate::options::{CHOICES, Choice, Command, Range, Takes};
 use crate::slips::{Slip, halves, slip_of};
 use std::alloc::{AllocError, Global};
 

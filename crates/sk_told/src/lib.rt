@@ -2,8 +2,10 @@
 #![tactic(auto)]
 
 mod calls;
+mod declared;
 mod fillings;
 mod lines;
+mod operands;
 mod pieces;
 mod reading;
 mod results;

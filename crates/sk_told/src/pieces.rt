@@ -81,6 +81,22 @@ pub fn is_mark(token: &Token, mark: Mark) -> bool {
     }
 }
 
+/// Whether a token is a mark that opens something.
+pub fn opens(token: &Token) -> bool {
+    is_mark(token, Mark::OpenParen)
+        || is_mark(token, Mark::OpenBrace)
+        || is_mark(token, Mark::OpenBracket)
+        || is_mark(token, Mark::OpenPattern)
+}
+
+/// Whether a token is a mark that closes what another opens.
+pub fn closes(token: &Token) -> bool {
+    is_mark(token, Mark::CloseParen)
+        || is_mark(token, Mark::CloseBrace)
+        || is_mark(token, Mark::CloseBracket)
+        || is_mark(token, Mark::ClosePattern)
+}
+
 /// Whether a token is a word that is no keyword.
 pub fn is_word(token: &Token) -> bool {
     match &token.kind {

@@ -1,12 +1,14 @@
 //! Texts that have no tokens, or read as no tree.
-use crate::pieces::{bytes_of, is_mark, some_tokens, token_from, tokens_before, tokens_of};
+use crate::pieces::{
+    bytes_of, closes, opens, some_tokens, token_from, tokens_before, tokens_of,
+};
 use crate::strings::{MOST_COUNTED, strings_at};
 use sk_front::TextFault;
 use sk_lexer::LexFault;
 use sk_notes::Told;
 use sk_parser::{ParseFault, parse};
 use sk_place::place_of;
-use sk_tree::{Mark, Token};
+use sk_tree::Token;
 use std::alloc::{AllocError, Global};
 
 // A word that is tried in front of a token that cannot go on, and what it is called.
@@ -148,20 +150,6 @@ fn push_helpful(told: &mut Told, found: &[&'static [u8]], is_end: bool) -> Resul
     } else {
         told.note(&[b" in front of it the text reads on"])
     }
-}
-
-fn opens(token: &Token) -> bool {
-    is_mark(token, Mark::OpenParen)
-        || is_mark(token, Mark::OpenBrace)
-        || is_mark(token, Mark::OpenBracket)
-        || is_mark(token, Mark::OpenPattern)
-}
-
-fn closes(token: &Token) -> bool {
-    is_mark(token, Mark::CloseParen)
-        || is_mark(token, Mark::CloseBrace)
-        || is_mark(token, Mark::CloseBracket)
-        || is_mark(token, Mark::ClosePattern)
 }
 
 // The last mark that opens something and is not closed.
