@@ -21,7 +21,7 @@ plain_digits (d ∷ ds) (here, all) = ap (λ b. b ∷ map plain (map (λ e. 48 +
 
 -- a number in decimal is printable ASCII
 pub plain_decimal : (n : ℕ) → n < 2 ^ 64 → map plain (decimal n) ≡ decimal n
-plain_decimal zero within = refl
+plain_decimal zero within = let spelt = decimal_digit 0 (omega arith) in rw spelt refl
 plain_decimal (suc n) within =
     let spelt = decimal-digits_of (suc n) (omega arith) within in
     rw (spelt) (plain_digits (digits_of 10 (suc n)) (all_below_base_digits_of 10 (suc n) (omega arith)))

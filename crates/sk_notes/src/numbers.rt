@@ -77,9 +77,9 @@ pub fn parts_at<'a>(sign: u8, word: &'a [u8]) -> (&'a [u8], Option<&'a [u8]>)
     ensures shorter { IfSome result.1 (λ back. length back.now < length word.now) }
 {
     let (front, behind) = word.split_at(length_before(sign, word));
-    match behind {
-        [] => (front, None),
-        [_, back @ ..] => (front, Some(back)),
+    match behind.split_first() {
+        None => (front, None),
+        Some((_, back)) => (front, Some(back)),
     }
 }
 

@@ -1,4 +1,7 @@
 //! Texts that have no tokens, or read as no tree.
+ghost use Rattle.std.specs.Prelude.{◌≡◌, ◌++◌, option_map, OnOk};
+ghost use Rattle.sk_told.specs.Titles.{lex_title, bad_byte_title};
+
 use crate::pieces::{
     bytes_of, closes, opens, some_tokens, token_from, tokens_before, tokens_of,
 };
@@ -70,28 +73,53 @@ const MOST_TRIED: usize = 65_536;
 const FEW_TOKENS: usize = 50;
 
 /// Tells of a fault of the bytes of a text. Want of memory has an ending of its own.
-pub fn tell_lex(told: &mut Told, text: &[u8], fault: &LexFault) -> Result<(), AllocError> {
+pub fn tell_lex(told: &mut Told, text: &[u8], fault: &LexFault) -> Result<(), AllocError>
+    ensures title { OnOk result (told.new.title.bytes.items ≡ told.old.title.bytes.items ++ lex_title text.now fault.now) }
+    ensures notes { told.new.notes ≡ told.old.notes }
+{
     match fault {
-        LexFault::BadByte { at } => tell_bad_byte(told, text.get(*at as usize)),
-        LexFault::OpenComment { at: _ } => told.title(&[b"the comment has no end: */ is wanting"]),
-        LexFault::LiteralTooLarge { at: _ } => told.title(&[b"the number is above 2147483647"]),
-        LexFault::OpenString { at: _ } => {
-            told.title(&[b"the text has no end on its line: \" is wanting"])
+        LexFault::BadByte { at } => {
+            tell_bad_byte(told, text.get(*at as usize).copied())?;
+            Ok(())
         }
-        LexFault::Memory => told.title(&[b"out of memory"]),
+        LexFault::OpenComment { at: _ } => {
+            told.title(&[b"the comment has no end: */ is wanting"])?;
+            Ok(())
+        }
+        LexFault::LiteralTooLarge { at: _ } => {
+            told.title(&[b"the number is above 2147483647"])?;
+            Ok(())
+        }
+        LexFault::OpenString { at: _ } => {
+            told.title(&[b"the text has no end on its line: \" is wanting"])?;
+            Ok(())
+        }
+        LexFault::Memory => {
+            told.title(&[b"out of memory"])?;
+            Ok(())
+        }
     }
 }
 
-fn tell_bad_byte(told: &mut Told, byte: Option<&u8>) -> Result<(), AllocError> {
+fn tell_bad_byte(told: &mut Told, byte: Option<u8>) -> Result<(), AllocError>
+    ensures title { OnOk result (told.new.title.bytes.items ≡ told.old.title.bytes.items ++ bad_byte_title byte) }
+    ensures notes { told.new.notes ≡ told.old.notes }
+{
     match byte {
-        Some(byte) if 32 <= *byte && *byte <= 126 => {
-            told.title(&[b"no token begins with '", &[*byte], b"'"])
-        }
         Some(byte) => {
-            told.title(&[b"no token begins with the byte "])?;
-            told.title.number(u64::from(*byte))
+            if 32 <= byte && byte <= 126 {
+                told.title(&[b"no token begins with '", &[byte], b"'"])?;
+                Ok(())
+            } else {
+                told.title(&[b"no token begins with the byte "])?;
+                told.title.number(u64::from(byte))?;
+                Ok(())
+            }
         }
-        None => told.title(&[b"no token begins here"]),
+        None => {
+            told.title(&[b"no token begins here"])?;
+            Ok(())
+        }
     }
 }
 

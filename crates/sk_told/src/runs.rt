@@ -1,4 +1,7 @@
 //! Runs that failed or were skipped.
+ghost use Rattle.std.specs.Prelude.{◌≡◌, ◌++◌, OnOk};
+ghost use Rattle.sk_told.specs.Titles.{skipped_title};
+
 use crate::lines::expanded;
 use crate::pieces::{is_key, is_mark, is_word, some_tokens};
 use sk_base::{Bounds, Span};
@@ -249,6 +252,10 @@ pub fn tell_failed(
 }
 
 /// Tells why a run was skipped.
-pub fn tell_skipped(told: &mut Told) -> Result<(), AllocError> {
-    told.title(&[b"the run was skipped: what is assumed is false"])
+pub fn tell_skipped(told: &mut Told) -> Result<(), AllocError>
+    ensures title { OnOk result (told.new.title.bytes.items ≡ told.old.title.bytes.items ++ skipped_title) }
+    ensures notes { told.new.notes ≡ told.old.notes }
+{
+    told.title(&[b"the run was skipped: what is assumed is false"])?;
+    Ok(())
 }

@@ -1,4 +1,7 @@
 //! Searches that ended: what was asked, and what of the pragmas was passed over.
+ghost use Rattle.std.specs.Prelude.{◌≡◌, ◌++◌, OnOk};
+ghost use Rattle.sk_told.specs.Titles.{none_title, none_notes, spent_title, spent_notes};
+
 use crate::pieces::{has_key, is_key, some_tokens};
 use crate::results::push_unreturned;
 use sk_notes::{CHOICES, Choice, Range, Told, nearest};
@@ -165,20 +168,29 @@ pub fn push_warnings(alloc: Global, told: &mut Told, text: &[u8]) -> Result<(), 
 }
 
 /// Tells that no completion meets what is asked.
-pub fn tell_none(told: &mut Told) -> Result<(), AllocError> {
+pub fn tell_none(told: &mut Told) -> Result<(), AllocError>
+    ensures title { OnOk result (told.new.title.bytes.items ≡ told.old.title.bytes.items ++ none_title) }
+    ensures notes { OnOk result (told.new.notes.bytes.items ≡ told.old.notes.bytes.items ++ none_notes) }
+{
     told.title(&[b"no values of the open parts meet all that is asked on every input"])?;
     told.note(&[
         b"a passed bound is a failed run: --bnd-unroll-amnt and --bnd-inline-amnt are part of what is asked",
     ])?;
-    told.note(&[b"--bnd-cbits is the width of a hole, --bnd-inbits that of an input"])
+    told.note(&[b"--bnd-cbits is the width of a hole, --bnd-inbits that of an input"])?;
+    Ok(())
 }
 
 /// Tells that a budget is spent.
-pub fn tell_spent(told: &mut Told, option: &[u8], is_known: bool) -> Result<(), AllocError> {
+pub fn tell_spent(told: &mut Told, option: &[u8], is_known: bool) -> Result<(), AllocError>
+    ensures title { OnOk result (told.new.title.bytes.items ≡ told.old.title.bytes.items ++ spent_title option.now) }
+    ensures notes { OnOk result (told.new.notes.bytes.items ≡ told.old.notes.bytes.items ++ spent_notes is_known) }
+{
     told.title(&[b"the budget of ", option, b" is spent"])?;
     if is_known {
-        told.note(&[b"what is written meets all that is asked, and may not be of least value"])
+        told.note(&[b"what is written meets all that is asked, and may not be of least value"])?;
+        Ok(())
     } else {
-        told.note(&[b"no completion is known, and there may be one"])
+        told.note(&[b"no completion is known, and there may be one"])?;
+        Ok(())
     }
 }
