@@ -1,18 +1,10 @@
 -- The words for each cause: the title, and the lines behind it.
 use Rattle.std.specs.Prelude.{ℕ, Bool, List, [], ◌∷◌, ◌++◌, decimal, codes, slice_get, Option, Some, None, if◌then◌else◌}
-use Rattle.sk_notes.specs.Notes.{is_plain, said, line_said}
+use Rattle.sk_notes.specs.Notes.{is_plain, said, one, one_line}
 use Rattle.sk_sizes.specs.declared.fault.SizeFault.{SizeFault}
 use Rattle.sk_sizes.specs.declared.fault.SizeFault.TheVariants as size
 use Rattle.sk_lexer.specs.declared.fault.LexFault.{LexFault}
 use Rattle.sk_lexer.specs.declared.fault.LexFault.TheVariants as lex
-
--- one word
-abbrev pub one : List ℕ → List ℕ
-one word = said (word ∷ [])
-
--- a line of one word
-abbrev pub one_line : List ℕ → List ℕ
-one_line word = line_said (word ∷ [])
 
 -- Programs that are too large
 

@@ -1,5 +1,5 @@
 //! Which names a text declares, and as what: each name behind a type, and those behind a comma in the same declaration.
-ghost use Rattle.std.specs.Prelude.{◌≤◌, ◌<◌, length};
+ghost use Rattle.std.specs.Prelude.{◌≡◌};
 
 use crate::pieces::{bytes_of, closes, is_key, is_mark, is_word, opens};
 use sk_base::Span;
@@ -141,7 +141,9 @@ fn only_one<'a>(found: &'a [Declared], text: &[u8], word: &[u8]) -> Option<&'a D
 }
 
 // Appends what a name is declared as, and where.
-fn push_one(told: &mut Told, text: &[u8], it: &Declared) -> Result<(), AllocError> {
+fn push_one(told: &mut Told, text: &[u8], it: &Declared) -> Result<(), AllocError>
+    ensures { told.new.title ≡ told.old.title }
+{
     let from = it.name.from as usize;
     if from > text.len() {
         return Ok(());
@@ -206,7 +208,9 @@ pub fn push_declarations(
     text: &[u8],
     tokens: &[Token],
     span: Span,
-) -> Result<(), AllocError> {
+) -> Result<(), AllocError>
+    ensures { told.new.title ≡ told.old.title }
+{
     let words = variables_in(alloc, text, tokens, span)?;
     let found = declared(alloc, tokens)?;
     let mut count = 0usize;

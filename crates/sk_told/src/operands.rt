@@ -1,4 +1,6 @@
 //! What operators take.
+ghost use Rattle.std.specs.Prelude.{◌≡◌};
+
 use crate::pieces::bytes_of;
 use sk_base::Span;
 use sk_notes::Told;
@@ -64,7 +66,9 @@ pub fn push_operands(
     text: &[u8],
     tokens: &[Token],
     span: Span,
-) -> Result<(), AllocError> {
+) -> Result<(), AllocError>
+    ensures { told.new.title ≡ told.old.title }
+{
     let Some(token) = only_operator(tokens, span) else {
         return Ok(());
     };

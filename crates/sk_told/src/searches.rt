@@ -24,7 +24,9 @@ fn choice_of(word: &[u8]) -> Waiting {
 }
 
 // Begins the line of a word that is passed over.
-fn begin(told: &mut Told, text: &[u8], at: usize) -> Result<(), AllocError> {
+fn begin(told: &mut Told, text: &[u8], at: usize) -> Result<(), AllocError>
+    ensures { told.new.title ≡ told.old.title }
+{
     told.notes.say(&[b"warning: the pragma at "])?;
     if at <= text.len() {
         told.notes.place(place_of(text, at))?;
@@ -38,7 +40,9 @@ fn push_unset(
     text: &[u8],
     at: usize,
     (choice, range): (Choice, Range),
-) -> Result<(), AllocError> {
+) -> Result<(), AllocError>
+    ensures { told.new.title ≡ told.old.title }
+{
     begin(told, text, at)?;
     told.notes
         .say(&[b" does not set ", choice.name(), b", which is "])?;
@@ -66,7 +70,9 @@ fn push_passed(
     text: &[u8],
     at: usize,
     word: &[u8],
-) -> Result<(), AllocError> {
+) -> Result<(), AllocError>
+    ensures { told.new.title ≡ told.old.title }
+{
     begin(told, text, at)?;
     told.notes.say(&[b" passes over ", word])?;
     let names = names(alloc)?;
@@ -84,7 +90,9 @@ fn see_word(
     at: usize,
     waiting: Waiting,
     word: &[u8],
-) -> Result<Waiting, AllocError> {
+) -> Result<Waiting, AllocError>
+    ensures { told.new.title ≡ told.old.title }
+{
     if let Some((choice, range)) = waiting {
         if range.has(word) {
             return Ok(None);
@@ -109,7 +117,9 @@ fn see_options(
     text: &[u8],
     at: usize,
     options: &[u8],
-) -> Result<(), AllocError> {
+) -> Result<(), AllocError>
+    ensures { told.new.title ≡ told.old.title }
+{
     let mut waiting: Waiting = None;
     for word in options.split(|byte| is_blank(*byte)) {
         if !word.is_empty() {
@@ -136,7 +146,9 @@ fn push_pragmas(
     told: &mut Told,
     text: &[u8],
     tokens: &[Token],
-) -> Result<(), AllocError> {
+) -> Result<(), AllocError>
+    ensures { told.new.title ≡ told.old.title }
+{
     for three in tokens.windows(3) {
         if let [first, second, third] = three {
             if let Kind::Text(options) = &third.kind {
@@ -151,14 +163,18 @@ fn push_pragmas(
 }
 
 /// Warns of a text that was run or searched: what its pragmas pass over, and which functions end without a result.
-pub fn push_passed_over(alloc: Global, told: &mut Told, text: &[u8]) -> Result<(), AllocError> {
+pub fn push_passed_over(alloc: Global, told: &mut Told, text: &[u8]) -> Result<(), AllocError>
+    ensures { told.new.title ≡ told.old.title }
+{
     let tokens = some_tokens(alloc, text)?;
     push_pragmas(alloc, told, text, tokens.as_slice())?;
     push_unreturned(alloc, told, tokens.as_slice())
 }
 
 /// Warns of a text that a search ended on: that nothing was asked, and what it passes over.
-pub fn push_warnings(alloc: Global, told: &mut Told, text: &[u8]) -> Result<(), AllocError> {
+pub fn push_warnings(alloc: Global, told: &mut Told, text: &[u8]) -> Result<(), AllocError>
+    ensures { told.new.title ≡ told.old.title }
+{
     let tokens = some_tokens(alloc, text)?;
     let tokens = tokens.as_slice();
     if !has_key(tokens, Key::Harness) && !has_key(tokens, Key::Implements) {
