@@ -9,6 +9,7 @@ use Rattle.sk_notes.specs.Options.{command_word, command_of, command_has, choice
 use Rattle.sk_notes.specs.Slips.{Wrong, slip_of}
 use Rattle.sk_notes.specs.declared.options.Command.{Command}
 use Rattle.sk_notes.specs.declared.options.Command.TheVariants as command
+use Rattle.sk_notes.specs.declared.options.Choice.{Choice}
 use Rattle.sk_notes.specs.declared.options.Range.{Range}
 use Rattle.sk_notes.specs.declared.options.Takes.{Takes}
 use Rattle.sk_notes.specs.declared.options.Takes.TheVariants as takes
@@ -72,14 +73,26 @@ wants_text takes.Numbers = one (codes " wants numbers behind it, with commas bet
 abbrev pub not_text : List ℕ → List ℕ
 not_text value = if is_some (number_of value) then said (codes ", not " ∷ value ∷ []) else said (codes ", not '" ∷ value ∷ codes "'" ∷ [])
 
+abbrev pub no_command_title : List ℕ → List ℕ
+no_command_title word = said (codes "'" ∷ word ∷ codes "' is no command" ∷ []) ++ question (nearest word command_names)
+
 abbrev pub unknown_title : Command → List ℕ → List ℕ
 unknown_title c name = said (codes "unknown option " ∷ name ∷ []) ++ question (nearest name (names_of c))
 
+abbrev pub value_title : List ℕ
+value_title = one (codes "a value below 0 stands behind --")
+
+abbrev pub early_title : Choice → List ℕ
+early_title c = said (choice_name c ∷ codes " stands before the command" ∷ [])
+
 abbrev pub no_option_title : Command → List ℕ → List ℕ
-no_option_title c word = if is_value c word then one (codes "a value below 0 stands behind --") else unknown_title c (front_of 61 word)
+no_option_title c word = if is_value c word then value_title else unknown_title c (front_of 61 word)
+
+abbrev pub no_others : Command → List ℕ
+no_others c = said (command_word c ∷ codes " takes no other words" ∷ [])
 
 abbrev pub extra_words : Command → List ℕ → List ℕ
-extra_words c word = said (codes "'" ∷ word ∷ codes "' is no option, and " ∷ []) ++ said (command_word c ∷ codes " takes no other words" ∷ [])
+extra_words c word = said (codes "'" ∷ word ∷ codes "' is no option, and " ∷ []) ++ no_others c
 
 abbrev pub extra_title : Command → List ℕ → List ℕ
 extra_title command.Itself word = said (codes "self takes one number, and not '" ∷ word ∷ codes "' too" ∷ [])
@@ -100,8 +113,8 @@ missing_title command.Itself = wants_number command.Itself
 
 abbrev pub slip_title : Slip → List ℕ → List ℕ
 slip_title slip.NoWords word = one (codes "the words are a command and its options, and there are none")
-slip_title slip.NoCommand word = said (codes "'" ∷ word ∷ codes "' is no command" ∷ []) ++ question (nearest word command_names)
-slip_title (slip.Early c) word = said (choice_name c ∷ codes " stands before the command" ∷ [])
+slip_title slip.NoCommand word = no_command_title word
+slip_title (slip.Early c) word = early_title c
 slip_title slip.NotAlone word = said (word ∷ codes " stands alone" ∷ [])
 slip_title (slip.NoOption c) word = no_option_title c word
 slip_title (slip.OfOthers c option) word = said (choice_name option ∷ codes " is no option of " ∷ command_word c ∷ [])
@@ -119,10 +132,14 @@ slip_title slip.Nothing word = []
 abbrev pub alone_notes : List ℕ → List ℕ
 alone_notes word = if bytes_eq word (codes "--help") then usage else line_said (codes "as in: sketch " ∷ word ∷ [])
 
+abbrev pub value_notes : Command → List ℕ → List ℕ
+value_notes c word = said (codes "as in: sketch " ∷ command_word c ∷ []) ++ line_said (codes " NAME -- " ∷ word ∷ [])
+
+abbrev pub unknown_notes : List ℕ
+unknown_notes = one_line (codes "sketch --help lists the options")
+
 abbrev pub no_option_notes : Command → List ℕ → List ℕ
-no_option_notes c word =
-    if is_value c word then said (codes "as in: sketch " ∷ command_word c ∷ []) ++ line_said (codes " NAME -- " ∷ word ∷ [])
-    else one_line (codes "sketch --help lists the options")
+no_option_notes c word = if is_value c word then value_notes c word else unknown_notes
 
 abbrev pub input_notes : Command → List ℕ → List ℕ
 input_notes c word = said (command_word c ∷ codes " reads standard input: sketch " ∷ []) ++ one (command_word c) ++ line_said (codes " < " ∷ word ∷ [])

@@ -2,9 +2,10 @@
 ghost use Rattle.std.specs.Prelude.{◌≡◌, ◌++◌, [], map, option_map, IfOk, OnOk};
 ghost use Rattle.std.specs.List.{filter};
 ghost use Rattle.std.specs.String.{string_bytes};
+ghost use Rattle.sk_notes.specs.Near.{nearest};
 ghost use Rattle.sk_notes.specs.Options.{choice_name, command_has};
 ghost use Rattle.sk_notes.specs.declared.slips.Slip.TheVariants as slip;
-ghost use Rattle.sk_notes.specs.Words.{usage, question, is_below_zero, takes_values, is_value, range_text, takes_text, wants_text, not_text, unknown_title, no_option_title, extra_words, extra_title, missing_title, slip_title, alone_notes, no_option_notes, input_notes, extra_notes, missing_notes, slip_notes, words_title, words_notes, first_word, not_built_title};
+ghost use Rattle.sk_notes.specs.Words.{usage, question, command_names, names_of, no_command_title, no_others, wants_number, unknown_notes, value_title, value_notes, early_title, is_below_zero, takes_values, is_value, range_text, takes_text, wants_text, not_text, unknown_title, no_option_title, extra_words, extra_title, missing_title, slip_title, alone_notes, no_option_notes, input_notes, extra_notes, missing_notes, slip_notes, words_title, words_notes, first_word, not_built_title};
 
 use crate::near::nearest;
 use crate::note::Told;
@@ -12,17 +13,6 @@ use crate::numbers::number_of;
 use crate::options::{CHOICES, Choice, Command, Range, Takes};
 use crate::slips::{Slip, halves, slip_of};
 use std::alloc::{AllocError, Global};
-
-// The commands and the lines of one word.
-const COMMANDS: [&[u8]; 7] = [
-    b"synth",
-    b"exec",
-    b"trace",
-    b"check",
-    b"self",
-    b"--help",
-    b"--version",
-];
 
 // How the program is called.
 fn push_usage(told: &mut Told) -> Result<(), AllocError>
@@ -50,15 +40,43 @@ fn push_question(told: &mut Told, near: Option<&[u8]>) -> Result<(), AllocError>
     }
 }
 
+// The name of a command or of a line of one word that is nearest to a word.
+fn near_command(alloc: Global, word: &[u8]) -> Result<Option<&'static [u8]>, AllocError>
+    ensures { IfOk result (λ near. option_map (λ name. name.now) near ≡ nearest word.now command_names) }
+{
+    let near = nearest(
+        alloc,
+        word,
+        &[
+            b"synth",
+            b"exec",
+            b"trace",
+            b"check",
+            b"self",
+            b"--help",
+            b"--version",
+        ],
+    )?;
+    Ok(near)
+}
+
+// A question for a command that is nearly a word.
+fn push_near_command(alloc: Global, told: &mut Told, word: &[u8]) -> Result<(), AllocError>
+    ensures title { OnOk result (told.new.title.bytes.items ≡ told.old.title.bytes.items ++ question (nearest word.now command_names)) }
+    ensures notes { told.new.notes ≡ told.old.notes }
+{
+    let near = near_command(alloc, word)?;
+    push_question(told, near)?;
+    Ok(())
+}
+
 // Tells of a word that is no command.
 fn tell_no_command(alloc: Global, told: &mut Told, word: &[u8]) -> Result<(), AllocError>
-    ensures title { OnOk result (told.new.title.bytes.items ≡ told.old.title.bytes.items ++ slip_title slip.NoCommand word.now) }
-    ensures notes { OnOk result (told.new.notes.bytes.items ≡ told.old.notes.bytes.items ++ usage) }
+    ensures title { OnOk result (told.new.title.bytes.items ≡ told.old.title.bytes.items ++ no_command_title word.now) }
+    ensures notes { told.new.notes ≡ told.old.notes }
 {
     told.title(&[b"'", word, b"' is no command"])?;
-    let near = nearest(alloc, word, &COMMANDS)?;
-    push_question(told, near)?;
-    push_usage(told)?;
+    push_near_command(alloc, told, word)?;
     Ok(())
 }
 
@@ -106,6 +124,34 @@ fn is_value(command: Command, word: &[u8]) -> bool
     takes_values(command) && is_below_zero(word)
 }
 
+// The name of an option of a command that is nearest to a name.
+fn near_option(
+    alloc: Global,
+    command: Command,
+    name: &[u8],
+) -> Result<Option<&'static [u8]>, AllocError>
+    ensures { IfOk result (λ near. option_map (λ name. name.now) near ≡ nearest name.now (names_of command)) }
+{
+    let names = names_among(alloc, command, &CHOICES)?;
+    let near = nearest(alloc, name, names.as_slice())?;
+    Ok(near)
+}
+
+// A question for an option of a command that is nearly a name.
+fn push_near_option(
+    alloc: Global,
+    told: &mut Told,
+    command: Command,
+    name: &[u8],
+) -> Result<(), AllocError>
+    ensures title { OnOk result (told.new.title.bytes.items ≡ told.old.title.bytes.items ++ question (nearest name.now (names_of command))) }
+    ensures notes { told.new.notes ≡ told.old.notes }
+{
+    let near = near_option(alloc, command, name)?;
+    push_question(told, near)?;
+    Ok(())
+}
+
 // Tells of an option that is not there.
 fn tell_unknown(
     alloc: Global,
@@ -114,12 +160,22 @@ fn tell_unknown(
     name: &[u8],
 ) -> Result<(), AllocError>
     ensures title { OnOk result (told.new.title.bytes.items ≡ told.old.title.bytes.items ++ unknown_title command name.now) }
-    ensures notes { told.new.notes ≡ told.old.notes }
+    ensures notes { OnOk result (told.new.notes.bytes.items ≡ told.old.notes.bytes.items ++ unknown_notes) }
 {
     told.title(&[b"unknown option ", name])?;
-    let names = names_among(alloc, command, &CHOICES)?;
-    let near = nearest(alloc, name, names.as_slice())?;
-    push_question(told, near)?;
+    push_near_option(alloc, told, command, name)?;
+    told.note(&[b"sketch --help lists the options"])?;
+    Ok(())
+}
+
+// Tells of a value that looks like an option.
+fn tell_value(told: &mut Told, command: Command, word: &[u8]) -> Result<(), AllocError>
+    ensures title { OnOk result (told.new.title.bytes.items ≡ told.old.title.bytes.items ++ value_title) }
+    ensures notes { OnOk result (told.new.notes.bytes.items ≡ told.old.notes.bytes.items ++ value_notes command word.now) }
+{
+    told.title(&[b"a value below 0 stands behind --"])?;
+    told.notes.say(&[b"as in: sketch ", command.word()])?;
+    told.note(&[b" NAME -- ", word])?;
     Ok(())
 }
 
@@ -134,14 +190,11 @@ fn tell_no_option(
     ensures notes { OnOk result (told.new.notes.bytes.items ≡ told.old.notes.bytes.items ++ no_option_notes command word.now) }
 {
     if is_value(command, word) {
-        told.title(&[b"a value below 0 stands behind --"])?;
-        told.notes.say(&[b"as in: sketch ", command.word()])?;
-        told.note(&[b" NAME -- ", word])?;
+        tell_value(told, command, word)?;
         Ok(())
     } else {
         let (name, _) = halves(word);
         tell_unknown(alloc, told, command, name)?;
-        told.note(&[b"sketch --help lists the options"])?;
         Ok(())
     }
 }
@@ -229,13 +282,30 @@ fn tell_no_value(told: &mut Told, choice: Choice) -> Result<(), AllocError>
     Ok(())
 }
 
-// Tells of a word where a command reads standard input.
-fn tell_input(told: &mut Told, command: Command, word: &[u8]) -> Result<(), AllocError>
+// Appends that a command takes no other words to the title.
+fn push_no_others(told: &mut Told, command: Command) -> Result<(), AllocError>
+    ensures title { OnOk result (told.new.title.bytes.items ≡ told.old.title.bytes.items ++ no_others command) }
+    ensures notes { told.new.notes ≡ told.old.notes }
+{
+    told.title(&[command.word(), b" takes no other words"])?;
+    Ok(())
+}
+
+// Appends that a word is none that a command takes to the title.
+fn push_extra(told: &mut Told, command: Command, word: &[u8]) -> Result<(), AllocError>
     ensures title { OnOk result (told.new.title.bytes.items ≡ told.old.title.bytes.items ++ extra_words command word.now) }
-    ensures notes { OnOk result (told.new.notes.bytes.items ≡ told.old.notes.bytes.items ++ input_notes command word.now) }
+    ensures notes { told.new.notes ≡ told.old.notes }
 {
     told.title(&[b"'", word, b"' is no option, and "])?;
-    told.title(&[command.word(), b" takes no other words"])?;
+    push_no_others(told, command)?;
+    Ok(())
+}
+
+// Tells that a command reads standard input.
+fn push_input(told: &mut Told, command: Command, word: &[u8]) -> Result<(), AllocError>
+    ensures notes { OnOk result (told.new.notes.bytes.items ≡ told.old.notes.bytes.items ++ input_notes command word.now) }
+    ensures title { told.new.title ≡ told.old.title }
+{
     told.notes
         .say(&[command.word(), b" reads standard input: sketch "])?;
     told.notes.say(&[command.word()])?;
@@ -254,10 +324,20 @@ fn tell_extra(told: &mut Told, command: Command, word: &[u8]) -> Result<(), Allo
             Ok(())
         }
         Command::Synth | Command::Exec | Command::Trace | Command::Check => {
-            tell_input(told, command, word)?;
+            push_extra(told, command, word)?;
+            push_input(told, command, word)?;
             Ok(())
         }
     }
+}
+
+// Tells that a command wants a number.
+fn tell_wants_number(told: &mut Told, command: Command) -> Result<(), AllocError>
+    ensures title { OnOk result (told.new.title.bytes.items ≡ told.old.title.bytes.items ++ wants_number command) }
+    ensures notes { told.new.notes ≡ told.old.notes }
+{
+    told.title(&[command.word(), b" wants a number, 0 to 60"])?;
+    Ok(())
 }
 
 // Tells which word a command wants.
@@ -277,7 +357,7 @@ fn tell_missing(told: &mut Told, command: Command) -> Result<(), AllocError>
             Ok(())
         }
         Command::Synth | Command::Check | Command::Itself => {
-            told.title(&[command.word(), b" wants a number, 0 to 60"])?;
+            tell_wants_number(told, command)?;
             Ok(())
         }
     }
@@ -308,6 +388,16 @@ pub fn tell_words(alloc: Global, told: &mut Told, words: &[String]) -> Result<()
     Ok(())
 }
 
+// Tells of an option in front of the command.
+fn tell_early(told: &mut Told, choice: Choice) -> Result<(), AllocError>
+    ensures title { OnOk result (told.new.title.bytes.items ≡ told.old.title.bytes.items ++ early_title choice) }
+    ensures notes { OnOk result (told.new.notes.bytes.items ≡ told.old.notes.bytes.items ++ usage) }
+{
+    told.title(&[choice.name(), b" stands before the command"])?;
+    push_usage(told)?;
+    Ok(())
+}
+
 // Tells of a slip of a word.
 fn tell_slip(
     alloc: Global,
@@ -326,11 +416,11 @@ fn tell_slip(
         }
         Slip::NoCommand => {
             tell_no_command(alloc, told, word)?;
+            push_usage(told)?;
             Ok(())
         }
         Slip::Early(choice) => {
-            told.title(&[choice.name(), b" stands before the command"])?;
-            push_usage(told)?;
+            tell_early(told, choice)?;
             Ok(())
         }
         Slip::NotAlone => {

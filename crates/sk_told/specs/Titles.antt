@@ -1,5 +1,5 @@
 -- The words for each cause: the title, and the lines behind it.
-use Rattle.std.specs.Prelude.{ℕ, Bool, List, [], ◌∷◌, ◌++◌, decimal, codes, slice_get, Option, Some, None, if◌then◌else◌}
+use Rattle.std.specs.Prelude.{ℕ, Bool, List, [], ◌∷◌, ◌++◌, decimal, codes, nat_lt, length, slice_index, Option, Some, None, if◌then◌else◌}
 use Rattle.sk_notes.specs.Notes.{is_plain, said, one, one_line}
 use Rattle.sk_sizes.specs.declared.fault.SizeFault.{SizeFault}
 use Rattle.sk_sizes.specs.declared.fault.SizeFault.TheVariants as size
@@ -53,6 +53,10 @@ skipped_title = one (codes "the run was skipped: what is assumed is false")
 
 -- Bytes of a text
 
+-- the byte at a place, where there is one
+abbrev pub byte_at : List ℕ → ℕ → Option ℕ
+byte_at text at = if nat_lt at (length text) then Some (slice_index text at) else None
+
 -- the byte that begins no token, as itself where it is printable ASCII and else by its number
 abbrev pub bad_byte_title : Option ℕ → List ℕ
 bad_byte_title None = one (codes "no token begins here")
@@ -60,7 +64,7 @@ bad_byte_title (Some b) =
     if is_plain b then said (codes "no token begins with '" ∷ (b ∷ []) ∷ codes "'" ∷ []) else one (codes "no token begins with the byte ") ++ decimal b
 
 abbrev pub lex_title : List ℕ → LexFault → List ℕ
-lex_title text (lex.BadByte at) = bad_byte_title (slice_get text at)
+lex_title text (lex.BadByte at) = bad_byte_title (byte_at text at)
 lex_title text (lex.OpenComment at) = one (codes "the comment has no end: */ is wanting")
 lex_title text (lex.LiteralTooLarge at) = one (codes "the number is above 2147483647")
 lex_title text (lex.OpenString at) = one (codes "the text has no end on its line: \" is wanting")

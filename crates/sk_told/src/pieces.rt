@@ -40,9 +40,11 @@ pub fn some_tokens(alloc: Global, text: &[u8]) -> Result<List<Token>, AllocError
 pub fn bytes_of(text: &[u8], span: Span) -> &[u8]
     ensures { result.now ≡ bytes_of text.now span }
 {
-    match text.get(span.from as usize..span.to as usize) {
-        Some(bytes) => bytes,
-        None => b"",
+    let (from, to) = (span.from as usize, span.to as usize);
+    if from <= to && to <= text.len() {
+        &text[from..to]
+    } else {
+        b""
     }
 }
 
@@ -139,10 +141,12 @@ pub fn is_word(token: &Token) -> bool
 pub fn has_key(tokens: &[Token], key: Key) -> bool
     ensures { result ≡ list_any (λ (token : Token). is_key key token.kind) tokens.now }
 {
-    for token in tokens {
+    let mut rest = tokens;
+    while let [token, behind @ ..] = rest {
         if is_key(token, key) {
             return true;
         }
+        rest = behind;
     }
     false
 }

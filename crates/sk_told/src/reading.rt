@@ -1,6 +1,6 @@
 //! Texts that have no tokens, or read as no tree.
-ghost use Rattle.std.specs.Prelude.{◌≡◌, ◌++◌, option_map, OnOk};
-ghost use Rattle.sk_told.specs.Titles.{lex_title, bad_byte_title};
+ghost use Rattle.std.specs.Prelude.{◌≡◌, ◌++◌, OnOk};
+ghost use Rattle.sk_told.specs.Titles.{lex_title, byte_at, bad_byte_title};
 
 use crate::pieces::{
     bytes_of, closes, opens, some_tokens, token_from, tokens_before, tokens_of,
@@ -79,7 +79,7 @@ pub fn tell_lex(told: &mut Told, text: &[u8], fault: &LexFault) -> Result<(), Al
 {
     match fault {
         LexFault::BadByte { at } => {
-            tell_bad_byte(told, text.get(*at as usize).copied())?;
+            tell_bad_byte(told, byte_at(text, *at as usize))?;
             Ok(())
         }
         LexFault::OpenComment { at: _ } => {
@@ -101,6 +101,18 @@ pub fn tell_lex(told: &mut Told, text: &[u8], fault: &LexFault) -> Result<(), Al
     }
 }
 
+// The byte at a place of a text.
+fn byte_at(text: &[u8], at: usize) -> Option<u8>
+    ensures { result ≡ byte_at text.now at }
+{
+    if at < text.len() {
+        Some(text[at])
+    } else {
+        None
+    }
+}
+
+// Tells of a byte that begins no token.
 fn tell_bad_byte(told: &mut Told, byte: Option<u8>) -> Result<(), AllocError>
     ensures title { OnOk result (told.new.title.bytes.items ≡ told.old.title.bytes.items ++ bad_byte_title byte) }
     ensures notes { told.new.notes ≡ told.old.notes }

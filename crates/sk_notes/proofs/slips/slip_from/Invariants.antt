@@ -4,7 +4,7 @@ use Rattle.sk_notes.specs.Slips.{slip_from}
 use Rattle.sk_notes.proofs.slips.slip_from.Given as goal
 
 abbrev pub invariant-loop-word : goal.invariant-loop-word
-invariant-loop-word l = slip_from l.seen (map string_bytes l.rest) ≡ slip_from l.walk (map string_bytes l.words)
+invariant-loop-word l = slip_from l.seen (map string_bytes l.rest) ≡ slip_from l.fn.walk (map string_bytes l.fn.words)
 
 abbrev pub decreases-loop-word : goal.decreases-loop-word
 decreases-loop-word l = length l.rest
