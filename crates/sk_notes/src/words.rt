@@ -152,6 +152,30 @@ fn push_near_option(
     Ok(())
 }
 
+// Appends that an option is not there to the title.
+fn push_unknown(
+    alloc: Global,
+    told: &mut Told,
+    command: Command,
+    name: &[u8],
+) -> Result<(), AllocError>
+    ensures title { OnOk result (told.new.title.bytes.items ≡ told.old.title.bytes.items ++ unknown_title command name.now) }
+    ensures notes { told.new.notes ≡ told.old.notes }
+{
+    told.title(&[b"unknown option ", name])?;
+    push_near_option(alloc, told, command, name)?;
+    Ok(())
+}
+
+// Appends where the options stand to the notes.
+fn push_options(told: &mut Told) -> Result<(), AllocError>
+    ensures title { told.new.title ≡ told.old.title }
+    ensures notes { OnOk result (told.new.notes.bytes.items ≡ told.old.notes.bytes.items ++ unknown_notes) }
+{
+    told.note(&[b"sketch --help lists the options"])?;
+    Ok(())
+}
+
 // Tells of an option that is not there.
 fn tell_unknown(
     alloc: Global,
@@ -162,9 +186,8 @@ fn tell_unknown(
     ensures title { OnOk result (told.new.title.bytes.items ≡ told.old.title.bytes.items ++ unknown_title command name.now) }
     ensures notes { OnOk result (told.new.notes.bytes.items ≡ told.old.notes.bytes.items ++ unknown_notes) }
 {
-    told.title(&[b"unknown option ", name])?;
-    push_near_option(alloc, told, command, name)?;
-    told.note(&[b"sketch --help lists the options"])?;
+    push_unknown(alloc, told, command, name)?;
+    push_options(told)?;
     Ok(())
 }
 
