@@ -114,7 +114,7 @@ fn push_declared(
 }
 
 /// The names that the tokens of a text declare.
-pub fn declared(alloc: Global, tokens: &[Token]) -> Result<Vec<Declared>, AllocError> {
+pub fn declarations_of(alloc: Global, tokens: &[Token]) -> Result<Vec<Declared>, AllocError> {
     let mut found = Vec::new(alloc);
     for (at, token) in tokens.iter().enumerate() {
         if is_word(token) {
@@ -212,7 +212,7 @@ pub fn push_declarations(
     ensures { told.new.title ≡ told.old.title }
 {
     let words = variables_in(alloc, text, tokens, span)?;
-    let found = declared(alloc, tokens)?;
+    let found = declarations_of(alloc, tokens)?;
     let mut count = 0usize;
     for word in words.as_slice() {
         if let Some(it) = only_one(found.as_slice(), text, *word) {

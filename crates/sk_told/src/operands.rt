@@ -73,7 +73,11 @@ pub fn push_operands(
         return Ok(());
     };
     match operands_at(token) {
-        Operands::Are(types) => told.note(&[b"'", bytes_of(text, token.span), b"' is for ", types]),
+        Operands::Are(types) => {
+            told.notes
+                .say(&[b"'", bytes_of(text, token.span), b"' is for "])?;
+            told.note(&[types])
+        }
         Operands::NoOperator | Operands::Many => Ok(()),
     }
 }

@@ -39,10 +39,11 @@ fn push_unset(
     told: &mut Told,
     text: &[u8],
     at: usize,
-    (choice, range): (Choice, Range),
+    unset: (Choice, Range),
 ) -> Result<(), AllocError>
     ensures { told.new.title ≡ told.old.title }
 {
+    let (choice, range) = unset;
     begin(told, text, at)?;
     told.notes
         .say(&[b" does not set ", choice.name(), b", which is "])?;
