@@ -422,12 +422,7 @@ fn tell_early(told: &mut Told, choice: Choice) -> Result<(), AllocError>
 }
 
 // Tells of a slip of a word.
-fn tell_slip(
-    alloc: Global,
-    told: &mut Told,
-    slip: Slip,
-    word: &[u8],
-) -> Result<(), AllocError>
+fn tell_slip(alloc: Global, told: &mut Told, slip: Slip, word: &[u8]) -> Result<(), AllocError>
     ensures title { OnOk result (told.new.title.bytes.items ≡ told.old.title.bytes.items ++ slip_title slip word.now) }
     ensures notes { OnOk result (told.new.notes.bytes.items ≡ told.old.notes.bytes.items ++ slip_notes slip word.now) }
 {
