@@ -55,9 +55,8 @@ fn type_at_end(tokens: &[Token]) -> Option<Span> {
 // The name that some tokens begin with, where it is declared behind a comma: no type and no length goes on with it.
 fn listed_name(tokens: &[Token]) -> Option<Span> {
     match tokens {
-        [name, next, ..] if is_word(name) && !is_word(next) && !is_mark(next, Mark::OpenBracket) => {
-            Some(name.span)
-        }
+        [name, next, ..] if is_word(name) && !is_word(next) && !is_mark(next, Mark::OpenBracket) =>
+            { Some(name.span) }
         _ => None,
     }
 }
@@ -149,8 +148,13 @@ fn push_one(told: &mut Told, text: &[u8], it: &Declared) -> Result<(), AllocErro
         return Ok(());
     }
     let name = bytes_of(text, it.name);
-    told.notes
-        .say(&[b"'", name, b"' is declared as ", bytes_of(text, it.ty), b" at "])?;
+    told.notes.say(&[
+        b"'",
+        name,
+        b"' is declared as ",
+        bytes_of(text, it.ty),
+        b" at ",
+    ])?;
     told.notes.place(place_of(text, from))?;
     told.notes.end()
 }

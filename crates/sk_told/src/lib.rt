@@ -6,6 +6,7 @@ mod declared;
 mod fillings;
 mod lines;
 mod operands;
+mod phrases;
 mod pieces;
 mod reading;
 mod results;

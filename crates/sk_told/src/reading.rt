@@ -2,9 +2,7 @@
 ghost use Rattle.std.specs.Prelude.{◌≡◌, ◌++◌, OnOk};
 ghost use Rattle.sk_told.specs.Titles.{lex_title, byte_at, bad_byte_title};
 
-use crate::pieces::{
-    bytes_of, closes, opens, some_tokens, token_from, tokens_before, tokens_of,
-};
+use crate::pieces::{bytes_of, closes, opens, some_tokens, token_from, tokens_before, tokens_of};
 use crate::strings::{MOST_COUNTED, strings_at};
 use sk_front::TextFault;
 use sk_lexer::LexFault;

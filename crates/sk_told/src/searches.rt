@@ -1,7 +1,9 @@
 //! Searches that ended: what was asked, and what of the pragmas was passed over.
 ghost use Rattle.std.specs.Prelude.{◌≡◌, ◌++◌, OnOk};
+ghost use Rattle.sk_notes.specs.Notes.{one_line};
 ghost use Rattle.sk_told.specs.Titles.{none_title, none_notes, spent_title, spent_notes};
 
+use crate::phrases::push_note;
 use crate::pieces::{has_key, is_key, some_tokens};
 use crate::results::push_unreturned;
 use sk_notes::{CHOICES, Choice, Range, Told, nearest};
@@ -197,17 +199,22 @@ pub fn tell_none(told: &mut Told) -> Result<(), AllocError>
     Ok(())
 }
 
+// What there is to know where a budget is spent.
+fn spent_phrase(is_known: bool) -> &'static [u8]
+    ensures { one_line result.now ≡ spent_notes is_known }
+{
+    if is_known {
+        b"what is written meets all that is asked, and may not be of least value"
+    } else {
+        b"no completion is known, and there may be one"
+    }
+}
+
 /// Tells that a budget is spent.
 pub fn tell_spent(told: &mut Told, option: &[u8], is_known: bool) -> Result<(), AllocError>
     ensures title { OnOk result (told.new.title.bytes.items ≡ told.old.title.bytes.items ++ spent_title option.now) }
     ensures notes { OnOk result (told.new.notes.bytes.items ≡ told.old.notes.bytes.items ++ spent_notes is_known) }
 {
     told.title(&[b"the budget of ", option, b" is spent"])?;
-    if is_known {
-        told.note(&[b"what is written meets all that is asked, and may not be of least value"])?;
-        Ok(())
-    } else {
-        told.note(&[b"no completion is known, and there may be one"])?;
-        Ok(())
-    }
+    push_note(told, spent_phrase(is_known))
 }
