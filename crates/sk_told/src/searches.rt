@@ -3,7 +3,7 @@ ghost use Rattle.std.specs.Prelude.{◌≡◌, ◌++◌, OnOk};
 ghost use Rattle.sk_notes.specs.Notes.{one_line};
 ghost use Rattle.sk_told.specs.Titles.{none_title, none_notes, spent_title, spent_notes};
 
-use crate::phrases::push_note;
+use crate::phrases::{push_note, tell_two};
 use crate::pieces::{has_key, is_key, some_tokens};
 use crate::results::push_unreturned;
 use sk_notes::{CHOICES, Choice, Range, Told, nearest};
@@ -191,12 +191,12 @@ pub fn tell_none(told: &mut Told) -> Result<(), AllocError>
     ensures title { OnOk result (told.new.title.bytes.items ≡ told.old.title.bytes.items ++ none_title) }
     ensures notes { OnOk result (told.new.notes.bytes.items ≡ told.old.notes.bytes.items ++ none_notes) }
 {
-    told.title(&[b"no values of the open parts meet all that is asked on every input"])?;
-    told.note(&[
+    tell_two(
+        told,
+        b"no values of the open parts meet all that is asked on every input",
         b"a passed bound is a failed run: --bnd-unroll-amnt and --bnd-inline-amnt are part of what is asked",
-    ])?;
-    told.note(&[b"--bnd-cbits is the width of a hole, --bnd-inbits that of an input"])?;
-    Ok(())
+        b"--bnd-cbits is the width of a hole, --bnd-inbits that of an input",
+    )
 }
 
 // What there is to know where a budget is spent.
