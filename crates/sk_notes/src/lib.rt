@@ -3,6 +3,7 @@
 
 mod near;
 mod note;
+mod numbers;
 mod options;
 mod slips;
 mod words;

@@ -1,6 +1,7 @@
 //! Text for people.
-ghost use Rattle.std.specs.Prelude.{◌≡◌, ◌++◌, [], ◌∷◌, map, true, IsTrue, OnOk};
+ghost use Rattle.std.specs.Prelude.{◌≡◌, ◌++◌, [], ◌∷◌, map, decimal, true, IsTrue, OnOk};
 ghost use Rattle.std.specs.List.{list_all, flat_map};
+ghost use Rattle.sk_place.specs.Spots.{place_text};
 ghost use Rattle.sk_notes.specs.Notes.{is_plain, is_note, plain};
 
 use itoa::Buffer;
@@ -65,7 +66,9 @@ impl Note {
     }
 
     /// Appends words, one directly behind another.
-    pub fn say(&mut self, words: &[&[u8]]) -> Result<(), AllocError> {
+    pub fn say(&mut self, words: &[&[u8]]) -> Result<(), AllocError>
+        ensures { OnOk result (self.new.bytes.items ≡ self.old.bytes.items ++ flat_map (λ word. map plain word.now) words.now) }
+    {
         for word in words {
             self.word(*word)?;
         }
@@ -73,16 +76,23 @@ impl Note {
     }
 
     /// Appends a number in decimal.
-    pub fn number(&mut self, number: u64) -> Result<(), AllocError> {
+    #[tactic(auto, using(crate::proofs::NoteLemmas::plain_decimal))]
+    pub fn number(&mut self, number: u64) -> Result<(), AllocError>
+        ensures { OnOk result (self.new.bytes.items ≡ self.old.bytes.items ++ decimal number) }
+    {
         let mut buffer = Buffer::new();
-        self.word(buffer.format(number).as_bytes())
+        self.word(buffer.format(number).as_bytes())?;
+        Ok(())
     }
 
     /// Appends the numbers of a place, as `LINE:COLUMN`.
-    pub fn place(&mut self, place: Place) -> Result<(), AllocError> {
+    pub fn place(&mut self, place: Place) -> Result<(), AllocError>
+        ensures { OnOk result (self.new.bytes.items ≡ self.old.bytes.items ++ place_text place) }
+    {
         self.number(place.line as u64)?;
         self.word(b":")?;
-        self.number(place.column as u64)
+        self.number(place.column as u64)?;
+        Ok(())
     }
 
     /// Ends a line.
@@ -93,9 +103,12 @@ impl Note {
     }
 
     /// Appends words, and ends the line.
-    pub fn line(&mut self, words: &[&[u8]]) -> Result<(), AllocError> {
+    pub fn line(&mut self, words: &[&[u8]]) -> Result<(), AllocError>
+        ensures { OnOk result (self.new.bytes.items ≡ self.old.bytes.items ++ flat_map (λ word. map plain word.now) words.now ++ 10 ∷ []) }
+    {
         self.say(words)?;
-        self.end()
+        self.end()?;
+        Ok(())
     }
 }
 
@@ -108,7 +121,10 @@ pub struct Told {
 
 impl Told {
     /// Nothing to tell.
-    pub fn new(alloc: Global) -> Told {
+    pub fn new(alloc: Global) -> Told
+        ensures title { result.title.bytes.items ≡ [] }
+        ensures notes { result.notes.bytes.items ≡ [] }
+    {
         Told {
             title: Note::new(alloc),
             notes: Note::new(alloc),
@@ -116,12 +132,20 @@ impl Told {
     }
 
     /// Appends words to the title.
-    pub fn title(&mut self, words: &[&[u8]]) -> Result<(), AllocError> {
-        self.title.say(words)
+    pub fn title(&mut self, words: &[&[u8]]) -> Result<(), AllocError>
+        ensures title { OnOk result (self.new.title.bytes.items ≡ self.old.title.bytes.items ++ flat_map (λ word. map plain word.now) words.now) }
+        ensures notes { self.new.notes ≡ self.old.notes }
+    {
+        self.title.say(words)?;
+        Ok(())
     }
 
     /// Appends a line to the notes.
-    pub fn note(&mut self, words: &[&[u8]]) -> Result<(), AllocError> {
-        self.notes.line(words)
+    pub fn note(&mut self, words: &[&[u8]]) -> Result<(), AllocError>
+        ensures notes { OnOk result (self.new.notes.bytes.items ≡ self.old.notes.bytes.items ++ flat_map (λ word. map plain word.now) words.now ++ 10 ∷ []) }
+        ensures title { self.new.title ≡ self.old.title }
+    {
+        self.notes.line(words)?;
+        Ok(())
     }
 }

@@ -1,4 +1,8 @@
 //! The commands and their options.
+ghost use Rattle.std.specs.Prelude.{◌≡◌};
+ghost use Rattle.sk_notes.specs.Options.{command_word, command_among, command_of, choice_name, choice_among, choice_of, is_holes, is_bound, is_of_pragmas, command_has, choice_bit, one_of, choice_takes, range_of, range_has, takes_word};
+
+use crate::numbers::{are_numbers, number_of};
 
 /// A command.
 #[derive(Debug, Clone, Copy, PartialEq, Eq)]
@@ -12,19 +16,16 @@ pub enum Command {
 
 impl Command {
     /// The command that a word is.
-    pub fn of(word: &[u8]) -> Option<Command> {
-        match word {
-            b"synth" => Some(Command::Synth),
-            b"exec" => Some(Command::Exec),
-            b"trace" => Some(Command::Trace),
-            b"check" => Some(Command::Check),
-            b"self" => Some(Command::Itself),
-            _ => None,
-        }
+    pub fn of(word: &[u8]) -> Option<Command>
+        ensures { result ≡ command_of word.now }
+    {
+        command_among(&COMMANDS, word)
     }
 
     /// The word of a command.
-    pub fn word(self) -> &'static [u8] {
+    pub fn word(self) -> &'static [u8]
+        ensures { result.now ≡ command_word self }
+    {
         match self {
             Command::Synth => b"synth",
             Command::Exec => b"exec",
@@ -35,14 +36,39 @@ impl Command {
     }
 
     /// Whether it has an option.
-    pub fn has(self, choice: Choice) -> bool {
+    pub fn has(self, choice: Choice) -> bool
+        ensures { result ≡ command_has self choice }
+    {
         match self {
-            Command::Synth => choice != Choice::Holes,
-            Command::Trace => choice == Choice::Holes || choice.is_bound(),
+            Command::Synth => !choice.is_holes(),
+            Command::Trace => choice.is_holes() || choice.is_bound(),
             Command::Exec | Command::Check => choice.is_bound(),
             Command::Itself => false,
         }
     }
+}
+
+/// All commands.
+const COMMANDS: [Command; 5] = [
+    Command::Synth,
+    Command::Exec,
+    Command::Trace,
+    Command::Check,
+    Command::Itself,
+];
+
+// The one of these commands that a word is.
+fn command_among(commands: &[Command], word: &[u8]) -> Option<Command>
+    ensures { result ≡ command_among commands.now word.now }
+{
+    let mut rest = commands;
+    while let [command, others @ ..] = rest {
+        if word == command.word() {
+            return Some(*command);
+        }
+        rest = others;
+    }
+    None
 }
 
 /// An option.
@@ -90,7 +116,9 @@ pub enum Takes {
 
 impl Choice {
     /// How it is spelt.
-    pub fn name(self) -> &'static [u8] {
+    pub fn name(self) -> &'static [u8]
+        ensures { result.now ≡ choice_name self }
+    {
         match self {
             Choice::HoleBits => b"--bnd-cbits",
             Choice::InputBits => b"--bnd-inbits",
@@ -105,17 +133,16 @@ impl Choice {
     }
 
     /// The option that is spelt so.
-    pub fn of(word: &[u8]) -> Option<Choice> {
-        for choice in CHOICES {
-            if choice.name() == word {
-                return Some(choice);
-            }
-        }
-        None
+    pub fn of(word: &[u8]) -> Option<Choice>
+        ensures { result ≡ choice_of word.now }
+    {
+        choice_among(&CHOICES, word)
     }
 
     /// What stands behind it.
-    pub fn takes(self) -> Takes {
+    pub fn takes(self) -> Takes
+        ensures { result ≡ choice_takes self }
+    {
         match self {
             Choice::HoleBits | Choice::InputBits | Choice::Calls => number(1, 16),
             Choice::Turns => number(0, 64),
@@ -128,7 +155,9 @@ impl Choice {
     }
 
     /// The numbers of which it takes one; none where it takes no single number.
-    pub fn range(self) -> Option<Range> {
+    pub fn range(self) -> Option<Range>
+        ensures { result ≡ range_of (choice_takes self) }
+    {
         match self.takes() {
             Takes::Number(range) => Some(range),
             Takes::Nothing | Takes::Numbers => None,
@@ -136,7 +165,9 @@ impl Choice {
     }
 
     /// Whether it sets a bound. These `exec`, `trace` and `check` have too.
-    pub fn is_bound(self) -> bool {
+    pub fn is_bound(self) -> bool
+        ensures { result ≡ is_bound self }
+    {
         match self {
             Choice::HoleBits
             | Choice::InputBits
@@ -148,7 +179,9 @@ impl Choice {
     }
 
     /// Whether a pragma can set it.
-    pub fn is_of_pragmas(self) -> bool {
+    pub fn is_of_pragmas(self) -> bool
+        ensures { result ≡ is_of_pragmas self }
+    {
         match self {
             Choice::HoleBits | Choice::InputBits | Choice::Turns | Choice::Calls => true,
             Choice::IntBits | Choice::Rounds | Choice::Conflicts => false,
@@ -156,8 +189,21 @@ impl Choice {
         }
     }
 
+    // Whether it is the one that takes numbers with commas between them.
+    fn is_holes(self) -> bool
+        ensures { result ≡ is_holes self }
+    {
+        match self {
+            Choice::Holes => true,
+            Choice::HoleBits | Choice::InputBits | Choice::Turns | Choice::Calls => false,
+            Choice::IntBits | Choice::Rounds | Choice::Conflicts | Choice::Certificate => false,
+        }
+    }
+
     /// A bit that no other option has.
-    pub fn bit(self) -> u32 {
+    pub fn bit(self) -> u32
+        ensures { result ≡ choice_bit self }
+    {
         match self {
             Choice::HoleBits => 1,
             Choice::InputBits => 2,
@@ -172,44 +218,32 @@ impl Choice {
     }
 }
 
+// The one of these options that is spelt so.
+fn choice_among(choices: &[Choice], word: &[u8]) -> Option<Choice>
+    ensures { result ≡ choice_among choices.now word.now }
+{
+    let mut rest = choices;
+    while let [choice, others @ ..] = rest {
+        if word == choice.name() {
+            return Some(*choice);
+        }
+        rest = others;
+    }
+    None
+}
+
 // One number from `low` to `high`.
-fn number(low: u64, high: u64) -> Takes {
+fn number(low: u64, high: u64) -> Takes
+    ensures { result ≡ one_of low high }
+{
     Takes::Number(Range { low, high })
-}
-
-fn is_digit(byte: u8) -> bool {
-    b'0' <= byte && byte <= b'9'
-}
-
-/// The number that a word spells: 1 to 10 digits.
-pub fn number_of(word: &[u8]) -> Option<u64> {
-    if word.is_empty() || word.len() > 10 {
-        return None;
-    }
-    let mut number = 0u64;
-    for byte in word {
-        if !is_digit(*byte) {
-            return None;
-        }
-        let digit = u64::from(*byte).saturating_sub(48);
-        number = number.saturating_mul(10).saturating_add(digit);
-    }
-    Some(number)
-}
-
-// Whether a word spells numbers with commas between them.
-fn are_numbers(word: &[u8]) -> bool {
-    for piece in word.split(|byte| *byte == b',') {
-        if number_of(piece).is_none() {
-            return false;
-        }
-    }
-    true
 }
 
 impl Takes {
     /// Whether a word is what stands behind the option.
-    pub fn has(self, word: &[u8]) -> bool {
+    pub fn has(self, word: &[u8]) -> bool
+        ensures { result ≡ takes_word self word.now }
+    {
         match self {
             Takes::Nothing => false,
             Takes::Number(range) => range.has(word),
@@ -220,7 +254,9 @@ impl Takes {
 
 impl Range {
     /// Whether a word spells one of the numbers.
-    pub fn has(self, word: &[u8]) -> bool {
+    pub fn has(self, word: &[u8]) -> bool
+        ensures { result ≡ range_has self word.now }
+    {
         match number_of(word) {
             Some(number) => self.low <= number && number <= self.high,
             None => false,

@@ -1,4 +1,5 @@
 //! Functions that are not run.
+ghost use Rattle.std.specs.Prelude.{◌≡◌};
 ghost use Rattle.sk_opts.specs.Ranges.{IsInRanges};
 
 use crate::lines::expanded;
@@ -58,7 +59,9 @@ fn tell_no_function(
 }
 
 /// Appends words and the place of a part of a text to the notes.
-pub fn push_part(told: &mut Told, text: &[u8], words: &[u8], span: Span) -> Result<(), AllocError> {
+pub fn push_part(told: &mut Told, text: &[u8], words: &[u8], span: Span) -> Result<(), AllocError>
+    ensures { told.new.title ≡ told.old.title }
+{
     let from = span.from as usize;
     if from > text.len() {
         return Ok(());

@@ -2,14 +2,18 @@
 #![tactic(auto)]
 
 mod calls;
+mod declared;
 mod fillings;
 mod lines;
+mod operands;
+mod phrases;
 mod pieces;
 mod reading;
 mod results;
 mod runs;
 mod searches;
 mod sizes;
+mod strings;
 mod typing;
 
 pub use calls::tell_not_run;

@@ -1,12 +1,15 @@
 //! Texts that have no tokens, or read as no tree.
-use crate::pieces::{bytes_of, is_mark, token_from, tokens_before, tokens_of};
-use sk_base::List;
+ghost use Rattle.std.specs.Prelude.{◌≡◌, ◌++◌, OnOk};
+ghost use Rattle.sk_told.specs.Titles.{lex_title, byte_at, bad_byte_title};
+
+use crate::pieces::{bytes_of, closes, opens, some_tokens, token_from, tokens_before, tokens_of};
+use crate::strings::{MOST_COUNTED, strings_at};
 use sk_front::TextFault;
 use sk_lexer::LexFault;
 use sk_notes::Told;
 use sk_parser::{ParseFault, parse};
 use sk_place::place_of;
-use sk_tree::{Mark, Token};
+use sk_tree::Token;
 use std::alloc::{AllocError, Global};
 
 // A word that is tried in front of a token that cannot go on, and what it is called.
@@ -68,28 +71,65 @@ const MOST_TRIED: usize = 65_536;
 const FEW_TOKENS: usize = 50;
 
 /// Tells of a fault of the bytes of a text. Want of memory has an ending of its own.
-pub fn tell_lex(told: &mut Told, text: &[u8], fault: &LexFault) -> Result<(), AllocError> {
+pub fn tell_lex(told: &mut Told, text: &[u8], fault: &LexFault) -> Result<(), AllocError>
+    ensures title { OnOk result (told.new.title.bytes.items ≡ told.old.title.bytes.items ++ lex_title text.now fault.now) }
+    ensures notes { told.new.notes ≡ told.old.notes }
+{
     match fault {
-        LexFault::BadByte { at } => tell_bad_byte(told, text.get(*at as usize)),
-        LexFault::OpenComment { at: _ } => told.title(&[b"the comment has no end: */ is wanting"]),
-        LexFault::LiteralTooLarge { at: _ } => told.title(&[b"the number is above 2147483647"]),
-        LexFault::OpenString { at: _ } => {
-            told.title(&[b"the text has no end on its line: \" is wanting"])
+        LexFault::BadByte { at } => {
+            tell_bad_byte(told, byte_at(text, *at as usize))?;
+            Ok(())
         }
-        LexFault::Memory => told.title(&[b"out of memory"]),
+        LexFault::OpenComment { at: _ } => {
+            told.title(&[b"the comment has no end: */ is wanting"])?;
+            Ok(())
+        }
+        LexFault::LiteralTooLarge { at: _ } => {
+            told.title(&[b"the number is above 2147483647"])?;
+            Ok(())
+        }
+        LexFault::OpenString { at: _ } => {
+            told.title(&[b"the text has no end on its line: \" is wanting"])?;
+            Ok(())
+        }
+        LexFault::Memory => {
+            told.title(&[b"out of memory"])?;
+            Ok(())
+        }
     }
 }
 
-fn tell_bad_byte(told: &mut Told, byte: Option<&u8>) -> Result<(), AllocError> {
+// The byte at a place of a text.
+fn byte_at(text: &[u8], at: usize) -> Option<u8>
+    ensures { result ≡ byte_at text.now at }
+{
+    if at < text.len() {
+        Some(text[at])
+    } else {
+        None
+    }
+}
+
+// Tells of a byte that begins no token.
+fn tell_bad_byte(told: &mut Told, byte: Option<u8>) -> Result<(), AllocError>
+    ensures title { OnOk result (told.new.title.bytes.items ≡ told.old.title.bytes.items ++ bad_byte_title byte) }
+    ensures notes { told.new.notes ≡ told.old.notes }
+{
     match byte {
-        Some(byte) if 32 <= *byte && *byte <= 126 => {
-            told.title(&[b"no token begins with '", &[*byte], b"'"])
-        }
         Some(byte) => {
-            told.title(&[b"no token begins with the byte "])?;
-            told.title.number(u64::from(*byte))
+            if 32 <= byte && byte <= 126 {
+                told.title(&[b"no token begins with '", &[byte], b"'"])?;
+                Ok(())
+            } else {
+                told.title(&[b"no token begins with the byte "])?;
+                told.title.number(u64::from(byte))?;
+                Ok(())
+            }
         }
-        None => told.title(&[b"no token begins here"]),
+        None => {
+            told.title(&[b"no token begins here"])?;
+            Ok(())
+        }
     }
 }
 
@@ -150,20 +190,6 @@ fn push_helpful(told: &mut Told, found: &[&'static [u8]], is_end: bool) -> Resul
     }
 }
 
-fn opens(token: &Token) -> bool {
-    is_mark(token, Mark::OpenParen)
-        || is_mark(token, Mark::OpenBrace)
-        || is_mark(token, Mark::OpenBracket)
-        || is_mark(token, Mark::OpenPattern)
-}
-
-fn closes(token: &Token) -> bool {
-    is_mark(token, Mark::CloseParen)
-        || is_mark(token, Mark::CloseBrace)
-        || is_mark(token, Mark::CloseBracket)
-        || is_mark(token, Mark::ClosePattern)
-}
-
 // The last mark that opens something and is not closed.
 fn last_open(tokens: &[Token]) -> Option<&Token> {
     let mut closed = 0usize;
@@ -213,10 +239,7 @@ fn push_depth(told: &mut Told, tokens: &[Token], at: u32) -> Result<(), AllocErr
 }
 
 fn tell_no_reading(alloc: Global, told: &mut Told, text: &[u8], at: u32) -> Result<(), AllocError> {
-    let tokens = match tokens_of(alloc, text)? {
-        Some(tokens) => tokens,
-        None => List::new(alloc),
-    };
+    let tokens = some_tokens(alloc, text)?;
     let token = token_from(tokens.as_slice(), at);
     push_no_reading(told, text, token)?;
     let found = helpful(alloc, text, at as usize)?;
@@ -228,6 +251,30 @@ fn tell_no_reading(alloc: Global, told: &mut Told, text: &[u8], at: u32) -> Resu
         Some(_) => Ok(()),
         None => push_open(told, text, tokens.as_slice()),
     }
+}
+
+// Appends how many strings a pattern has.
+fn push_strings(told: &mut Told, count: Option<u64>) -> Result<(), AllocError> {
+    match count {
+        Some(MOST_COUNTED) => {
+            told.title(&[b"more than "])?;
+            told.title.number(MOST_COUNTED - 1)
+        }
+        Some(count) => told.title.number(count),
+        None => told.title(&[b"too many"]),
+    }
+}
+
+// Tells how many strings a pattern has that has too many.
+fn tell_strings(alloc: Global, told: &mut Told, text: &[u8], at: u32) -> Result<(), AllocError> {
+    let tokens = some_tokens(alloc, text)?;
+    let count = strings_at(alloc, tokens.as_slice(), at)?;
+    told.title(&[b"the pattern has "])?;
+    push_strings(told, count)?;
+    told.title(&[b" strings, and 128 is the most"])?;
+    told.note(&[
+        b"a sequence has the product of the numbers of its parts, a choice the sum, a part with ? one more",
+    ])
 }
 
 /// Tells why the tokens of a text read as no tree. Want of memory has an ending of its own.
@@ -243,12 +290,7 @@ pub fn tell_parse(
             told.title(&[b"a string of the pattern reads as no expression"])?;
             told.note(&[b"a string has no call, no new, no ??(n), no ?: and no parentheses"])
         }
-        ParseFault::TooManyStrings { at: _ } => {
-            told.title(&[b"the pattern has more than 128 strings"])?;
-            told.note(&[
-                b"a sequence has the product of the numbers of its parts, a choice the sum",
-            ])
-        }
+        ParseFault::TooManyStrings { at } => tell_strings(alloc, told, text, *at),
         ParseFault::Memory => told.title(&[b"out of memory"]),
     }
 }

@@ -1,4 +1,6 @@
 //! Functions that may end without a result.
+ghost use Rattle.std.specs.Prelude.{◌≡◌};
+
 use sk_notes::Told;
 use sk_parser::{ParseFault, parse};
 use sk_tree::{Form, FunItem, Item, Stmt, Token, Tree};
@@ -23,7 +25,9 @@ fn ends(body: &[Stmt]) -> bool {
 }
 
 // Warns of a function with a result, where runs come to the end of its body.
-fn push_fun(told: &mut Told, fun: &FunItem) -> Result<(), AllocError> {
+fn push_fun(told: &mut Told, fun: &FunItem) -> Result<(), AllocError>
+    ensures { told.new.title ≡ told.old.title }
+{
     if fun.result.is_none() || !ends(fun.body.as_slice()) {
         return Ok(());
     }
@@ -34,14 +38,18 @@ fn push_fun(told: &mut Told, fun: &FunItem) -> Result<(), AllocError> {
     ])
 }
 
-fn push_item(told: &mut Told, item: &Item) -> Result<(), AllocError> {
+fn push_item(told: &mut Told, item: &Item) -> Result<(), AllocError>
+    ensures { told.new.title ≡ told.old.title }
+{
     match item {
         Item::Fun(fun) => push_fun(told, fun),
         Item::Pragma { .. } | Item::Struct { .. } | Item::Const { .. } => Ok(()),
     }
 }
 
-fn push_items(told: &mut Told, tree: &Tree) -> Result<(), AllocError> {
+fn push_items(told: &mut Told, tree: &Tree) -> Result<(), AllocError>
+    ensures { told.new.title ≡ told.old.title }
+{
     for item in tree.items.as_slice() {
         push_item(told, item)?;
     }
@@ -49,7 +57,9 @@ fn push_items(told: &mut Told, tree: &Tree) -> Result<(), AllocError> {
 }
 
 /// Warns of each function with a result whose runs can come to the end of its body.
-pub fn push_unreturned(alloc: Global, told: &mut Told, tokens: &[Token]) -> Result<(), AllocError> {
+pub fn push_unreturned(alloc: Global, told: &mut Told, tokens: &[Token]) -> Result<(), AllocError>
+    ensures { told.new.title ≡ told.old.title }
+{
     match parse(alloc, tokens) {
         Ok(tree) => push_items(told, &tree),
         Err(ParseFault::Memory) => Err(AllocError),

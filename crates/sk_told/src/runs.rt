@@ -1,7 +1,10 @@
 //! Runs that failed or were skipped.
+ghost use Rattle.std.specs.Prelude.{◌≡◌, ◌++◌, OnOk};
+ghost use Rattle.sk_told.specs.Titles.{skipped_title};
+
 use crate::lines::expanded;
-use crate::pieces::{is_key, is_mark, is_word, tokens_of};
-use sk_base::{Bounds, List, Span};
+use crate::pieces::{is_key, is_mark, is_word, some_tokens};
+use sk_base::{Bounds, Span};
 use sk_notes::Told;
 use sk_opts::{Line, Usage, options};
 use sk_tree::{Key, Mark, Token};
@@ -238,10 +241,7 @@ pub fn tell_failed(
     text: &[u8],
     span: Span,
 ) -> Result<(), AllocError> {
-    let tokens = match tokens_of(alloc, text)? {
-        Some(tokens) => tokens,
-        None => List::new(alloc),
-    };
+    let tokens = some_tokens(alloc, text)?;
     let bounds = bounds_of(alloc, words, text)?;
     let tokens = tokens_in(tokens.as_slice(), span);
     let form = form_of(tokens.first());
@@ -252,6 +252,10 @@ pub fn tell_failed(
 }
 
 /// Tells why a run was skipped.
-pub fn tell_skipped(told: &mut Told) -> Result<(), AllocError> {
-    told.title(&[b"the run was skipped: what is assumed is false"])
+pub fn tell_skipped(told: &mut Told) -> Result<(), AllocError>
+    ensures title { OnOk result (told.new.title.bytes.items ≡ told.old.title.bytes.items ++ skipped_title) }
+    ensures notes { told.new.notes ≡ told.old.notes }
+{
+    told.title(&[b"the run was skipped: what is assumed is false"])?;
+    Ok(())
 }

@@ -1,7 +1,11 @@
 //! Searches that ended: what was asked, and what of the pragmas was passed over.
-use crate::pieces::{has_key, is_key, tokens_of};
+ghost use Rattle.std.specs.Prelude.{◌≡◌, ◌++◌, OnOk};
+ghost use Rattle.sk_notes.specs.Notes.{one_line};
+ghost use Rattle.sk_told.specs.Titles.{none_title, none_notes, spent_title, spent_notes};
+
+use crate::phrases::{push_note, tell_two};
+use crate::pieces::{has_key, is_key, some_tokens};
 use crate::results::push_unreturned;
-use sk_base::List;
 use sk_notes::{CHOICES, Choice, Range, Told, nearest};
 use sk_place::place_of;
 use sk_tree::{Key, Kind, Token};
@@ -22,7 +26,9 @@ fn choice_of(word: &[u8]) -> Waiting {
 }
 
 // Begins the line of a word that is passed over.
-fn begin(told: &mut Told, text: &[u8], at: usize) -> Result<(), AllocError> {
+fn begin(told: &mut Told, text: &[u8], at: usize) -> Result<(), AllocError>
+    ensures { told.new.title ≡ told.old.title }
+{
     told.notes.say(&[b"warning: the pragma at "])?;
     if at <= text.len() {
         told.notes.place(place_of(text, at))?;
@@ -35,8 +41,11 @@ fn push_unset(
     told: &mut Told,
     text: &[u8],
     at: usize,
-    (choice, range): (Choice, Range),
-) -> Result<(), AllocError> {
+    unset: (Choice, Range),
+) -> Result<(), AllocError>
+    ensures { told.new.title ≡ told.old.title }
+{
+    let (choice, range) = unset;
     begin(told, text, at)?;
     told.notes
         .say(&[b" does not set ", choice.name(), b", which is "])?;
@@ -64,7 +73,9 @@ fn push_passed(
     text: &[u8],
     at: usize,
     word: &[u8],
-) -> Result<(), AllocError> {
+) -> Result<(), AllocError>
+    ensures { told.new.title ≡ told.old.title }
+{
     begin(told, text, at)?;
     told.notes.say(&[b" passes over ", word])?;
     let names = names(alloc)?;
@@ -82,7 +93,9 @@ fn see_word(
     at: usize,
     waiting: Waiting,
     word: &[u8],
-) -> Result<Waiting, AllocError> {
+) -> Result<Waiting, AllocError>
+    ensures { told.new.title ≡ told.old.title }
+{
     if let Some((choice, range)) = waiting {
         if range.has(word) {
             return Ok(None);
@@ -107,7 +120,9 @@ fn see_options(
     text: &[u8],
     at: usize,
     options: &[u8],
-) -> Result<(), AllocError> {
+) -> Result<(), AllocError>
+    ensures { told.new.title ≡ told.old.title }
+{
     let mut waiting: Waiting = None;
     for word in options.split(|byte| is_blank(*byte)) {
         if !word.is_empty() {
@@ -134,7 +149,9 @@ fn push_pragmas(
     told: &mut Told,
     text: &[u8],
     tokens: &[Token],
-) -> Result<(), AllocError> {
+) -> Result<(), AllocError>
+    ensures { told.new.title ≡ told.old.title }
+{
     for three in tokens.windows(3) {
         if let [first, second, third] = three {
             if let Kind::Text(options) = &third.kind {
@@ -148,23 +165,19 @@ fn push_pragmas(
     Ok(())
 }
 
-// The tokens of a text; none where it has none.
-fn some_tokens(alloc: Global, text: &[u8]) -> Result<List<Token>, AllocError> {
-    match tokens_of(alloc, text)? {
-        Some(tokens) => Ok(tokens),
-        None => Ok(List::new(alloc)),
-    }
-}
-
 /// Warns of a text that was run or searched: what its pragmas pass over, and which functions end without a result.
-pub fn push_passed_over(alloc: Global, told: &mut Told, text: &[u8]) -> Result<(), AllocError> {
+pub fn push_passed_over(alloc: Global, told: &mut Told, text: &[u8]) -> Result<(), AllocError>
+    ensures { told.new.title ≡ told.old.title }
+{
     let tokens = some_tokens(alloc, text)?;
     push_pragmas(alloc, told, text, tokens.as_slice())?;
     push_unreturned(alloc, told, tokens.as_slice())
 }
 
 /// Warns of a text that a search ended on: that nothing was asked, and what it passes over.
-pub fn push_warnings(alloc: Global, told: &mut Told, text: &[u8]) -> Result<(), AllocError> {
+pub fn push_warnings(alloc: Global, told: &mut Told, text: &[u8]) -> Result<(), AllocError>
+    ensures { told.new.title ≡ told.old.title }
+{
     let tokens = some_tokens(alloc, text)?;
     let tokens = tokens.as_slice();
     if !has_key(tokens, Key::Harness) && !has_key(tokens, Key::Implements) {
@@ -174,20 +187,34 @@ pub fn push_warnings(alloc: Global, told: &mut Told, text: &[u8]) -> Result<(), 
 }
 
 /// Tells that no completion meets what is asked.
-pub fn tell_none(told: &mut Told) -> Result<(), AllocError> {
-    told.title(&[b"no values of the open parts meet all that is asked on every input"])?;
-    told.note(&[
+pub fn tell_none(told: &mut Told) -> Result<(), AllocError>
+    ensures title { OnOk result (told.new.title.bytes.items ≡ told.old.title.bytes.items ++ none_title) }
+    ensures notes { OnOk result (told.new.notes.bytes.items ≡ told.old.notes.bytes.items ++ none_notes) }
+{
+    tell_two(
+        told,
+        b"no values of the open parts meet all that is asked on every input",
         b"a passed bound is a failed run: --bnd-unroll-amnt and --bnd-inline-amnt are part of what is asked",
-    ])?;
-    told.note(&[b"--bnd-cbits is the width of a hole, --bnd-inbits that of an input"])
+        b"--bnd-cbits is the width of a hole, --bnd-inbits that of an input",
+    )
+}
+
+// What there is to know where a budget is spent.
+fn spent_phrase(is_known: bool) -> &'static [u8]
+    ensures { one_line result.now ≡ spent_notes is_known }
+{
+    if is_known {
+        b"what is written meets all that is asked, and may not be of least value"
+    } else {
+        b"no completion is known, and there may be one"
+    }
 }
 
 /// Tells that a budget is spent.
-pub fn tell_spent(told: &mut Told, option: &[u8], is_known: bool) -> Result<(), AllocError> {
+pub fn tell_spent(told: &mut Told, option: &[u8], is_known: bool) -> Result<(), AllocError>
+    ensures title { OnOk result (told.new.title.bytes.items ≡ told.old.title.bytes.items ++ spent_title option.now) }
+    ensures notes { OnOk result (told.new.notes.bytes.items ≡ told.old.notes.bytes.items ++ spent_notes is_known) }
+{
     told.title(&[b"the budget of ", option, b" is spent"])?;
-    if is_known {
-        told.note(&[b"what is written meets all that is asked, and may not be of least value"])
-    } else {
-        told.note(&[b"no completion is known, and there may be one"])
-    }
+    push_note(told, spent_phrase(is_known))
 }

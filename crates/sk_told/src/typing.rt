@@ -1,7 +1,9 @@
 //! Texts that break a rule of names and types.
+use crate::declared::push_declarations;
 use crate::lines::{line_of, set_of};
-use crate::pieces::{bytes_of, is_mark, is_word, tokens_of};
-use sk_base::{List, Span};
+use crate::operands::push_operands;
+use crate::pieces::{bytes_of, is_mark, is_word, some_tokens};
+use sk_base::Span;
 use sk_check::{Rule, TypeFault};
 use sk_notes::{Told, near_by};
 use sk_tree::{Mark, Token};
@@ -143,6 +145,21 @@ fn tell_number(alloc: Global, told: &mut Told, words: &[String]) -> Result<(), A
     }
 }
 
+// Tells of a type that cannot stand where it does: the other cause that there may be, and what is declared there.
+fn tell_mismatch(
+    alloc: Global,
+    told: &mut Told,
+    text: &[u8],
+    tokens: &[Token],
+    span: Span,
+) -> Result<(), AllocError> {
+    if has_call(tokens, span) {
+        told.title(&[b", or a call has another number of arguments than its function"])?;
+    }
+    push_operands(told, text, tokens, span)?;
+    push_declarations(alloc, told, text, tokens, span)
+}
+
 /// Tells which rule a text breaks.
 pub fn tell_type(
     alloc: Global,
@@ -151,10 +168,7 @@ pub fn tell_type(
     text: &[u8],
     fault: &TypeFault,
 ) -> Result<(), AllocError> {
-    let tokens = match tokens_of(alloc, text)? {
-        Some(tokens) => tokens,
-        None => List::new(alloc),
-    };
+    let tokens = some_tokens(alloc, text)?;
     match fault.rule {
         Rule::UnknownName => {
             tell_unknown_name(alloc, told, text, tokens.as_slice(), fault.span)?;
@@ -162,8 +176,8 @@ pub fn tell_type(
         Rule::LiteralRange => tell_number(alloc, told, words)?,
         rule => told.title(&[rule_title(rule)])?,
     }
-    if fault.rule == Rule::Mismatch && has_call(tokens.as_slice(), fault.span) {
-        told.title(&[b", or a call has another number of arguments than its function"])?;
+    if fault.rule == Rule::Mismatch {
+        tell_mismatch(alloc, told, text, tokens.as_slice(), fault.span)?;
     }
     if fault.span.to == 0 {
         told.note(&[

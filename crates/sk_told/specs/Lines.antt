@@ -1,0 +1,16 @@
+-- What a line gives.
+use Rattle.std.specs.Prelude.{Option, Some, None}
+use Rattle.sk_opts.specs.declared.line.Line.{Line}
+use Rattle.sk_opts.specs.declared.line.Line.TheVariants as line
+use Rattle.sk_opts.specs.declared.line.Set.{Set}
+
+-- the bounds that the options of a line give, where it is one that takes a text
+abbrev pub set_of : Option Line → Option Set
+set_of None = None
+set_of (Some (line.Synth set budget cert)) = Some set
+set_of (Some (line.Exec set name values)) = Some set
+set_of (Some (line.Trace set name values holes)) = Some set
+set_of (Some (line.Check set)) = None
+set_of (Some (line.Itself n)) = None
+set_of (Some line.Help) = None
+set_of (Some line.Version) = None
