@@ -1,9 +1,9 @@
 //! Statements that break a rule of tags.
 ghost use Rattle.std.specs.Prelude.{◌≡◌, IfOk, map, option_map};
 ghost use Rattle.std.specs.List.{list_any};
-ghost use Rattle.sk_tagged.specs.Tags.{part, work, any_part, all_of, or_idle, tests_within};
+ghost use Rattle.sk_tagged.specs.Tags.{first, part, work, any_part, all_of, or_idle, tests_within};
 
-use crate::expr::{broken as expr_broken, condition_broken, may_be, or_else, passes, test_of};
+use crate::expr::{broken as expr_broken, condition_broken, may_be, passes, test_of};
 use crate::ground::Ground;
 use crate::role::Test;
 use sk_base::{Boxed, Span};
@@ -76,7 +76,7 @@ fn touches(ground: &Ground, stmt: &PStmt, x: u32) -> bool
 
 // The first span in an expression, where there is one.
 fn any_broken(ground: &Ground, tests: &[Test], e: &Option<PExpr>) -> Option<Span>
-    ensures { result ≡ (any_part ground.now.types.now ground.now.prog.now e.now).broken tests.now }
+    ensures { result ≡ first ((any_part ground.now.types.now ground.now.prog.now e.now).breaks tests.now) }
 {
     match e {
         None => None,
@@ -106,13 +106,14 @@ fn tests_within(
 
 /// The first span in statements that breaks a rule, in the first branches of these tests. Want of memory is the only error.
 #[cycle(breaks)]
+#[tactic(auto, using(crate::proofs::Firsts::first_both))]
 pub(crate) fn all_broken(
     alloc: Global,
     ground: &Ground,
     tests: &[Test],
     stmts: &[PStmt],
 ) -> Result<Option<Span>, AllocError>
-    ensures { IfOk result (λ span. span ≡ (all_of (map (work ground.now.types.now ground.now.prog.now) stmts.now)).broken tests.now) }
+    ensures { IfOk result (λ span. span ≡ first ((all_of (map (work ground.now.types.now ground.now.prog.now) stmts.now)).breaks tests.now)) }
 {
     for stmt in stmts {
         if let Some(span) = broken(alloc, ground, tests, stmt)? {
@@ -123,13 +124,14 @@ pub(crate) fn all_broken(
 }
 
 #[cycle(breaks)]
+#[tactic(auto, using(crate::proofs::Firsts::first_both))]
 fn other_broken(
     alloc: Global,
     ground: &Ground,
     tests: &[Test],
     other: &Option<Boxed<PStmt>>,
 ) -> Result<Option<Span>, AllocError>
-    ensures { IfOk result (λ span. span ≡ (or_idle (option_map (work ground.now.types.now ground.now.prog.now) other.now)).broken tests.now) }
+    ensures { IfOk result (λ span. span ≡ first ((or_idle (option_map (work ground.now.types.now ground.now.prog.now) other.now)).breaks tests.now)) }
 {
     match other {
         None => Ok(None),
@@ -139,13 +141,14 @@ fn other_broken(
 
 // The first span in a statement.
 #[cycle(breaks)]
+#[tactic(auto, using(crate::proofs::Firsts::first_both))]
 fn broken(
     alloc: Global,
     ground: &Ground,
     tests: &[Test],
     stmt: &PStmt,
 ) -> Result<Option<Span>, AllocError>
-    ensures { IfOk result (λ span. span ≡ (work ground.now.types.now ground.now.prog.now stmt.now).broken tests.now) }
+    ensures { IfOk result (λ span. span ≡ first ((work ground.now.types.now ground.now.prog.now stmt.now).breaks tests.now)) }
 {
     match &stmt.form {
         PForm::Block(stmts) | PForm::Reorder(stmts) | PForm::MinRepeat(stmts) => all_broken(
@@ -161,10 +164,7 @@ fn broken(
             value,
         }
         | PForm::Return(value) => Ok(any_broken(ground, tests, value)),
-        PForm::Assign { target, value } => Ok(or_else(
-            expr_broken(ground, tests, target),
-            expr_broken(ground, tests, value),
-        )),
+        PForm::Assign { target, value } => Ok(expr_broken(ground, tests, target).or(expr_broken(ground, tests, value))),
         PForm::Call(e) | PForm::Assert(e) | PForm::Assume(e) | PForm::Minimize(e) => Ok(expr_broken(
             ground, tests, e,
         )),
@@ -173,19 +173,16 @@ fn broken(
             let within = tests_within(alloc, ground, tests, test, then.get())?;
             let first = broken(alloc, ground, within.as_slice(), then.get())?;
             let second = other_broken(alloc, ground, tests, other)?;
-            let span = or_else(
-                condition_broken(ground, tests, test, cond),
-                or_else(first, second),
-            );
+            let span = condition_broken(ground, tests, test, cond).or(first.or(second));
             Ok(span)
         }
         PForm::While { cond, body } => {
             let inner = broken(alloc, ground, tests, body.get())?;
-            Ok(or_else(expr_broken(ground, tests, cond), inner))
+            Ok(expr_broken(ground, tests, cond).or(inner))
         }
         PForm::Repeat { count, copies } => {
             let inner = all_broken(alloc, ground, tests, copies.as_slice())?;
-            Ok(or_else(expr_broken(ground, tests, count), inner))
+            Ok(expr_broken(ground, tests, count).or(inner))
         }
     }
 }
