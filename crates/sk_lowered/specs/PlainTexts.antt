@@ -22,7 +22,7 @@ use Rattle.sk_front.specs.declared.fault.TextFault.TheVariants.{Lex, Parse}
 use Rattle.sk_front.specs.declared.fault.SketchFault.{SketchFault}
 use Rattle.sk_front.specs.declared.fault.SketchFault.TheVariants as fault
 use Rattle.sk_front.specs.declared.program.Typed.{Typed}
-use Rattle.sk_front.specs.Texts.{IsLexFault, byte_of}
+use Rattle.sk_front.specs.Texts.{most_bytes, IsLexFault, byte_of}
 use Rattle.sk_front.specs.Reading.{Refuses}
 use Rattle.sk_lowered.specs.declared.lowering.Lowering.{Lowering}
 use Rattle.sk_lowered.specs.declared.lowering.Lowering.TheVariants as lowering
@@ -52,14 +52,16 @@ pub record HasSpan (tokens : List Token) (bytes : ℕ) (span : Span) : Type 0 wh
 
 -- Plain forms
 
--- The text has tokens, and this is their plain form, with the algebraic types of the text.
+-- The text is short enough and has tokens, and this is their plain form, with the algebraic types of the text.
 pub record IsPlainForm (text : List ℕ) (form : Lowered) : Type 0 where
+  pub short : length text ≤ most_bytes
   pub tokens : List Token
   pub lexed : AreTokens text tokens
   pub lowered_is : lowered tokens ≡ Ok form
 
--- The text has tokens, and they have no plain form, for this reason.
+-- The text is short enough and has tokens, and they have no plain form, for this reason.
 pub record HasNoPlainForm (text : List ℕ) (reason : AdtFault) : Type 0 where
+  pub short : length text ≤ most_bytes
   pub tokens : List Token
   pub lexed : AreTokens text tokens
   pub lowered_is : lowered tokens ≡ Err reason

@@ -52,6 +52,7 @@ fn form_of(alloc: Global, tokens: &[Token]) -> Result<Result<Lowered, AdtFault>,
 }
 
 /// The plain form of a text, or why its tokens have none.
+#[tactic(auto, using(crate::proofs::Answering::formed))]
 pub(crate) fn plain_form(
     alloc: Global,
     text: &[u8],

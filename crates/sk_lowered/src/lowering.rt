@@ -46,6 +46,7 @@ fn written(alloc: Global, types: &List<Algebraic>, prog: &Prog) -> Result<Loweri
 }
 
 /// The same, of the plain form of a text of so many bytes.
+#[tactic(auto, using(crate::proofs::Answering::of_program))]
 fn of_form(
     alloc: Global,
     set: &Set,
@@ -68,6 +69,7 @@ fn of_form(
 }
 
 /// The same as `lowered_text`, with the causes of what is answered alone.
+#[tactic(auto, using(crate::proofs::Answering::answered, crate::proofs::Answering::refused, crate::proofs::Answering::placed, crate::proofs::Answering::undivided, crate::proofs::Answering::undivided_at))]
 fn lowered(alloc: Global, set: &Set, text: &[u8]) -> Result<Lowering, SketchFault>
     requires short { length text.now ≤ most_bytes }
     requires set { IsInRanges set.now }

@@ -71,6 +71,7 @@ fn placed(fault: TypeFault, bytes: usize) -> TypeFault
 }
 
 /// What the tokens of the plain form of a text of so many bytes mean with the options of a line.
+#[tactic(auto, using(crate::proofs::Answering::unread))]
 pub(crate) fn meaning_of(
     alloc: Global,
     set: &Set,

@@ -2,7 +2,7 @@
 ghost use Rattle.std.specs.Prelude.{◌≡◌, ◌==◌, ◌&&◌, map, option_map, slice_get};
 ghost use Rattle.sk_lower.specs.Words.{each};
 ghost use Rattle.std.specs.List.{list_any};
-ghost use Rattle.sk_tagged.specs.Tags.{first, part, new_part, member_part, condition_breaks, is_tested, params_of, passes_to, is_of, variant_numbered, made_variant, sets_only, new_fits};
+ghost use Rattle.sk_tagged.specs.Tags.{first, part, of_two, new_part, member_part, condition, is_tested, params_of, passes_to, is_of, variant_numbered, made_variant, sets_only, new_fits};
 ghost use Rattle.sk_tagged.specs.Fields.{field_part};
 
 use crate::ground::{Ground, role_in};
@@ -297,10 +297,14 @@ pub(crate) fn broken(ground: &Ground, tests: &[Test], e: &PExpr) -> Option<Span>
             from: right,
             length: _,
         }
-        | PEForm::Binary { op: _, left, right } => broken(ground, tests, left.get())
-            .or(broken(ground, tests, right.get())),
+        | PEForm::Binary { op: _, left, right } => both_broken(
+            ground,
+            tests,
+            left.get(),
+            right.get(),
+        ),
         PEForm::Cond { cond, then, other } => broken(ground, tests, cond.get())
-            .or(broken(ground, tests, then.get()).or(broken(ground, tests, other.get()))),
+            .or(both_broken(ground, tests, then.get(), other.get())),
         PEForm::Member { base, s, field } => member_broken(
             ground,
             tests,
@@ -310,6 +314,15 @@ pub(crate) fn broken(ground: &Ground, tests: &[Test], e: &PExpr) -> Option<Span>
         ),
         PEForm::New { s, fields } => new_broken(ground, tests, e.span, *s, fields.as_slice()),
     }
+}
+
+// The first span in the one, or else in the other.
+#[cycle(breaks)]
+#[tactic(auto, using(crate::proofs::Firsts::first_both))]
+fn both_broken(ground: &Ground, tests: &[Test], left: &PExpr, right: &PExpr) -> Option<Span>
+    ensures { result ≡ first ((of_two (part ground.now.types.now ground.now.prog.now left.now) (part ground.now.types.now ground.now.prog.now right.now)).breaks tests.now) }
+{
+    broken(ground, tests, left).or(broken(ground, tests, right))
 }
 
 // The first span in some expressions.
@@ -384,16 +397,11 @@ fn member_broken(
     }
 }
 
-/// The first span in the condition of an `if`, where it is this test or none.
-pub(crate) fn condition_broken(
-    ground: &Ground,
-    tests: &[Test],
-    test: Option<Test>,
-    cond: &PExpr,
-) -> Option<Span>
-    ensures { result ≡ first (condition_breaks test (part ground.now.types.now ground.now.prog.now cond.now) tests.now) }
+/// The first span in the condition of an `if`, which as a whole may be a test.
+pub(crate) fn condition_broken(ground: &Ground, tests: &[Test], cond: &PExpr) -> Option<Span>
+    ensures { result ≡ first ((condition (part ground.now.types.now ground.now.prog.now cond.now)).breaks tests.now) }
 {
-    match test {
+    match test_of(ground, cond) {
         Some(_) => None,
         None => broken(ground, tests, cond),
     }

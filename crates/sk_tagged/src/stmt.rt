@@ -1,7 +1,7 @@
 //! Statements that break a rule of tags.
 ghost use Rattle.std.specs.Prelude.{◌≡◌, IfOk, map, option_map};
 ghost use Rattle.std.specs.List.{list_any};
-ghost use Rattle.sk_tagged.specs.Tags.{first, part, work, any_part, all_of, or_idle, tests_within};
+ghost use Rattle.sk_tagged.specs.Tags.{first, part, work, any_part, both, all_of, or_idle, tests_within, first_branch};
 
 use crate::expr::{broken as expr_broken, condition_broken, may_be, passes, test_of};
 use crate::ground::Ground;
@@ -139,6 +139,25 @@ fn other_broken(
     }
 }
 
+// The first span in the branches of an `if` with this condition.
+#[cycle(breaks)]
+#[tactic(auto, using(crate::proofs::Firsts::first_both))]
+fn branches_broken(
+    alloc: Global,
+    ground: &Ground,
+    tests: &[Test],
+    cond: &PExpr,
+    then: &PStmt,
+    other: &Option<Boxed<PStmt>>,
+) -> Result<Option<Span>, AllocError>
+    ensures { IfOk result (λ span. span ≡ first ((both (first_branch (part ground.now.types.now ground.now.prog.now cond.now).test (work ground.now.types.now ground.now.prog.now then.now)) (or_idle (option_map (work ground.now.types.now ground.now.prog.now) other.now))).breaks tests.now)) }
+{
+    let within = tests_within(alloc, ground, tests, test_of(ground, cond), then)?;
+    let first = broken(alloc, ground, within.as_slice(), then)?;
+    let second = other_broken(alloc, ground, tests, other)?;
+    Ok(first.or(second))
+}
+
 // The first span in a statement.
 #[cycle(breaks)]
 #[tactic(auto, using(crate::proofs::Firsts::first_both))]
@@ -169,12 +188,8 @@ fn broken(
             ground, tests, e,
         )),
         PForm::If { cond, then, other } => {
-            let test = test_of(ground, cond);
-            let within = tests_within(alloc, ground, tests, test, then.get())?;
-            let first = broken(alloc, ground, within.as_slice(), then.get())?;
-            let second = other_broken(alloc, ground, tests, other)?;
-            let span = condition_broken(ground, tests, test, cond).or(first.or(second));
-            Ok(span)
+            let inner = branches_broken(alloc, ground, tests, cond, then.get(), other)?;
+            Ok(condition_broken(ground, tests, cond).or(inner))
         }
         PForm::While { cond, body } => {
             let inner = broken(alloc, ground, tests, body.get())?;

@@ -1,4 +1,4 @@
-use Rattle.std.proofs.Common.{◌≡◌, drop, map}
+use Rattle.std.proofs.Common.{◌≡◌, ◌+◌, ◌*◌, max, drop, map}
 use Rattle.sk_lower.specs.Words.{each}
 use Rattle.sk_tagged.specs.Tags.{first, part}
 use Rattle.sk_tagged.specs.Fields.{field_part}
@@ -13,3 +13,22 @@ abbrev pub invariant-any_field_broken-loop-field : goal.invariant-any_field_brok
 invariant-any_field_broken-loop-field l =
     first (each (map (λ p. p.breaks l.tests) (map (λ f. f.1) (map (field_part l.ground.types.now l.ground.prog.now) (drop l.field-index l.fields)))))
     ≡ first (each (map (λ p. p.breaks l.tests) (map (λ f. f.1) (map (field_part l.ground.types.now l.ground.prog.now) l.fields))))
+
+-- each call goes down in the tree, or to a part of what it is about
+abbrev pub decreases-broken : goal.decreases-broken
+decreases-broken l = 3 * goal.size-broken l
+
+abbrev pub decreases-member_broken : goal.decreases-member_broken
+decreases-member_broken l = 3 * goal.size-member_broken l + 1
+
+abbrev pub decreases-any_broken : goal.decreases-any_broken
+decreases-any_broken l = 3 * goal.size-any_broken l + 1
+
+abbrev pub decreases-any_field_broken : goal.decreases-any_field_broken
+decreases-any_field_broken l = 3 * goal.size-any_field_broken l + 1
+
+abbrev pub decreases-new_broken : goal.decreases-new_broken
+decreases-new_broken l = 3 * goal.size-new_broken l + 2
+
+abbrev pub decreases-both_broken : goal.decreases-both_broken
+decreases-both_broken l = 3 * max (goal.size-both_broken l) (goal.size-broken (record { ground = l.ground; tests = l.tests; e = l.right })) + 1
