@@ -195,6 +195,10 @@ condition c = record { touches = c.passes; breaks = condition_breaks c.test c }
 abbrev pub first_branch : Option Test → Work → Work
 first_branch test a = record { touches = a.touches; breaks = λ tests. a.breaks (tests_within test a tests) }
 
+-- the condition of an `if` and its first branch
+unfoldable pub tested : Part → Work → Work
+tested c a = both (condition c) (first_branch c.test a)
+
 module _ (types : List Algebraic) (prog : Prog) where
   abbrev pub new_part : StructId → List (ℕ × Part) → Span → Part
   new_part d fields s =
@@ -240,7 +244,7 @@ module _ (types : List Algebraic) (prog : Prog) where
   form_work (S.Declare slot x t value) = touching (λ y. y == slot) (any_part value)
   form_work (S.Assign target value) = touching (part target).may_be (both (of_expr (part target)) (of_expr (part value)))
   form_work (S.Call e) = of_expr (part e)
-  form_work (S.If c a b) = both (condition (part c)) (both (first_branch (part c).test a) (or_idle b))
+  form_work (S.If c a b) = both (tested (part c) a) (or_idle b)
   form_work (S.While c a) = both (of_expr (part c)) a
   form_work (S.Return value) = any_part value
   form_work (S.Assert e) = of_expr (part e)

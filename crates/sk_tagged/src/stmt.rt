@@ -1,7 +1,7 @@
 //! Statements that break a rule of tags.
 ghost use Rattle.std.specs.Prelude.{◌≡◌, IfOk, map, option_map};
 ghost use Rattle.std.specs.List.{list_any};
-ghost use Rattle.sk_tagged.specs.Tags.{first, part, work, any_part, both, all_of, or_idle, tests_within, first_branch};
+ghost use Rattle.sk_tagged.specs.Tags.{first, part, work, any_part, all_of, or_idle, tests_within, tested};
 
 use crate::expr::{broken as expr_broken, condition_broken, may_be, passes, test_of};
 use crate::ground::Ground;
@@ -45,6 +45,7 @@ fn other_touches(ground: &Ground, other: &Option<Boxed<PStmt>>, x: u32) -> bool
 
 // Whether a statement assigns or declares a variable or passes it to a `ref` parameter.
 #[cycle(touches)]
+#[tactic(auto, unfolding(crate::specs::Tags::tested))]
 fn touches(ground: &Ground, stmt: &PStmt, x: u32) -> bool
     ensures { result ≡ (work ground.now.types.now ground.now.prog.now stmt.now).touches x }
 {
@@ -67,7 +68,8 @@ fn touches(ground: &Ground, stmt: &PStmt, x: u32) -> bool
             ground, e, x,
         ),
         PForm::If { cond, then, other } => passes(ground, cond, x)
-            || (touches(ground, then.get(), x) || other_touches(ground, other, x)),
+            || touches(ground, then.get(), x)
+            || other_touches(ground, other, x),
         PForm::While { cond, body } => passes(ground, cond, x) || touches(ground, body.get(), x),
         PForm::Repeat { count, copies } => passes(ground, count, x)
             || any_touches(ground, copies.as_slice(), x),
@@ -139,23 +141,21 @@ fn other_broken(
     }
 }
 
-// The first span in the branches of an `if` with this condition.
+// The first span in the condition of an `if` and in its first branch.
 #[cycle(breaks)]
-#[tactic(auto, using(crate::proofs::Firsts::first_both))]
-fn branches_broken(
+#[tactic(auto, using(crate::proofs::Firsts::first_both), unfolding(crate::specs::Tags::tested))]
+fn first_broken(
     alloc: Global,
     ground: &Ground,
     tests: &[Test],
-    cond: &PExpr,
     then: &PStmt,
-    other: &Option<Boxed<PStmt>>,
+    cond: &PExpr,
 ) -> Result<Option<Span>, AllocError>
-    ensures { IfOk result (λ span. span ≡ first ((both (first_branch (part ground.now.types.now ground.now.prog.now cond.now).test (work ground.now.types.now ground.now.prog.now then.now)) (or_idle (option_map (work ground.now.types.now ground.now.prog.now) other.now))).breaks tests.now)) }
+    ensures { IfOk result (λ span. span ≡ first ((tested (part ground.now.types.now ground.now.prog.now cond.now) (work ground.now.types.now ground.now.prog.now then.now)).breaks tests.now)) }
 {
     let within = tests_within(alloc, ground, tests, test_of(ground, cond), then)?;
-    let first = broken(alloc, ground, within.as_slice(), then)?;
-    let second = other_broken(alloc, ground, tests, other)?;
-    Ok(first.or(second))
+    let inner = broken(alloc, ground, within.as_slice(), then)?;
+    Ok(condition_broken(ground, tests, cond).or(inner))
 }
 
 // The first span in a statement.
@@ -188,8 +188,9 @@ fn broken(
             ground, tests, e,
         )),
         PForm::If { cond, then, other } => {
-            let inner = branches_broken(alloc, ground, tests, cond, then.get(), other)?;
-            Ok(condition_broken(ground, tests, cond).or(inner))
+            let first = first_broken(alloc, ground, tests, then.get(), cond)?;
+            let second = other_broken(alloc, ground, tests, other)?;
+            Ok(first.or(second))
         }
         PForm::While { cond, body } => {
             let inner = broken(alloc, ground, tests, body.get())?;

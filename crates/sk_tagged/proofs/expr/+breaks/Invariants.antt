@@ -1,5 +1,6 @@
 use Rattle.std.proofs.Common.{◌≡◌, ◌+◌, ◌*◌, max, drop, map}
 use Rattle.sk_lower.specs.Words.{each}
+use Rattle.sk_prog.proofs.expr.PExpr.TheLaws
 use Rattle.sk_tagged.specs.Tags.{first, part}
 use Rattle.sk_tagged.specs.Fields.{field_part}
 use Rattle.sk_tagged.proofs.expr.+breaks.Given as goal
@@ -31,4 +32,4 @@ abbrev pub decreases-new_broken : goal.decreases-new_broken
 decreases-new_broken l = 3 * goal.size-new_broken l + 2
 
 abbrev pub decreases-both_broken : goal.decreases-both_broken
-decreases-both_broken l = 3 * max (goal.size-both_broken l) (goal.size-broken (record { ground = l.ground; tests = l.tests; e = l.right })) + 1
+decreases-both_broken l = 3 * max (TheLaws.the_size l.left.now) (TheLaws.the_size l.right.now) + 1
