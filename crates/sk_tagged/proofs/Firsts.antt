@@ -1,5 +1,5 @@
 -- The first of the spans that break a rule.
-use Rattle.std.proofs.Common.{◌≡◌, List, [], ◌∷◌, ◌++◌, Option, None, Some, refl}
+use Rattle.std.proofs.Common.{◌≡◌, List, [], ◌∷◌, ◌++◌, None, refl}
 use Rattle.std.specs.Option.{option_or}
 use Rattle.sk_base.specs.declared.span.Span.{Span}
 use Rattle.sk_tagged.specs.Tags.{first}

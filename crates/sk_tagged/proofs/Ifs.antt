@@ -1,5 +1,5 @@
 -- What an `if` comes to, from its parts.
-use Rattle.std.proofs.Common.{◌≡◌, List, ◌++◌, Option, Some, None, option_map, sym, ap, ap₂, subst, ◌∙◌}
+use Rattle.std.proofs.Common.{◌≡◌, List, Option, Some, None, option_map, sym, ap, ap₂, subst, ◌∙◌}
 use Rattle.std.specs.Option.{option_or}
 use Rattle.sk_base.specs.declared.span.Span.{Span}
 use Rattle.sk_prog.specs.declared.expr.PExpr.{PExpr}

@@ -303,8 +303,12 @@ pub(crate) fn broken(ground: &Ground, tests: &[Test], e: &PExpr) -> Option<Span>
             left.get(),
             right.get(),
         ),
-        PEForm::Cond { cond, then, other } => broken(ground, tests, cond.get())
-            .or(both_broken(ground, tests, then.get(), other.get())),
+        PEForm::Cond { cond, then, other } => broken(ground, tests, cond.get()).or(both_broken(
+            ground,
+            tests,
+            then.get(),
+            other.get(),
+        )),
         PEForm::Member { base, s, field } => member_broken(
             ground,
             tests,

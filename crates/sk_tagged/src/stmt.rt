@@ -183,7 +183,9 @@ fn broken(
             value,
         }
         | PForm::Return(value) => Ok(any_broken(ground, tests, value)),
-        PForm::Assign { target, value } => Ok(expr_broken(ground, tests, target).or(expr_broken(ground, tests, value))),
+        PForm::Assign { target, value } => Ok(expr_broken(ground, tests, target).or(expr_broken(
+            ground, tests, value,
+        ))),
         PForm::Call(e) | PForm::Assert(e) | PForm::Assume(e) | PForm::Minimize(e) => Ok(expr_broken(
             ground, tests, e,
         )),
