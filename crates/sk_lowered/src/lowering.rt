@@ -47,12 +47,7 @@ fn written(alloc: Global, types: &List<Algebraic>, prog: &Prog) -> Result<Loweri
 
 /// The same, of the plain form of a text of so many bytes.
 #[tactic(auto, using(crate::proofs::Answering::of_program))]
-fn of_form(
-    alloc: Global,
-    set: &Set,
-    form: &Lowered,
-    bytes: usize,
-) -> Result<Lowering, SketchFault>
+fn of_form(alloc: Global, set: &Set, form: &Lowered, bytes: usize) -> Result<Lowering, SketchFault>
     requires { IsInRanges set.now }
     ensures found { IfOk result (IsOfForm set.now form.now) }
     ensures fault { IfErr result (λ fault. IsFaultOfPlain set.now fault form.now.tokens) }
