@@ -1,1 +1,3 @@
+pub mod Ifs
+pub mod Firsts
 pub mod Roles

@@ -6,8 +6,8 @@
 --   A field of variant i is read or assigned only as `x.f`, with x a variable, inside the first branch of an `if (x.tag == i)` in which x is neither
 --   assigned nor passed to a `ref` parameter.
 --
--- `broken` is the first span that breaks one of them: in the order of the program, an expression before its parts. All strings of a pattern count.
-use Rattle.std.specs.Prelude.{◌≡◌, Result, Ok, Err, ℕ, zero, suc, ◌-◌, ◌==◌, nat_lt, Bool, true, false, ◌&&◌, ◌||◌, List, [], ◌∷◌, map, length, Option, Some, None, option_and_then, slice_get, if◌then◌else◌}
+-- `breaks` lists the spans that break one of them, in the order of the program, an expression before its parts. All strings of a pattern count.
+use Rattle.std.specs.Prelude.{◌≡◌, Result, Ok, Err, ℕ, zero, suc, ◌-◌, ◌==◌, nat_lt, Bool, true, false, ◌&&◌, ◌||◌, List, [], ◌∷◌, ◌++◌, map, length, Option, Some, None, option_and_then, slice_get, if◌then◌else◌}
 use Rattle.std.specs.List.{list_all, list_any}
 use Rattle.sk_base.specs.declared.span.Span.{Span}
 use Rattle.sk_prog.specs.declared.ids.StructId.{StructId}
@@ -25,6 +25,7 @@ use Rattle.sk_prog.specs.declared.prog.ParamDef.{ParamDef}
 use Rattle.sk_prog.specs.declared.prog.Fun.{Fun}
 use Rattle.sk_prog.specs.declared.prog.Prog.{Prog}
 use Rattle.sk_types.specs.Scope.{place_of}
+use Rattle.sk_lower.specs.Words.{each}
 use Rattle.sk_lower.specs.declared.algebraic.Variant.{Variant}
 use Rattle.sk_lower.specs.declared.algebraic.Algebraic.{Algebraic}
 use Rattle.sk_tagged.specs.declared.role.Role.{Role}
@@ -55,21 +56,21 @@ role_in None k = role.Free
 role_in (Some a) zero = role.Tag
 role_in (Some a) (suc k) = of_variant (variant_at 0 a.variants k)
 
--- The first of some spans
+-- Spans
 
-abbrev pub or_else : Option Span → Option Span → Option Span
-or_else None other = other
-or_else (Some s) other = Some s
+abbrev pub first : List Span → Option Span
+first [] = None
+first (s ∷ ss) = Some s
 
-abbrev pub first_of : List (Option Span) → Option Span
-first_of [] = None
-first_of (o ∷ os) = or_else o (first_of os)
+-- this span too, unless what stands on it keeps the rules
+abbrev pub unless : Bool → Span → List Span → List Span
+unless keeps s spans = if keeps then spans else s ∷ spans
 
 -- Expressions
 
 -- An expression: the variable that it is; whether it is a variable, or a pattern with a string that is; the number that it is; the variable whose tag it
--- is; the test `x.tag == i` that it is; whether it passes a variable to a `ref` parameter; and the first span in it that breaks a rule, where it stands in
--- the first branches of `if`s with these tests, which keep the variables that they test.
+-- is; the test `x.tag == i` that it is; whether it passes a variable to a `ref` parameter; and the spans in it that break a rule, where it stands in the
+-- first branches of `if`s with these tests, which keep the variables that they test.
 pub record Part : Type 0 where
   pub slot : Option ℕ
   pub may_be : ℕ → Bool
@@ -77,20 +78,20 @@ pub record Part : Type 0 where
   pub tag : Option ℕ
   pub test : Option Test
   pub passes : ℕ → Bool
-  pub broken : List Test → Option Span
+  pub breaks : List Test → List Span
 
 -- an expression that is none of these, with its parts
 abbrev pub of_none : Part
-of_none = record { slot = None; may_be = λ x. false; number = None; tag = None; test = None; passes = λ x. false; broken = λ tests. None }
+of_none = record { slot = None; may_be = λ x. false; number = None; tag = None; test = None; passes = λ x. false; breaks = λ tests. [] }
 
 abbrev pub of_one : Part → Part
-of_one e = record of_none { passes = e.passes; broken = e.broken }
+of_one e = record of_none { passes = e.passes; breaks = e.breaks }
 
 abbrev pub of_two : Part → Part → Part
-of_two a b = record of_none { passes = λ x. a.passes x || b.passes x; broken = λ tests. or_else (a.broken tests) (b.broken tests) }
+of_two a b = record of_none { passes = λ x. a.passes x || b.passes x; breaks = λ tests. a.breaks tests ++ b.breaks tests }
 
 abbrev pub of_parts : List Part → Part
-of_parts parts = record of_none { passes = λ x. list_any (λ p. p.passes x) parts; broken = λ tests. first_of (map (λ p. p.broken tests) parts) }
+of_parts parts = record of_none { passes = λ x. list_any (λ p. p.passes x) parts; breaks = λ tests. each (map (λ p. p.breaks tests) parts) }
 
 abbrev pub variable_part : ℕ → Part
 variable_part slot = record of_none { slot = Some slot; may_be = λ x. x == slot }
@@ -116,8 +117,8 @@ is_tested (Some x) i tests = list_any (λ t. (t.slot == x) && (t.variant == i)) 
 -- test.
 abbrev pub member_part : Role → Span → Part → Part
 member_part role.Free s e = of_one e
-member_part role.Tag s e = record (of_one e) { tag = e.slot; broken = λ tests. Some s }
-member_part (role.Of i) s e = record (of_one e) { broken = λ tests. if is_tested e.slot i tests then e.broken tests else Some s }
+member_part role.Tag s e = record (of_one e) { tag = e.slot; breaks = λ tests. s ∷ e.breaks tests }
+member_part (role.Of i) s e = record (of_one e) { breaks = λ tests. unless (is_tested e.slot i tests) s (e.breaks tests) }
 
 abbrev pub params_of : Option Fun → List ParamDef
 params_of None = []
@@ -153,22 +154,22 @@ new_fits (Some a) (f ∷ fs) = sets_only a (made_variant a f) fs
 
 -- Statements
 
--- whether it assigns or declares a variable or passes it to a `ref` parameter, and the first span in it that breaks a rule
+-- whether it assigns or declares a variable or passes it to a `ref` parameter, and the spans in it that break a rule
 pub record Work : Type 0 where
   pub touches : ℕ → Bool
-  pub broken : List Test → Option Span
+  pub breaks : List Test → List Span
 
 abbrev pub idle : Work
-idle = record { touches = λ x. false; broken = λ tests. None }
+idle = record { touches = λ x. false; breaks = λ tests. [] }
 
 abbrev pub of_expr : Part → Work
-of_expr e = record { touches = e.passes; broken = e.broken }
+of_expr e = record { touches = e.passes; breaks = e.breaks }
 
 abbrev pub both : Work → Work → Work
-both a b = record { touches = λ x. a.touches x || b.touches x; broken = λ tests. or_else (a.broken tests) (b.broken tests) }
+both a b = record { touches = λ x. a.touches x || b.touches x; breaks = λ tests. a.breaks tests ++ b.breaks tests }
 
 abbrev pub all_of : List Work → Work
-all_of works = record { touches = λ x. list_any (λ w. w.touches x) works; broken = λ tests. first_of (map (λ w. w.broken tests) works) }
+all_of works = record { touches = λ x. list_any (λ w. w.touches x) works; breaks = λ tests. each (map (λ w. w.breaks tests) works) }
 
 abbrev pub or_idle : Option Work → Work
 or_idle None = idle
@@ -176,12 +177,12 @@ or_idle (Some w) = w
 
 -- with these variables assigned or declared
 abbrev pub touching : (ℕ → Bool) → Work → Work
-touching names w = record { touches = λ x. names x || w.touches x; broken = w.broken }
+touching names w = record { touches = λ x. names x || w.touches x; breaks = w.breaks }
 
 -- the condition of an `if`: as a whole it may be a test
-abbrev pub condition_broken : Option Test → Part → List Test → Option Span
-condition_broken None c tests = c.broken tests
-condition_broken (Some t) c tests = None
+abbrev pub condition_breaks : Option Test → Part → List Test → List Span
+condition_breaks None c tests = c.breaks tests
+condition_breaks (Some t) c tests = []
 
 -- the tests in whose first branches the first branch of an `if` stands: its own too, where that branch keeps the variable
 abbrev pub tests_within : Option Test → Work → List Test → List Test
@@ -189,16 +190,20 @@ tests_within None a tests = tests
 tests_within (Some t) a tests = if a.touches t.slot then tests else t ∷ tests
 
 abbrev pub condition : Part → Work
-condition c = record { touches = c.passes; broken = condition_broken c.test c }
+condition c = record { touches = c.passes; breaks = condition_breaks c.test c }
 
 abbrev pub first_branch : Option Test → Work → Work
-first_branch test a = record { touches = a.touches; broken = λ tests. a.broken (tests_within test a tests) }
+first_branch test a = record { touches = a.touches; breaks = λ tests. a.breaks (tests_within test a tests) }
+
+-- the condition of an `if` and its first branch
+unfoldable pub tested : Part → Work → Work
+tested c a = both (condition c) (first_branch c.test a)
 
 module _ (types : List Algebraic) (prog : Prog) where
   abbrev pub new_part : StructId → List (ℕ × Part) → Span → Part
   new_part d fields s =
       let values = of_parts (map (λ f. f.1) fields) in
-      record values { broken = λ tests. if new_fits (algebraic_of types prog.structs d) fields then values.broken tests else Some s }
+      record values { breaks = λ tests. unless (new_fits (algebraic_of types prog.structs d) fields) s (values.breaks tests) }
 
   abbrev pub call_part : FunId → List Part → Part
   call_part f args =
@@ -239,7 +244,7 @@ module _ (types : List Algebraic) (prog : Prog) where
   form_work (S.Declare slot x t value) = touching (λ y. y == slot) (any_part value)
   form_work (S.Assign target value) = touching (part target).may_be (both (of_expr (part target)) (of_expr (part value)))
   form_work (S.Call e) = of_expr (part e)
-  form_work (S.If c a b) = both (condition (part c)) (both (first_branch (part c).test a) (or_idle b))
+  form_work (S.If c a b) = both (tested (part c) a) (or_idle b)
   form_work (S.While c a) = both (of_expr (part c)) a
   form_work (S.Return value) = any_part value
   form_work (S.Assert e) = of_expr (part e)
@@ -252,17 +257,17 @@ module _ (types : List Algebraic) (prog : Prog) where
   abbrev pub work : PStmt → Work
   work = fold-PStmt Work Work form_work (λ s. s.form)
 
-  abbrev pub fun_broken : Fun → Option Span
-  fun_broken f = (all_of (map work f.body)).broken []
+  abbrev pub fun_breaks : Fun → List Span
+  fun_breaks f = (all_of (map work f.body)).breaks []
 
-  unfoldable pub broken : Option Span
-  broken = first_of (map fun_broken prog.funs)
+  unfoldable pub breaks : List Span
+  breaks = each (map fun_breaks prog.funs)
 
   abbrev pub Tagged : Type 0
-  Tagged = broken ≡ None
+  Tagged = breaks ≡ []
 
--- A program is tagged, or this is the first span that breaks a rule, where it is not that memory was wanting.
-abbrev pub Answers : Result (Unit {0}) TagFault → Option Span → Type 0
-Answers (Ok u) span = span ≡ None
-Answers (Err fault.Memory) span = Unit {0}
-Answers (Err (fault.NotTagged s)) span = span ≡ Some s
+-- A program is tagged, or this is the first of the spans that break a rule, where it is not that memory was wanting.
+abbrev pub Answers : Result (Unit {0}) TagFault → List Span → Type 0
+Answers (Ok u) spans = spans ≡ []
+Answers (Err fault.Memory) spans = Unit {0}
+Answers (Err (fault.NotTagged s)) spans = first spans ≡ Some s

@@ -1,7 +1,8 @@
 //! Expressions that break a rule of tags.
 ghost use Rattle.std.specs.Prelude.{◌≡◌, ◌==◌, ◌&&◌, map, option_map, slice_get};
+ghost use Rattle.sk_lower.specs.Words.{each};
 ghost use Rattle.std.specs.List.{list_any};
-ghost use Rattle.sk_tagged.specs.Tags.{part, new_part, member_part, condition_broken, or_else, first_of, is_tested, params_of, passes_to, is_of, variant_numbered, made_variant, sets_only, new_fits};
+ghost use Rattle.sk_tagged.specs.Tags.{first, part, of_two, new_part, member_part, condition, is_tested, params_of, passes_to, is_of, variant_numbered, made_variant, sets_only, new_fits};
 ghost use Rattle.sk_tagged.specs.Fields.{field_part};
 
 use crate::ground::{Ground, role_in};
@@ -205,16 +206,6 @@ fn has_test(tests: &[Test], slot: u32, variant: usize) -> bool
     false
 }
 
-/// The one, or else the other.
-pub(crate) fn or_else(first: Option<Span>, other: Option<Span>) -> Option<Span>
-    ensures { result ≡ or_else first other }
-{
-    match first {
-        None => other,
-        Some(span) => Some(span),
-    }
-}
-
 // Whether a role is that of a field of this variant.
 fn is_of(variant: usize, role: Role) -> bool
     ensures { result ≡ is_of variant role }
@@ -278,8 +269,9 @@ fn new_fits(ground: &Ground, ty: Option<&Algebraic>, fields: &[PField]) -> bool
 
 /// The first span in an expression that breaks a rule, in the first branches of these tests.
 #[cycle(breaks)]
+#[tactic(auto, using(crate::proofs::Firsts::first_both))]
 pub(crate) fn broken(ground: &Ground, tests: &[Test], e: &PExpr) -> Option<Span>
-    ensures { result ≡ (part ground.now.types.now ground.now.prog.now e.now).broken tests.now }
+    ensures { result ≡ first ((part ground.now.types.now ground.now.prog.now e.now).breaks tests.now) }
 {
     match &e.form {
         PEForm::Number(_)
@@ -305,17 +297,18 @@ pub(crate) fn broken(ground: &Ground, tests: &[Test], e: &PExpr) -> Option<Span>
             from: right,
             length: _,
         }
-        | PEForm::Binary { op: _, left, right } => or_else(
-            broken(ground, tests, left.get()),
-            broken(ground, tests, right.get()),
+        | PEForm::Binary { op: _, left, right } => both_broken(
+            ground,
+            tests,
+            left.get(),
+            right.get(),
         ),
-        PEForm::Cond { cond, then, other } => or_else(
-            broken(ground, tests, cond.get()),
-            or_else(
-                broken(ground, tests, then.get()),
-                broken(ground, tests, other.get()),
-            ),
-        ),
+        PEForm::Cond { cond, then, other } => broken(ground, tests, cond.get()).or(both_broken(
+            ground,
+            tests,
+            then.get(),
+            other.get(),
+        )),
         PEForm::Member { base, s, field } => member_broken(
             ground,
             tests,
@@ -327,10 +320,20 @@ pub(crate) fn broken(ground: &Ground, tests: &[Test], e: &PExpr) -> Option<Span>
     }
 }
 
+// The first span in the one, or else in the other.
+#[cycle(breaks)]
+#[tactic(auto, using(crate::proofs::Firsts::first_both))]
+fn both_broken(ground: &Ground, tests: &[Test], left: &PExpr, right: &PExpr) -> Option<Span>
+    ensures { result ≡ first ((of_two (part ground.now.types.now ground.now.prog.now left.now) (part ground.now.types.now ground.now.prog.now right.now)).breaks tests.now) }
+{
+    broken(ground, tests, left).or(broken(ground, tests, right))
+}
+
 // The first span in some expressions.
 #[cycle(breaks)]
+#[tactic(auto, using(crate::proofs::Firsts::first_both))]
 fn any_broken(ground: &Ground, tests: &[Test], es: &[PExpr]) -> Option<Span>
-    ensures { result ≡ first_of (map (λ p. p.broken tests.now) (map (part ground.now.types.now ground.now.prog.now) es.now)) }
+    ensures { result ≡ first (each (map (λ p. p.breaks tests.now) (map (part ground.now.types.now ground.now.prog.now) es.now))) }
 {
     for e in es {
         if let Some(span) = broken(ground, tests, e) {
@@ -342,8 +345,9 @@ fn any_broken(ground: &Ground, tests: &[Test], es: &[PExpr]) -> Option<Span>
 
 // The first span in the values of fields.
 #[cycle(breaks)]
+#[tactic(auto, using(crate::proofs::Firsts::first_both))]
 fn any_field_broken(ground: &Ground, tests: &[Test], fields: &[PField]) -> Option<Span>
-    ensures { result ≡ first_of (map (λ p. p.broken tests.now) (map (λ f. f.1) (map (field_part ground.now.types.now ground.now.prog.now) fields.now))) }
+    ensures { result ≡ first (each (map (λ p. p.breaks tests.now) (map (λ f. f.1) (map (field_part ground.now.types.now ground.now.prog.now) fields.now)))) }
 {
     for field in fields {
         if let Some(span) = broken(ground, tests, &field.value) {
@@ -355,6 +359,7 @@ fn any_field_broken(ground: &Ground, tests: &[Test], fields: &[PField]) -> Optio
 
 // The first span in a `new` with this span.
 #[cycle(breaks)]
+#[tactic(auto, using(crate::proofs::Firsts::first_both))]
 fn new_broken(
     ground: &Ground,
     tests: &[Test],
@@ -362,7 +367,7 @@ fn new_broken(
     s: StructId,
     fields: &[PField],
 ) -> Option<Span>
-    ensures { result ≡ (new_part ground.now.types.now ground.now.prog.now s (map (field_part ground.now.types.now ground.now.prog.now) fields.now) span).broken tests.now }
+    ensures { result ≡ first ((new_part ground.now.types.now ground.now.prog.now s (map (field_part ground.now.types.now ground.now.prog.now) fields.now) span).breaks tests.now) }
 {
     if new_fits(ground, ground.algebraic(s), fields) {
         any_field_broken(ground, tests, fields)
@@ -373,6 +378,7 @@ fn new_broken(
 
 // The first span in a field of this expression, where the field is this.
 #[cycle(breaks)]
+#[tactic(auto, using(crate::proofs::Firsts::first_both))]
 fn member_broken(
     ground: &Ground,
     tests: &[Test],
@@ -380,7 +386,7 @@ fn member_broken(
     base: &PExpr,
     role: Role,
 ) -> Option<Span>
-    ensures { result ≡ (member_part role span (part ground.now.types.now ground.now.prog.now base.now)).broken tests.now }
+    ensures { result ≡ first ((member_part role span (part ground.now.types.now ground.now.prog.now base.now)).breaks tests.now) }
 {
     match role {
         Role::Free => broken(ground, tests, base),
@@ -395,16 +401,11 @@ fn member_broken(
     }
 }
 
-/// The first span in the condition of an `if`, where it is this test or none.
-pub(crate) fn condition_broken(
-    ground: &Ground,
-    tests: &[Test],
-    test: Option<Test>,
-    cond: &PExpr,
-) -> Option<Span>
-    ensures { result ≡ condition_broken test (part ground.now.types.now ground.now.prog.now cond.now) tests.now }
+/// The first span in the condition of an `if`, which as a whole may be a test.
+pub(crate) fn condition_broken(ground: &Ground, tests: &[Test], cond: &PExpr) -> Option<Span>
+    ensures { result ≡ first ((condition (part ground.now.types.now ground.now.prog.now cond.now)).breaks tests.now) }
 {
-    match test {
+    match test_of(ground, cond) {
         Some(_) => None,
         None => broken(ground, tests, cond),
     }

@@ -1,9 +1,9 @@
 //! Statements that break a rule of tags.
 ghost use Rattle.std.specs.Prelude.{◌≡◌, IfOk, map, option_map};
 ghost use Rattle.std.specs.List.{list_any};
-ghost use Rattle.sk_tagged.specs.Tags.{part, work, any_part, all_of, or_idle, tests_within};
+ghost use Rattle.sk_tagged.specs.Tags.{first, part, work, any_part, all_of, or_idle, tests_within, tested};
 
-use crate::expr::{broken as expr_broken, condition_broken, may_be, or_else, passes, test_of};
+use crate::expr::{broken as expr_broken, condition_broken, may_be, passes, test_of};
 use crate::ground::Ground;
 use crate::role::Test;
 use sk_base::{Boxed, Span};
@@ -45,6 +45,7 @@ fn other_touches(ground: &Ground, other: &Option<Boxed<PStmt>>, x: u32) -> bool
 
 // Whether a statement assigns or declares a variable or passes it to a `ref` parameter.
 #[cycle(touches)]
+#[tactic(auto, unfolding(crate::specs::Tags::tested))]
 fn touches(ground: &Ground, stmt: &PStmt, x: u32) -> bool
     ensures { result ≡ (work ground.now.types.now ground.now.prog.now stmt.now).touches x }
 {
@@ -67,7 +68,8 @@ fn touches(ground: &Ground, stmt: &PStmt, x: u32) -> bool
             ground, e, x,
         ),
         PForm::If { cond, then, other } => passes(ground, cond, x)
-            || (touches(ground, then.get(), x) || other_touches(ground, other, x)),
+            || touches(ground, then.get(), x)
+            || other_touches(ground, other, x),
         PForm::While { cond, body } => passes(ground, cond, x) || touches(ground, body.get(), x),
         PForm::Repeat { count, copies } => passes(ground, count, x)
             || any_touches(ground, copies.as_slice(), x),
@@ -76,7 +78,7 @@ fn touches(ground: &Ground, stmt: &PStmt, x: u32) -> bool
 
 // The first span in an expression, where there is one.
 fn any_broken(ground: &Ground, tests: &[Test], e: &Option<PExpr>) -> Option<Span>
-    ensures { result ≡ (any_part ground.now.types.now ground.now.prog.now e.now).broken tests.now }
+    ensures { result ≡ first ((any_part ground.now.types.now ground.now.prog.now e.now).breaks tests.now) }
 {
     match e {
         None => None,
@@ -106,13 +108,14 @@ fn tests_within(
 
 /// The first span in statements that breaks a rule, in the first branches of these tests. Want of memory is the only error.
 #[cycle(breaks)]
+#[tactic(auto, using(crate::proofs::Firsts::first_both))]
 pub(crate) fn all_broken(
     alloc: Global,
     ground: &Ground,
     tests: &[Test],
     stmts: &[PStmt],
 ) -> Result<Option<Span>, AllocError>
-    ensures { IfOk result (λ span. span ≡ (all_of (map (work ground.now.types.now ground.now.prog.now) stmts.now)).broken tests.now) }
+    ensures { IfOk result (λ span. span ≡ first ((all_of (map (work ground.now.types.now ground.now.prog.now) stmts.now)).breaks tests.now)) }
 {
     for stmt in stmts {
         if let Some(span) = broken(alloc, ground, tests, stmt)? {
@@ -123,13 +126,14 @@ pub(crate) fn all_broken(
 }
 
 #[cycle(breaks)]
+#[tactic(auto, using(crate::proofs::Firsts::first_both))]
 fn other_broken(
     alloc: Global,
     ground: &Ground,
     tests: &[Test],
     other: &Option<Boxed<PStmt>>,
 ) -> Result<Option<Span>, AllocError>
-    ensures { IfOk result (λ span. span ≡ (or_idle (option_map (work ground.now.types.now ground.now.prog.now) other.now)).broken tests.now) }
+    ensures { IfOk result (λ span. span ≡ first ((or_idle (option_map (work ground.now.types.now ground.now.prog.now) other.now)).breaks tests.now)) }
 {
     match other {
         None => Ok(None),
@@ -137,15 +141,33 @@ fn other_broken(
     }
 }
 
+// The first span in the condition of an `if` and in its first branch.
+#[cycle(breaks)]
+#[tactic(auto, using(crate::proofs::Firsts::first_both), unfolding(crate::specs::Tags::tested))]
+fn first_broken(
+    alloc: Global,
+    ground: &Ground,
+    tests: &[Test],
+    then: &PStmt,
+    cond: &PExpr,
+) -> Result<Option<Span>, AllocError>
+    ensures { IfOk result (λ span. span ≡ first ((tested (part ground.now.types.now ground.now.prog.now cond.now) (work ground.now.types.now ground.now.prog.now then.now)).breaks tests.now)) }
+{
+    let within = tests_within(alloc, ground, tests, test_of(ground, cond), then)?;
+    let inner = broken(alloc, ground, within.as_slice(), then)?;
+    Ok(condition_broken(ground, tests, cond).or(inner))
+}
+
 // The first span in a statement.
 #[cycle(breaks)]
+#[tactic(auto, using(crate::proofs::Firsts::first_both))]
 fn broken(
     alloc: Global,
     ground: &Ground,
     tests: &[Test],
     stmt: &PStmt,
 ) -> Result<Option<Span>, AllocError>
-    ensures { IfOk result (λ span. span ≡ (work ground.now.types.now ground.now.prog.now stmt.now).broken tests.now) }
+    ensures { IfOk result (λ span. span ≡ first ((work ground.now.types.now ground.now.prog.now stmt.now).breaks tests.now)) }
 {
     match &stmt.form {
         PForm::Block(stmts) | PForm::Reorder(stmts) | PForm::MinRepeat(stmts) => all_broken(
@@ -161,31 +183,24 @@ fn broken(
             value,
         }
         | PForm::Return(value) => Ok(any_broken(ground, tests, value)),
-        PForm::Assign { target, value } => Ok(or_else(
-            expr_broken(ground, tests, target),
-            expr_broken(ground, tests, value),
-        )),
+        PForm::Assign { target, value } => Ok(expr_broken(ground, tests, target).or(expr_broken(
+            ground, tests, value,
+        ))),
         PForm::Call(e) | PForm::Assert(e) | PForm::Assume(e) | PForm::Minimize(e) => Ok(expr_broken(
             ground, tests, e,
         )),
         PForm::If { cond, then, other } => {
-            let test = test_of(ground, cond);
-            let within = tests_within(alloc, ground, tests, test, then.get())?;
-            let first = broken(alloc, ground, within.as_slice(), then.get())?;
+            let first = first_broken(alloc, ground, tests, then.get(), cond)?;
             let second = other_broken(alloc, ground, tests, other)?;
-            let span = or_else(
-                condition_broken(ground, tests, test, cond),
-                or_else(first, second),
-            );
-            Ok(span)
+            Ok(first.or(second))
         }
         PForm::While { cond, body } => {
             let inner = broken(alloc, ground, tests, body.get())?;
-            Ok(or_else(expr_broken(ground, tests, cond), inner))
+            Ok(expr_broken(ground, tests, cond).or(inner))
         }
         PForm::Repeat { count, copies } => {
             let inner = all_broken(alloc, ground, tests, copies.as_slice())?;
-            Ok(or_else(expr_broken(ground, tests, count), inner))
+            Ok(expr_broken(ground, tests, count).or(inner))
         }
     }
 }
