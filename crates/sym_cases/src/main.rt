@@ -4,13 +4,14 @@
 //!
 //! The first word of a row's settings is the function, a second how many bits an `int` has (16 where there is none), and the
 //! text is a sketch. Each line of the answer has the values of the sites, `:` and the values of the arguments; behind ` => `
-//! may stand how the run ends. In place of the values of the arguments may stand how many clauses at most a formula has, or what
-//! searches find.
+//! may stand how the run ends. In place of the values of the arguments may stand how many clauses at most a formula has, what searches
+//! find, or which nodes the run makes.
 #![tactic(auto)]
 
 mod ending;
 mod formulas;
 mod input;
+mod nodes;
 mod rows;
 mod runs;
 mod sessions;

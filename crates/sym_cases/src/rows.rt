@@ -4,9 +4,10 @@ ghost use Rattle.std.specs.Prelude.{◌≤◌, IfSome};
 
 use crate::ending::ending_text;
 use crate::formulas::clauses_of;
-use crate::runs::{Subject, run_filled, run_over_nodes};
+use crate::nodes::{Nodes, are_nodes, nodes_in};
+use crate::runs::{Subject, run_filled, run_over_nodes, subject_of};
 use crate::sessions::{Searches, searches_of};
-use crate::sketch::{Sketch, Source, function_named, sketch_of};
+use crate::sketch::{Sketch, Source, sketch_of};
 use row_files::{BlockRow, Judge, Row, first_line, first_section, titled, words_of};
 use sk_base::{List, Name};
 use sk_model::Choice;
@@ -142,9 +143,11 @@ fn most_in(words: &[String]) -> Option<Most> {
 
 /// What the words of a line speak of that stand behind the values of the sites.
 #[derive(Clone, Copy)]
-enum Said {
+enum Said<'a> {
     /// How many clauses a formula has.
     Formula(Most),
+    /// Which nodes a run makes.
+    Nodes(Nodes<'a>),
     /// That searches find these values.
     Found,
     /// That they find that there are none.
@@ -153,13 +156,14 @@ enum Said {
     Run,
 }
 
-fn said_in(words: &[String]) -> Said {
+fn said_in<'a>(words: &'a [String]) -> Said<'a> {
     match words {
         [word] if word.as_str() == "found" => Said::Found,
         [word] if word.as_str() == "nothing" => Said::Nothing,
-        _ => match most_in(words) {
-            Some(most) => Said::Formula(most),
-            None => Said::Run,
+        _ => match (most_in(words), nodes_in(words)) {
+            (Some(most), _) => Said::Formula(most),
+            (None, Some(nodes)) => Said::Nodes(nodes),
+            (None, None) => Said::Run,
         },
     }
 }
@@ -360,6 +364,19 @@ fn judge_searches(
     }
 }
 
+// Tells where a run makes other nodes than a line says.
+fn judge_nodes(
+    alloc: Global,
+    subject: &Subject<'_>,
+    line: &[u8],
+    choice: &Choice,
+    nodes: Nodes<'_>,
+    out: &mut Vec<u8>,
+) -> Result<(), AllocError> {
+    let holds = are_nodes(alloc, subject, choice, nodes)?;
+    tell_false(out, line, b"nodes", holds)
+}
+
 // Tells what is wrong with a run under a choice on the arguments that words spell.
 fn judge_run_on(
     alloc: Global,
@@ -399,6 +416,7 @@ fn judge_choice(
     let source = &subject.source;
     match said_in(words) {
         Said::Formula(most) => judge_formula(alloc, source, line, choice, most, out),
+        Said::Nodes(nodes) => judge_nodes(alloc, subject, line, &choice, nodes, out),
         Said::Found => judge_searches(alloc, source, line, Some(&choice), out),
         Said::Nothing => judge_searches(alloc, source, line, None, out),
         Said::Run => judge_run_on(alloc, subject, line, choice, words, wanted, out),
@@ -441,18 +459,6 @@ fn judge_lines(
         judge_line(alloc, subject, first.line, out)?;
     }
     Ok(())
-}
-
-// The function with this name.
-fn subject_of<'a>(source: Source<'a>, sketch: &'a Sketch, name: &str) -> Option<Subject<'a>> {
-    let f = function_named(&sketch.expanded, name)?;
-    let fun = sketch.expanded.prog.funs.as_slice().get(f.index as usize)?;
-    Some(Subject {
-        source,
-        sketch,
-        f,
-        fun,
-    })
 }
 
 // What is wrong with lines of this function.

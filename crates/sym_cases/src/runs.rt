@@ -5,7 +5,7 @@ ghost use Rattle.sk_arr.specs.Shapes.{AllStand};
 
 use crate::ending::ending_of;
 use crate::input::{push_scalars, shapes_of};
-use crate::sketch::{Sketch, Source};
+use crate::sketch::{Sketch, Source, function_named};
 use sk_base::List;
 use sk_dag::{Dag, Env, Shape};
 use sk_holes::{FillFault, fill};
@@ -22,6 +22,18 @@ pub struct Subject<'a> {
     pub sketch: &'a Sketch,
     pub f: FunId,
     pub fun: &'a Fun,
+}
+
+/// The function of a sketch with this name.
+pub fn subject_of<'a>(source: Source<'a>, sketch: &'a Sketch, name: &str) -> Option<Subject<'a>> {
+    let f = function_named(&sketch.expanded, name)?;
+    let fun = sketch.expanded.prog.funs.as_slice().get(f.index as usize)?;
+    Some(Subject {
+        source,
+        sketch,
+        f,
+        fun,
+    })
 }
 
 // How a program runs that is the sketch filled.
