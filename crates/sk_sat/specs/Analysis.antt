@@ -57,6 +57,13 @@ pub record IsImplied (known : List (List Lit)) (reason level : List ℕ) (lits :
   pub why : (i : ℕ) → i < length lits → lit_at lits i ≡ negated l → IsReason known (slice_index_or reason l.var 0) (take i lits) (lit_at lits i)
   pub covered : AreCovered level kept (slice_index_or known (slice_index_or reason l.var 0) []) l
 
+-- marks that grew: each one more is of a false literal that marked ones force, and stands in the list
+pub record MarksMore (known : List (List Lit)) (values : List (Option Bool)) (reason level : List ℕ) (lits : List Lit) (kept : List Bool) (extra : List Lit) (kept' : List Bool) (extra' : List Lit) : Type 0 where
+  pub more : (v : ℕ) → slice_index_or kept v false ≡ true → slice_index_or kept' v false ≡ true
+  pub forced : (m : Lit) → Fails values m → is_open kept' m ≡ true → (is_open kept m ≡ true) ⊎ IsImplied known reason level lits kept' m
+  pub only : (v : ℕ) → slice_index_or kept' v false ≡ true → (slice_index_or kept v false ≡ true) ⊎ ((m : Lit) × Contains extra' m × (m.var ≡ v))
+  pub puts : (m : Lit) → Contains extra m → Contains extra' m
+
 -- clause i is false
 pub record IsFalsified (known : List (List Lit)) (values : List (Option Bool)) (i : ℕ) : Type 0 where
   pub there : i < length known
