@@ -137,18 +137,19 @@ impl Restarts {
     }
 }
 
-// Goes back to level 0.
+// Goes back to the first level whose decision is no heavier than the variable that would be decided first.
 fn to_start(trail: &mut Trail, activity: &mut Activity)
     requires { (known : List (List Lit)) × IsTrail known trail.old }
     ensures trail { (known : List (List Lit)) → IsTrail known trail.old → IsTrail known trail.new }
     ensures long { length trail.new.values.items ≡ length trail.old.values.items }
 {
-    if trail.lims.len() > 0 {
-        trail.cancel(0, activity);
+    let level = activity.levels_kept(&trail.values, &trail.lits, &trail.lims);
+    if level < trail.lims.len() {
+        trail.cancel(level, activity);
     }
 }
 
-/// Counts a conflict whose clause has this glue, and goes back to level 0 if the search is to begin anew.
+/// Counts a conflict whose clause has this glue, and goes back if the search is to begin anew.
 #[tactic(auto, using(crate::proofs::SearchLemmas::restarts))]
 pub fn begin_anew(trail: &mut Trail, activity: &mut Activity, restarts: &mut Restarts, glue: u32)
     requires { (known : List (List Lit)) × IsTrail known trail.old }
