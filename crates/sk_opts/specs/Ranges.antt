@@ -30,6 +30,7 @@ abbrev pub LineIsInRanges : Line → Type 0
 LineIsInRanges (line.Synth set budget cert) = IsInRanges set
 LineIsInRanges (line.Exec set name values) = IsInRanges set
 LineIsInRanges (line.Trace set name values holes) = IsInRanges set
+LineIsInRanges (line.Lower set) = IsInRanges set
 LineIsInRanges (line.Check set) = IsInRanges set
 LineIsInRanges (line.Itself n) = Unit {0}
 LineIsInRanges line.Help = Unit {0}

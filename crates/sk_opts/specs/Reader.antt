@@ -112,6 +112,10 @@ abbrev pub trace_line : Option Words → Option Line
 trace_line None = None
 trace_line (Some w) = trace_with (set_of w.settings) (last_list Holes w.settings) w.positionals
 
+abbrev pub lower_line : Option Words → Option Line
+lower_line None = None
+lower_line (Some w) = if_none w.positionals (line.Lower (set_of w.settings))
+
 abbrev pub check_line : Option Words → Option Line
 check_line None = None
 check_line (Some w) = if_none w.positionals (line.Check (set_of w.settings))
@@ -133,8 +137,9 @@ line_of (w ∷ ws) =
     if bytes_eq w (codes "synth") then synth_line (words_of of_synth ws)
     else (if bytes_eq w (codes "exec") then exec_line (words_of of_bounds ws)
     else (if bytes_eq w (codes "trace") then trace_line (words_of of_trace ws)
+    else (if bytes_eq w (codes "lower") then lower_line (words_of of_bounds ws)
     else (if bytes_eq w (codes "check") then check_line (words_of of_bounds ws)
     else (if bytes_eq w (codes "self") then self_line (words_of [] ws)
     else (if bytes_eq w (codes "--help") then if_none ws line.Help
     else (if bytes_eq w (codes "--version") then if_none ws line.Version
-    else None))))))
+    else None)))))))

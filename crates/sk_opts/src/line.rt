@@ -43,6 +43,10 @@ pub enum Line {
         /// The numbers that the sketch is filled with; none where no option gives them.
         holes: Option<List<u64>>,
     },
+    /// Write the plain sketch of a text with algebraic types.
+    Lower {
+        set: Set,
+    },
     /// Check a certificate.
     Check {
         set: Set,
