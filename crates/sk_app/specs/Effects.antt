@@ -141,12 +141,33 @@ pub record Executes (set : Set) (job : Job) (result : Ending) (f : Effect) : Typ
   pub place : TellsSpan result f.left_old
   pub few : TakesFew f.left_old f.left_new
 
+-- what a line `lower` does for a text that is not too long
+pub data LowersText (set : Set) (text : List ℕ) (result : Ending) (faults_old faults_new : ℕ) (old new : Option (List ℕ)) : Type 0 where
+  refused : (told : SketchFault) → IsFaultOfLowering set text told → result ≡ refusal told → new ≡ old → LowersText set text result faults_old faults_new old new
+  not_lowered : (reason : AdtFault) → HasNoPlainForm text reason → result ≡ NotLowered reason → new ≡ old → LowersText set text result faults_old faults_new old new
+  not_tagged : (span : Span) → IsNotTagged set text span → result ≡ NotTagged span → new ≡ old → LowersText set text result faults_old faults_new old new
+  written : (out : List ℕ) → IsLoweredText set text out → IsDelivered result Lowered out faults_old faults_new old new → LowersText set text result faults_old faults_new old new
+
+-- the source failed, or gives too many bytes, or memory was wanting, and nothing was written; or its text was taken
+pub data LowersSource (set : Set) (result : Ending) (f : Effect) : Type 0 where
+  failed : result ≡ ReadFault → Rose f.read_faults_old f.read_faults_new → f.held_new ≡ f.held_old → LowersSource set result f
+  long : result ≡ TooLong → IsLong f.left_old → f.held_new ≡ f.held_old → LowersSource set result f
+  wanting : result ≡ Memory → f.held_new ≡ f.held_old → LowersSource set result f
+  whole : (text : List ℕ) → IsWhole text f.left_old → LowersText set text result f.write_faults_old f.write_faults_new f.held_old f.held_new → LowersSource set result f
+
+-- a call for a line `lower` with these options; a fault of types is told on a span of the plain form
+pub record Lowers (set : Set) (result : Ending) (f : Effect) : Type 0 where
+  pub lowers : LowersSource set result f
+  pub place : (told : TypeFault) → result ≡ NotTyped told → IfSome f.left_old (λ text. HasPlainForm text (λ form. HasSpan form.tokens (length text) told.span))
+  pub few : TakesFew f.left_old f.left_new
+
 -- what a call does for a line
 abbrev pub Serves : Line → Ending → Effect → Type 0
 Serves (line.Synth set budget true) result f = IsRefused NotBuilt result f
 Serves (line.Synth set budget false) result f = Synthesises set budget result f
 Serves (line.Exec set name values) result f = Executes set (record { name = name; values = values; way = way.Exec }) result f
 Serves (line.Trace set name values holes) result f = Executes set (record { name = name; values = values; way = way.Trace holes }) result f
+Serves (line.Lower set) result f = Lowers set result f
 Serves (line.Check set) result f = IsRefused NotBuilt result f
 Serves (line.Itself n) result f = IsRefused NotBuilt result f
 Serves line.Help result f = IsShown help_text HelpShown result f
@@ -162,5 +183,6 @@ pub data Answers (words : List (List ℕ)) (result : Ending) (f : Effect) : Type
 pub data IsOutput (words : List (List ℕ)) (text out : List ℕ) : Type 0 where
   result : ForSearch words (λ set budget. IsResult set budget text out) → IsOutput words text out
   run : ForJob words (λ set job. IsRunOutput set job text out) → IsOutput words text out
+  plain : ForLower words (λ set. IsLoweredText set text out) → IsOutput words text out
   help : IsLine words line.Help → out ≡ help_text → IsOutput words text out
   version : IsLine words line.Version → out ≡ version_text → IsOutput words text out

@@ -1,5 +1,9 @@
 -- The status and the message of each ending.
-use Rattle.std.specs.Prelude.{ℕ, List, [], Option, None, Some, codes}
+use Rattle.std.specs.Prelude.{ℕ, List, [], ◌++◌, Option, None, Some, codes}
+use Rattle.std.specs.Fmt.{decimal}
+use Rattle.sk_base.specs.declared.span.Span.{Span}
+use Rattle.sk_lower.specs.declared.algebraic.AdtFault.{AdtFault}
+use Rattle.sk_lower.specs.declared.algebraic.AdtFault.TheVariants as adt
 use Rattle.sk_lexer.specs.declared.fault.LexFault.TheVariants as lex
 use Rattle.sk_parser.specs.declared.fault.ParseFault.TheVariants as parse
 use Rattle.sk_check.specs.declared.fault.Rule.{Rule}
@@ -17,7 +21,7 @@ use Rattle.sk_direct.specs.declared.fault.ExecFault.TheVariants as exec
 use Rattle.sk_holes.specs.declared.fault.FillFault.{FillFault}
 use Rattle.sk_holes.specs.declared.fault.FillFault.TheVariants as hole
 use Rattle.sk_app.specs.declared.ending.Ending.{Ending}
-use Rattle.sk_app.specs.declared.ending.Ending.TheVariants.{Completed, NoCompletion, SpentRounds, SpentConflicts, HelpShown, VersionShown, ExecDone, ExecFailed, ExecSkipped, NotALine, NotText, NotTyped, TooLarge, NotRun, NotFilled, ReadFault, WriteFault, TooLong, Memory, NotBuilt}
+use Rattle.sk_app.specs.declared.ending.Ending.TheVariants.{Completed, NoCompletion, SpentRounds, SpentConflicts, HelpShown, VersionShown, ExecDone, ExecFailed, ExecSkipped, Lowered, NotALine, NotText, NotTyped, TooLarge, NotRun, NotFilled, NotLowered, NotTagged, ReadFault, WriteFault, TooLong, Memory, NotBuilt}
 
 -- The refusal for a fault of a text. Want of memory, which `run` answers as `Memory`, is no fault of it.
 abbrev pub text_refusal : TextFault → Refusal
@@ -71,6 +75,22 @@ fill_refusal hole.WrongLength = said.NotFilled said.WrongLength
 fill_refusal (hole.OutOfRange site) = said.NotFilled said.OutOfRange
 fill_refusal hole.Memory = said.Memory
 
+-- The status and the message where a text has no plain form. Want of memory, which `run` answers as `Memory`, is no such.
+abbrev pub adt_status : AdtFault → ℕ
+adt_status adt.Memory = 17
+adt_status _ = 21
+
+abbrev pub adt_message : AdtFault → List ℕ
+adt_message (adt.NoForm at) = codes "adt NoForm " ++ decimal at
+adt_message (adt.Twice at) = codes "adt Twice " ++ decimal at
+adt_message (adt.NoVariant at) = codes "adt NoVariant " ++ decimal at
+adt_message (adt.TooMany at) = codes "adt TooMany " ++ decimal at
+adt_message adt.Memory = codes "no memory"
+
+-- the message where the program of a plain form is not tagged
+abbrev pub tag_message : Span → List ℕ
+tag_message span = codes "tag " ++ decimal span.from ++ codes " " ++ decimal span.to
+
 -- where a budget is spent: whether a choice is known that meets every obligation
 abbrev pub spent_status : Option Choice → ℕ
 spent_status None = 2
@@ -86,12 +106,15 @@ status_of VersionShown = 0
 status_of ExecDone = 0
 status_of (ExecFailed span) = 4
 status_of (ExecSkipped span) = 5
+status_of Lowered = 0
 status_of NotALine = 10
 status_of (NotText fault) = refusal_status (text_refusal fault)
 status_of (NotTyped fault) = refusal_status (type_refusal fault)
 status_of (TooLarge reason) = refusal_status (size_refusal reason)
 status_of (NotRun reason) = refusal_status (exec_refusal reason)
 status_of (NotFilled fault) = refusal_status (fill_refusal fault)
+status_of (NotLowered reason) = adt_status reason
+status_of (NotTagged span) = 23
 status_of ReadFault = 14
 status_of WriteFault = 15
 status_of TooLong = 16
@@ -108,12 +131,15 @@ message_of VersionShown = []
 message_of ExecDone = []
 message_of (ExecFailed span) = []
 message_of (ExecSkipped span) = []
+message_of Lowered = []
 message_of NotALine = codes "usage"
 message_of (NotText fault) = refusal_message (text_refusal fault)
 message_of (NotTyped fault) = refusal_message (type_refusal fault)
 message_of (TooLarge reason) = refusal_message (size_refusal reason)
 message_of (NotRun reason) = refusal_message (exec_refusal reason)
 message_of (NotFilled fault) = refusal_message (fill_refusal fault)
+message_of (NotLowered reason) = adt_message reason
+message_of (NotTagged span) = tag_message span
 message_of ReadFault = codes "read fault"
 message_of WriteFault = codes "write fault"
 message_of TooLong = codes "too long"

@@ -164,3 +164,33 @@ EndsStopped reason (NotFilled told) source_old source_new = fault.NotFilled told
 EndsStopped reason Memory source_old source_new = Unit {0}
 EndsStopped reason ReadFault source_old source_new = Rose source_old source_new
 EndsStopped reason _ source_old source_new = ⊥
+
+-- A text that has a plain form, of a program that is tagged, is written, unless the source or the sink failed or memory was wanting.
+abbrev pub EndsLowered : Ending → ℕ → ℕ → ℕ → ℕ → Type 0
+EndsLowered Lowered source_old source_new sink_old sink_new = Unit {0}
+EndsLowered Memory source_old source_new sink_old sink_new = Unit {0}
+EndsLowered ReadFault source_old source_new sink_old sink_new = Rose source_old source_new
+EndsLowered WriteFault source_old source_new sink_old sink_new = Rose sink_old sink_new
+EndsLowered _ source_old source_new sink_old sink_new = ⊥
+
+-- Where it has none for this reason, that is told, unless the source failed or memory was wanting.
+abbrev pub EndsNotLowered : AdtFault → Ending → ℕ → ℕ → Type 0
+EndsNotLowered reason (NotLowered told) source_old source_new = told ≡ reason
+EndsNotLowered reason Memory source_old source_new = Unit {0}
+EndsNotLowered reason ReadFault source_old source_new = Rose source_old source_new
+EndsNotLowered reason _ source_old source_new = ⊥
+
+-- Where its program is not tagged, the first span that breaks a rule is told, unless the source failed or memory was wanting.
+abbrev pub EndsNotTagged : Span → Ending → ℕ → ℕ → Type 0
+EndsNotTagged span (NotTagged told) source_old source_new = told ≡ span
+EndsNotTagged span Memory source_old source_new = Unit {0}
+EndsNotTagged span ReadFault source_old source_new = Rose source_old source_new
+EndsNotTagged span _ source_old source_new = ⊥
+
+-- A text that is refused for this cause is told as that, unless the source failed or memory was wanting.
+abbrev pub EndsRefused : SketchFault → Ending → ℕ → ℕ → Type 0
+EndsRefused told (NotText fault) source_old source_new = IsToldAs told (sketch.NotText fault)
+EndsRefused told (NotTyped fault) source_old source_new = IsToldAs told (sketch.NotTyped fault)
+EndsRefused told Memory source_old source_new = Unit {0}
+EndsRefused told ReadFault source_old source_new = Rose source_old source_new
+EndsRefused told _ source_old source_new = ⊥

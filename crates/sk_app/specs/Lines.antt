@@ -63,6 +63,12 @@ pub record ForTrace (words : List (List ℕ)) (Holds : Set → Option (List ℕ)
   pub is : IsLine words (line.Trace set name values holes)
   pub holds : Holds set holes name values
 
+-- The words are a line `lower` with these options, and this holds of them.
+pub record ForLower (words : List (List ℕ)) (Holds : Set → Type 0) : Type 0 where
+  pub set : Set
+  pub is : IsLine words (line.Lower set)
+  pub holds : Holds set
+
 -- The words are a line that takes a text, with these options: `synth` without a certificate, `exec` or `trace`.
 abbrev pub TakesText : List (List ℕ) → Set → Type 0
 TakesText words set = IsSynth words set ⊎ ((job : Job) × IsJob words set job)
@@ -78,6 +84,7 @@ abbrev pub is_unbuilt : Line → Bool
 is_unbuilt (line.Synth set budget cert) = cert
 is_unbuilt (line.Exec set name values) = false
 is_unbuilt (line.Trace set name values holes) = false
+is_unbuilt (line.Lower set) = false
 is_unbuilt (line.Check set) = true
 is_unbuilt (line.Itself n) = true
 is_unbuilt line.Help = false

@@ -146,6 +146,7 @@ fn serve<S: Source, K: Sink>(alloc: Global, line: Line, source: &mut S, sink: &m
             let way = Way::Trace(holes);
             run_source(alloc, &set, &Job { name, values, way }, source, sink)
         }
+        Line::Lower { set } => lower_source(alloc, &set, source, sink),
         Line::Check { .. } | Line::Itself { .. } => Ending::NotBuilt,
         Line::Help => show_help(alloc, sink),
         Line::Version => deliver(sink, version(), Ending::VersionShown),
@@ -216,14 +217,21 @@ pub fn run<S: Source, K: Sink>(
     // The numbers of a line `trace` do not fill the sketch, for this reason.
     ensures not_filled { (reason : FillFault) → result ≡ Ending.NotFilled reason → ForTrace (map string_bytes words.now) (λ set holes name values. IfSome (S.left source.old) (λ text. IsNotTraced set holes name values text (TraceFault.NotFilled reason))) }
 
-    // The text has this fault: its first as bytes, or what its tokens read as.
-    ensures not_text { (fault : TextFault) → result ≡ Ending.NotText fault → IfSome (S.left source.old) (IsTextFault fault) }
+    // A line `lower`: what the sink got is the text of the program that the plain form of the text means, which is tagged.
+    ensures lowered { result ≡ Ending.Lowered → ForLower (map string_bytes words.now) (λ set. IfSome (S.left source.old) (λ text. Writes (IsLoweredText set text) (K.held sink.old) (K.held sink.new))) }
+    // The text has no plain form, for this reason.
+    ensures not_lowered { (reason : AdtFault) → result ≡ Ending.NotLowered reason → ForLower (map string_bytes words.now) (λ set. IfSome (S.left source.old) (λ text. HasNoPlainForm text reason)) }
+    // The program of its plain form is not tagged: this is the first span that breaks a rule.
+    ensures not_tagged { (span : Span) → result ≡ Ending.NotTagged span → ForLower (map string_bytes words.now) (λ set. IfSome (S.left source.old) (λ text. IsNotTagged set text span)) }
+
+    // The text has this fault: its first as bytes, or what its tokens read as; for a line `lower` what those of its plain form do.
+    ensures not_text { (fault : TextFault) → result ≡ Ending.NotText fault → IfSome (S.left source.old) (λ text. ForText (map string_bytes words.now) (λ set. IsTextFault fault text) ⊎ ForLower (map string_bytes words.now) (λ set. IsFaultOfLowering set text (SketchFault.NotText fault))) }
     // It is told at a byte of the text, or at its end.
     ensures text_place { (fault : TextFault) → result ≡ Ending.NotText fault → IfSome (S.left source.old) (λ text. byte_of fault ≤ length text) }
     // The tree of the text means no program with the options of the line.
-    ensures not_typed { (fault : TypeFault) → result ≡ Ending.NotTyped fault → ForText (map string_bytes words.now) (λ set. IfSome (S.left source.old) (IsUntyped set)) }
+    ensures not_typed { (fault : TypeFault) → result ≡ Ending.NotTyped fault → ForText (map string_bytes words.now) (λ set. IfSome (S.left source.old) (IsUntyped set)) ⊎ ForLower (map string_bytes words.now) (λ set. IfSome (S.left source.old) (λ text. IsFaultOfLowering set text (SketchFault.NotTyped fault))) }
     // It is told at the span of an expression or a statement of the text, which lies within it, or at none, as 0 to 0.
-    ensures type_place { (fault : TypeFault) → result ≡ Ending.NotTyped fault → IfSome (S.left source.old) (λ text. HasSpan text fault.span) }
+    ensures type_place { (fault : TypeFault) → result ≡ Ending.NotTyped fault → IfSome (S.left source.old) (λ text. HasSpan text fault.span ⊎ ForLower (map string_bytes words.now) (λ set. IsPlacedFault text (SketchFault.NotTyped fault))) }
     // The expansion of its program passes this limit, and none before it.
     ensures too_large { (reason : SizeFault) → result ≡ Ending.TooLarge reason → ForText (map string_bytes words.now) (λ set. IfSome (S.left source.old) (λ text. IsTooLarge set text reason)) }
     // The line is one for which the program does nothing: `check`, `self`, or one that asks for a certificate.
@@ -254,6 +262,10 @@ pub fn run<S: Source, K: Sink>(
     ensures ends_copies { (set : Set) → TakesText (map string_bytes words.now) set → IfSome (S.left source.old) (λ text. (reason : SizeFault) → IsTrue (is_of_expansion reason) → IsTooLarge set text reason → EndsLarge reason result (S.faults source.old) (S.faults source.new)) }
     ensures ends_run { (set : Set) (job : Job) → IsJob (map string_bytes words.now) set job → IfSome (S.left source.old) (λ text. (outcome : Outcome) (out : List ℕ) → IsRunOfJob set job text outcome out → EndsRun outcome result (S.faults source.old) (S.faults source.new) (K.faults sink.old) (K.faults sink.new)) }
     ensures ends_not_run { (set : Set) (job : Job) → IsJob (map string_bytes words.now) set job → IfSome (S.left source.old) (λ text. (reason : TraceFault) → IsStopped set job text reason → EndsStopped reason result (S.faults source.old) (S.faults source.new)) }
+    ensures ends_lowered { (set : Set) → IsLine (map string_bytes words.now) (line.Lower set) → IfSome (S.left source.old) (λ text. (out : List ℕ) → IsLoweredText set text out → EndsLowered result (S.faults source.old) (S.faults source.new) (K.faults sink.old) (K.faults sink.new)) }
+    ensures ends_not_lowered { (set : Set) → IsLine (map string_bytes words.now) (line.Lower set) → IfSome (S.left source.old) (λ text. (reason : AdtFault) → HasNoPlainForm text reason → EndsNotLowered reason result (S.faults source.old) (S.faults source.new)) }
+    ensures ends_not_tagged { (set : Set) → IsLine (map string_bytes words.now) (line.Lower set) → IfSome (S.left source.old) (λ text. (span : Span) → IsNotTagged set text span → EndsNotTagged span result (S.faults source.old) (S.faults source.new)) }
+    ensures ends_refused { (set : Set) → IsLine (map string_bytes words.now) (line.Lower set) → IfSome (S.left source.old) (λ text. length text ≤ most_bytes → (told : SketchFault) → IsCause (IsFaultOfLowering set text) told → EndsRefused told result (S.faults source.old) (S.faults source.new)) }
     ensures ends_long { (set : Set) → TakesText (map string_bytes words.now) set → IfSome (S.left source.old) (λ text. most_bytes < length text → EndsLong result (S.faults source.old) (S.faults source.new)) }
 {
     let ending = answer(alloc, words, source, sink);

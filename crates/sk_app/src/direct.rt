@@ -40,7 +40,7 @@ pub struct Job {
 }
 
 /// The ending of a text that has no expansion within the limits.
-fn refusal(fault: SketchFault) -> Ending
+pub(crate) fn refusal(fault: SketchFault) -> Ending
     ensures { result ≡ refusal fault }
 {
     match fault {

@@ -4,7 +4,7 @@ ghost use Rattle.std.specs.Prelude.{◌≡◌, ◌++◌, codes, IfOk, OnOk};
 ghost use Rattle.std.specs.Fmt.{decimal};
 ghost use Rattle.sk_texts.specs.Messages.{rule_number, refusal_status, refusal_message};
 ghost use Rattle.sk_front.specs.declared.fault.TextFault.TheVariants.{Lex, Parse};
-ghost use Rattle.sk_app.specs.Ending.{text_refusal, rule_of, type_refusal, size_refusal, exec_refusal, fill_refusal, spent_status, status_of, message_of};
+ghost use Rattle.sk_app.specs.Ending.{text_refusal, rule_of, type_refusal, size_refusal, exec_refusal, fill_refusal, adt_status, adt_message, tag_message, spent_status, status_of, message_of};
 
 use sk_base::{List, Name, Span, push_number};
 use sk_check::{Rule, TypeFault};
@@ -14,6 +14,7 @@ use sk_direct::ExecFault;
 use sk_front::TextFault;
 use sk_holes::FillFault;
 use sk_lexer::LexFault;
+use sk_lower::AdtFault;
 use sk_model::{Choice, Pair};
 use sk_parser::ParseFault;
 use sk_query::Query;
@@ -56,6 +57,8 @@ pub enum Ending {
     ExecSkipped {
         span: Span,
     },
+    /// The sink got the plain sketch of the text.
+    Lowered,
     /// The words are no command line.
     NotALine,
     /// The text has no tokens, or these read as no tree.
@@ -68,6 +71,12 @@ pub enum Ending {
     NotRun(ExecFault),
     /// The numbers of the line do not fill the sketch of the text.
     NotFilled(FillFault),
+    /// The text has no plain form, for this reason.
+    NotLowered(AdtFault),
+    /// The program of the text's plain form is not tagged: the first span that breaks a rule.
+    NotTagged {
+        span: Span,
+    },
     /// The source failed.
     ReadFault,
     /// The sink failed. It may hold a prefix of the result text.
@@ -85,7 +94,8 @@ pub fn status(ending: &Ending) -> u8
     ensures { result ≡ status_of ending.now }
 {
     match ending {
-        Ending::Completed | Ending::HelpShown | Ending::VersionShown | Ending::ExecDone => 0,
+        Ending::Completed | Ending::HelpShown | Ending::VersionShown => 0,
+        Ending::ExecDone | Ending::Lowered => 0,
         Ending::ExecFailed { span: _ } => 4,
         Ending::ExecSkipped { span: _ } => 5,
         Ending::NoCompletion => 1,
@@ -107,6 +117,8 @@ pub fn status(ending: &Ending) -> u8
         Ending::Memory => 17,
         Ending::NotRun(_) => 18,
         Ending::NotFilled(fault) => fill_status(*fault),
+        Ending::NotLowered(reason) => adt_status(*reason),
+        Ending::NotTagged { span: _ } => 23,
         Ending::NotBuilt => 20,
     }
 }
@@ -130,12 +142,15 @@ pub fn message(alloc: Global, ending: &Ending) -> Result<Name, AllocError>
             log: _,
             best: _,
         } => said(alloc, b""),
+        Ending::Lowered => said(alloc, b""),
         Ending::NotALine => said(alloc, b"usage"),
         Ending::NotText(fault) => text_message(alloc, fault),
         Ending::NotTyped(fault) => type_message(alloc, fault),
         Ending::TooLarge(reason) => size_message(alloc, *reason),
         Ending::NotRun(reason) => exec_message(alloc, *reason),
         Ending::NotFilled(fault) => fill_message(alloc, *fault),
+        Ending::NotLowered(reason) => adt_message(alloc, *reason),
+        Ending::NotTagged { span } => tag_message(alloc, *span),
         Ending::ReadFault => said(alloc, b"read fault"),
         Ending::WriteFault => said(alloc, b"write fault"),
         Ending::TooLong => said(alloc, b"too long"),
@@ -184,6 +199,48 @@ fn fill_message(alloc: Global, fault: FillFault) -> Result<Name, AllocError>
         FillFault::OutOfRange { site: _ } => said(alloc, b"fill OutOfRange"),
         FillFault::Memory => said(alloc, b"no memory"),
     }
+}
+
+// The status where a text has no plain form. Want of memory is no such.
+fn adt_status(reason: AdtFault) -> u8
+    ensures { result ≡ adt_status reason }
+{
+    match reason {
+        AdtFault::Memory => 17,
+        _ => 21,
+    }
+}
+
+// The name of what stands wrong among algebraic types, and its first byte.
+fn adt_message(alloc: Global, reason: AdtFault) -> Result<Name, AllocError>
+    ensures { IfOk result (λ name. name ≡ adt_message reason) }
+{
+    match reason {
+        AdtFault::NoForm { at } => misplaced(alloc, b"NoForm", at),
+        AdtFault::Twice { at } => misplaced(alloc, b"Twice", at),
+        AdtFault::NoVariant { at } => misplaced(alloc, b"NoVariant", at),
+        AdtFault::TooMany { at } => misplaced(alloc, b"TooMany", at),
+        AdtFault::Memory => said(alloc, b"no memory"),
+    }
+}
+
+fn misplaced(alloc: Global, name: &[u8], at: u32) -> Result<Name, AllocError>
+    ensures { IfOk result (λ text. text ≡ codes "adt " ++ name.now ++ codes " " ++ decimal at) }
+{
+    let mut out = Vec::from_slice(alloc, b"adt ")?;
+    out.extend_from_slice(name)?;
+    push_spaced(&mut out, at)?;
+    Ok(Name::from_vec(out))
+}
+
+// The bytes of what breaks a rule of tags.
+fn tag_message(alloc: Global, span: Span) -> Result<Name, AllocError>
+    ensures { IfOk result (λ text. text ≡ tag_message span) }
+{
+    let mut out = Vec::from_slice(alloc, b"tag")?;
+    push_spaced(&mut out, span.from)?;
+    push_spaced(&mut out, span.to)?;
+    Ok(Name::from_vec(out))
 }
 
 // The status for a fault of a text. Want of memory is none.

@@ -7,6 +7,7 @@ mod completion;
 mod direct;
 mod ending;
 mod help;
+mod lower;
 mod output;
 mod prepare;
 mod result_text;

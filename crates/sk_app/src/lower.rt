@@ -1,0 +1,59 @@
+//! The line `lower`: it writes the plain sketch of the text of a source.
+
+ghost use Rattle.std.specs.Prelude.{◌≡◌, ◌≤◌, length};
+ghost use Rattle.sk_check.specs.declared.fault.TypeFault.{TypeFault};
+ghost use Rattle.sk_opts.specs.Ranges.{IsInRanges};
+ghost use Rattle.sk_front.specs.Texts.{most_bytes};
+ghost use Rattle.sk_lowered.specs.PlainTexts.{HasPlainForm, HasSpan};
+ghost use Rattle.sk_app.specs.Effects.{LowersText, Lowers};
+
+use crate::direct::refusal;
+use crate::ending::Ending;
+use crate::output::deliver;
+use crate::text::{Reading, read_text};
+use sk_base::{Sink, Source};
+use sk_lowered::{Lowering, lowered_text};
+use sk_opts::Set;
+use std::alloc::Global;
+
+/// Writes the plain sketch of a text, or says why there is none.
+fn lower_text<K: Sink>(alloc: Global, set: &Set, text: &[u8], sink: &mut K) -> Ending
+    requires short { length text.now ≤ most_bytes }
+    requires set { IsInRanges set.now }
+    ensures lowers { LowersText set.now text.now result (K.faults sink.old) (K.faults sink.new) (K.held sink.old) (K.held sink.new) }
+    ensures place { (fault : TypeFault) → result ≡ Ending.NotTyped fault → HasPlainForm text.now (λ form. HasSpan form.tokens (length text.now) fault.span) }
+{
+    match lowered_text(alloc, set, text) {
+        Err(fault) => refusal(fault),
+        Ok(Lowering::NotLowered(reason)) => Ending::NotLowered(reason),
+        Ok(Lowering::NotTagged { span }) => Ending::NotTagged { span },
+        Ok(Lowering::Plain(out)) => deliver(sink, out.as_slice(), Ending::Lowered),
+    }
+}
+
+/// Writes the plain sketch of the text of the source to the sink, with the options of a line.
+pub fn lower_source<S: Source, K: Sink>(
+    alloc: Global,
+    set: &Set,
+    source: &mut S,
+    sink: &mut K,
+) -> Ending
+    requires { IsInRanges set.now }
+    ensures { Lowers set.now result (record {
+      left_old = S.left source.old;
+      left_new = S.left source.new;
+      read_faults_old = S.faults source.old;
+      read_faults_new = S.faults source.new;
+      held_old = K.held sink.old;
+      held_new = K.held sink.new;
+      write_faults_old = K.faults sink.old;
+      write_faults_new = K.faults sink.new;
+    }) }
+{
+    match read_text(alloc, source) {
+        Err(_) => Ending::Memory,
+        Ok(Reading::Failed) => Ending::ReadFault,
+        Ok(Reading::Long) => Ending::TooLong,
+        Ok(Reading::Whole(text)) => lower_text(alloc, set, text.as_slice(), sink),
+    }
+}
