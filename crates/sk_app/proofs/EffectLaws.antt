@@ -1,5 +1,5 @@
 -- What the clauses of `run` say, from what a call does for the words and the line that they spell.
-use Rattle.std.proofs.Common.{◌≡◌, ℕ, ◌≤◌, ◌<◌, inl, inr, Bool, true, false, List, [], Option, Some, None, length, refl, sym, ap, subst, ◌∙◌, arith}
+use Rattle.std.proofs.Common.{◌≡◌, ℕ, ◌≤◌, ◌<◌, ◌⊎◌, inl, inr, Bool, true, false, List, [], Option, Some, None, length, refl, sym, ap, subst, ◌∙◌, arith}
 use Rattle.std.specs.Prelude.{IsTrue, IfSome}
 use Rattle.std.proofs.lemmas.Bool.{false≢true}
 use Rattle.sk_base.specs.Stream.{Rose}
@@ -34,7 +34,11 @@ use Rattle.sk_app.specs.declared.ending.Ending.TheVariants as ending
 use Rattle.sk_check.specs.declared.fault.TypeFault.{TypeFault}
 use Rattle.sk_sizes.specs.declared.fault.SizeFault.{SizeFault}
 use Rattle.sk_front.specs.declared.fault.TextFault.{TextFault}
-use Rattle.sk_front.specs.Front.{IsUntyped, IsTooLarge}
+use Rattle.sk_front.specs.declared.fault.SketchFault.{SketchFault}
+use Rattle.sk_front.specs.declared.fault.SketchFault.TheVariants as sketch
+use Rattle.sk_front.specs.Front.{IsUntyped, IsTooLarge, IsCause}
+use Rattle.sk_lower.specs.declared.algebraic.AdtFault.{AdtFault}
+use Rattle.sk_lowered.specs.PlainTexts.{HasNoPlainForm, IsNotTagged, IsLoweredText, IsFaultOfLowering, IsPlacedFault}
 use Rattle.sk_front.specs.Texts.{most_bytes, byte_of, HasSpan, IsTextFault}
 use Rattle.sk_front.proofs.TextLaws.{byte_within}
 use Rattle.sk_app.specs.Streams.{Appends, AppendsPrefix, TakesFew}
@@ -43,21 +47,15 @@ use Rattle.sk_app.specs.ResultText.{IsCompletion, IsNone}
 use Rattle.sk_app.specs.Spent.{AreLearnt, IsSpentRounds, IsSpentConflicts}
 use Rattle.sk_app.specs.Results.{IsResult}
 use Rattle.sk_app.specs.Help.{help_text, version_text}
-use Rattle.sk_app.specs.Lines.{IsNoLine, IsSearch, ForSearch, IsSynth, ForSynth, line_by, line_of, IsJob, ForJob, ForTrace, TakesText, ForText, is_unbuilt, IsUnbuiltLine}
-use Rattle.sk_app.specs.Ends.{delivered, cut, no_room, Writes, WritesPart, writes_nothing, IsToldOf, stopped, EndsBuilt, EndsFaulty, EndsUntyped, EndsLarge, EndsLong, EndsRun, EndsStopped, EndsNoLine, EndsUnbuiltLine, EndsHelp, EndsVersion}
-use Rattle.sk_app.specs.Effects.{Effect, IsRefused, IsShown, is_of_synth, Synthesises, is_of_expansion, IsRunResult, IsRunOutput, Executes, Serves, Answers, no_line, served, no_memory, IsOutput}
+use Rattle.sk_app.specs.Lines.{IsNoLine, IsSearch, ForSearch, IsSynth, ForSynth, line_by, line_of, IsJob, ForJob, ForTrace, ForLower, TakesText, ForText, ReadsText, is_unbuilt, IsUnbuiltLine}
+use Rattle.sk_app.specs.Ends.{delivered, cut, no_room, Writes, WritesPart, writes_nothing, IsToldOf, stopped, EndsBuilt, EndsFaulty, EndsUntyped, EndsLarge, EndsLong, EndsRun, EndsStopped, EndsLowered, EndsNotLowered, EndsNotTagged, EndsRefused, EndsNoLine, EndsUnbuiltLine, EndsHelp, EndsVersion}
+use Rattle.sk_app.specs.Effects.{Effect, IsRefused, IsShown, is_of_synth, Synthesises, is_of_expansion, IsRunResult, IsRunOutput, Executes, Lowers, Serves, Answers, no_line, served, no_memory, IsOutput}
 use Rattle.sk_app.specs.Effects as output
 use Rattle.sk_app.proofs.StreamLemmas.{front-nil}
+use Rattle.sk_app.proofs.SourceLaws.{every, mapped, came_wanting}
 use Rattle.sk_app.proofs.ToldLaws as by
 use Rattle.sk_app.proofs.ExecLaws as by_exec
-
-every : (left : Option (List ℕ)) (P : List ℕ → Type 0) → ((text : List ℕ) → P text) → IfSome left P
-every None P h = tt
-every (Some text) P h = h text
-
-mapped : (left : Option (List ℕ)) (P Q : List ℕ → Type 0) → ((text : List ℕ) → P text → Q text) → IfSome left P → IfSome left Q
-mapped None P Q h k = tt
-mapped (Some text) P Q h k = h text k
+use Rattle.sk_app.proofs.LowerLaws as by_lower
 
 nothing_taken : (old new : Option (List ℕ)) → new ≡ old → TakesFew old new
 nothing_taken old new e = record { taken = []; few = omega arith; split = sym e ∙ front-nil new }
@@ -71,7 +69,14 @@ is_exec_alone (ending.NotRun reason) = true
 is_exec_alone (ending.NotFilled reason) = true
 is_exec_alone _ = false
 
--- whether this is an ending of lines that take a text alone
+-- whether this is the ending of a line `lower` alone
+abbrev is_lower_alone : Ending → Bool
+is_lower_alone ending.Lowered = true
+is_lower_alone (ending.NotLowered reason) = true
+is_lower_alone (ending.NotTagged span) = true
+is_lower_alone _ = false
+
+-- whether this is an ending of lines that read their source alone
 abbrev is_of_text : Ending → Bool
 is_of_text (ending.NotText fault) = true
 is_of_text (ending.NotTyped fault) = true
@@ -96,6 +101,7 @@ module _ (words : List (List ℕ)) (r : Ending) (f : Effect) where
     of_unbuilt : IsUnbuiltLine words → IsRefused ending.NotBuilt r f → Kind
     of_synth : (set : Set) (budget : Budget) → IsSearch words set budget → Synthesises set budget r f → Kind
     of_exec : (set : Set) (job : Job) → IsJob words set job → Executes set job r f → Kind
+    of_lower : (set : Set) → IsLine words (line.Lower set) → Lowers set r f → Kind
     of_help : IsLine words line.Help → IsShown help_text ending.HelpShown r f → Kind
     of_version : IsLine words line.Version → IsShown version_text ending.VersionShown r f → Kind
     of_memory : IsRefused ending.Memory r f → Kind
@@ -105,6 +111,7 @@ module _ (words : List (List ℕ)) (r : Ending) (f : Effect) where
   line_kind (line.Synth set budget false) h s = of_synth set budget h s
   line_kind (line.Exec set name values) h s = of_exec set (record { name = name; values = values; way = way.Exec }) h s
   line_kind (line.Trace set name values holes) h s = of_exec set (record { name = name; values = values; way = way.Trace holes }) h s
+  line_kind (line.Lower set) h s = of_lower set h s
   line_kind (line.Check set) h s = of_unbuilt (record { line = line.Check set; is = h; unbuilt = refl }) s
   line_kind (line.Itself n) h s = of_unbuilt (record { line = line.Itself n; is = h; unbuilt = refl }) s
   line_kind line.Help h s = of_help h s
@@ -126,6 +133,9 @@ module _ (words : List (List ℕ)) (r : Ending) (f : Effect) where
   exec_alone_not : (y x : Ending) → is_exec_alone x ≡ true → is_exec_alone y ≡ false → y ≡ x → ⊥
   exec_alone_not y x a b e = false≢true (sym b ∙ ap is_exec_alone e ∙ a)
 
+  lower_alone_not : (y x : Ending) → is_lower_alone x ≡ true → is_lower_alone y ≡ false → y ≡ x → ⊥
+  lower_alone_not y x a b e = false≢true (sym b ∙ ap is_lower_alone e ∙ a)
+
   text_not : (y x : Ending) → is_of_text x ≡ true → is_of_text y ≡ false → y ≡ x → ⊥
   text_not y x a b e = false≢true (sym b ∙ ap is_of_text e ∙ a)
 
@@ -146,10 +156,63 @@ module _ (words : List (List ℕ)) (r : Ending) (f : Effect) where
   synth_alone_not_exec (ending.TooLarge reason) a = absurd (false≢true a)
   synth_alone_not_exec (ending.NotRun reason) a = absurd (false≢true a)
   synth_alone_not_exec (ending.NotFilled reason) a = absurd (false≢true a)
+  synth_alone_not_exec ending.Lowered a = absurd (false≢true a)
+  synth_alone_not_exec (ending.NotLowered reason) a = absurd (false≢true a)
+  synth_alone_not_exec (ending.NotTagged span) a = absurd (false≢true a)
   synth_alone_not_exec ending.ReadFault a = absurd (false≢true a)
   synth_alone_not_exec ending.WriteFault a = absurd (false≢true a)
   synth_alone_not_exec ending.TooLong a = absurd (false≢true a)
   synth_alone_not_exec ending.Memory a = absurd (false≢true a)
+
+  synth_alone_not_lower : (x : Ending) → is_synth_alone x ≡ true → by_lower.is_of_lower x ≡ false
+  synth_alone_not_lower ending.Completed a = refl
+  synth_alone_not_lower ending.NoCompletion a = refl
+  synth_alone_not_lower (ending.SpentRounds pairs best) a = refl
+  synth_alone_not_lower (ending.SpentConflicts pairs q g log best) a = refl
+  synth_alone_not_lower ending.HelpShown a = absurd (false≢true a)
+  synth_alone_not_lower ending.VersionShown a = absurd (false≢true a)
+  synth_alone_not_lower ending.ExecDone a = absurd (false≢true a)
+  synth_alone_not_lower (ending.ExecFailed span) a = absurd (false≢true a)
+  synth_alone_not_lower (ending.ExecSkipped span) a = absurd (false≢true a)
+  synth_alone_not_lower ending.Lowered a = absurd (false≢true a)
+  synth_alone_not_lower ending.NotALine a = absurd (false≢true a)
+  synth_alone_not_lower (ending.NotText fault) a = absurd (false≢true a)
+  synth_alone_not_lower (ending.NotTyped fault) a = absurd (false≢true a)
+  synth_alone_not_lower (ending.TooLarge reason) a = absurd (false≢true a)
+  synth_alone_not_lower (ending.NotRun reason) a = absurd (false≢true a)
+  synth_alone_not_lower (ending.NotFilled reason) a = absurd (false≢true a)
+  synth_alone_not_lower (ending.NotLowered reason) a = absurd (false≢true a)
+  synth_alone_not_lower (ending.NotTagged span) a = absurd (false≢true a)
+  synth_alone_not_lower ending.ReadFault a = absurd (false≢true a)
+  synth_alone_not_lower ending.WriteFault a = absurd (false≢true a)
+  synth_alone_not_lower ending.TooLong a = absurd (false≢true a)
+  synth_alone_not_lower ending.Memory a = absurd (false≢true a)
+  synth_alone_not_lower ending.NotBuilt a = absurd (false≢true a)
+
+  exec_alone_not_lower : (x : Ending) → is_exec_alone x ≡ true → by_lower.is_of_lower x ≡ false
+  exec_alone_not_lower ending.ExecDone a = refl
+  exec_alone_not_lower (ending.ExecFailed span) a = refl
+  exec_alone_not_lower (ending.ExecSkipped span) a = refl
+  exec_alone_not_lower (ending.NotRun reason) a = refl
+  exec_alone_not_lower (ending.NotFilled reason) a = refl
+  exec_alone_not_lower ending.Completed a = absurd (false≢true a)
+  exec_alone_not_lower ending.NoCompletion a = absurd (false≢true a)
+  exec_alone_not_lower (ending.SpentRounds pairs best) a = absurd (false≢true a)
+  exec_alone_not_lower (ending.SpentConflicts pairs q g log best) a = absurd (false≢true a)
+  exec_alone_not_lower ending.HelpShown a = absurd (false≢true a)
+  exec_alone_not_lower ending.VersionShown a = absurd (false≢true a)
+  exec_alone_not_lower ending.Lowered a = absurd (false≢true a)
+  exec_alone_not_lower ending.NotALine a = absurd (false≢true a)
+  exec_alone_not_lower (ending.NotText fault) a = absurd (false≢true a)
+  exec_alone_not_lower (ending.NotTyped fault) a = absurd (false≢true a)
+  exec_alone_not_lower (ending.TooLarge reason) a = absurd (false≢true a)
+  exec_alone_not_lower (ending.NotLowered reason) a = absurd (false≢true a)
+  exec_alone_not_lower (ending.NotTagged span) a = absurd (false≢true a)
+  exec_alone_not_lower ending.ReadFault a = absurd (false≢true a)
+  exec_alone_not_lower ending.WriteFault a = absurd (false≢true a)
+  exec_alone_not_lower ending.TooLong a = absurd (false≢true a)
+  exec_alone_not_lower ending.Memory a = absurd (false≢true a)
+  exec_alone_not_lower ending.NotBuilt a = absurd (false≢true a)
 
   -- the endings of a line `synth` alone come for no other line
   synth_of : (x : Ending) → is_synth_alone x ≡ true → Kind → r ≡ x → ForSearch words (λ set budget. Synthesises set budget r f)
@@ -157,29 +220,48 @@ module _ (words : List (List ℕ)) (r : Ending) (f : Effect) where
   synth_of x a (of_unbuilt u s) e = absurd (alone_not ending.NotBuilt x a refl (sym s.is ∙ e))
   synth_of x a (of_synth set budget h s) e = record { set = set; budget = budget; is = h; holds = s }
   synth_of x a (of_exec set job h s) e = by_exec.exec_not set job r f x (synth_alone_not_exec x a) s.runs e
+  synth_of x a (of_lower set h s) e = by_lower.lower_not set r f x (synth_alone_not_lower x a) s.lowers e
   synth_of x a (of_help h s) e = absurd (shown_not help_text ending.HelpShown s x (alone_not ending.HelpShown x a refl) (alone_not ending.WriteFault x a refl) (alone_not ending.Memory x a refl) e)
   synth_of x a (of_version h s) e = absurd (shown_not version_text ending.VersionShown s x (alone_not ending.VersionShown x a refl) (alone_not ending.WriteFault x a refl) (alone_not ending.Memory x a refl) e)
   synth_of x a (of_memory s) e = absurd (alone_not ending.Memory x a refl (sym s.is ∙ e))
 
-  -- those of a line `exec` alone
+  -- those of lines that run a function alone
   exec_of : (x : Ending) → is_exec_alone x ≡ true → is_of_synth x ≡ false → Kind → r ≡ x → ForJob words (λ set job. Executes set job r f)
   exec_of x a b (of_none n s) e = absurd (exec_alone_not ending.NotALine x a refl (sym s.is ∙ e))
   exec_of x a b (of_unbuilt u s) e = absurd (exec_alone_not ending.NotBuilt x a refl (sym s.is ∙ e))
   exec_of x a b (of_synth set budget h s) e = absurd (false≢true (sym b ∙ ap is_of_synth (sym e) ∙ s.ends))
   exec_of x a b (of_exec set job h s) e = record { set = set; job = job; is = h; holds = s }
+  exec_of x a b (of_lower set h s) e = by_lower.lower_not set r f x (exec_alone_not_lower x a) s.lowers e
   exec_of x a b (of_help h s) e = absurd (shown_not help_text ending.HelpShown s x (exec_alone_not ending.HelpShown x a refl) (exec_alone_not ending.WriteFault x a refl) (exec_alone_not ending.Memory x a refl) e)
   exec_of x a b (of_version h s) e = absurd (shown_not version_text ending.VersionShown s x (exec_alone_not ending.VersionShown x a refl) (exec_alone_not ending.WriteFault x a refl) (exec_alone_not ending.Memory x a refl) e)
   exec_of x a b (of_memory s) e = absurd (exec_alone_not ending.Memory x a refl (sym s.is ∙ e))
 
-  -- what follows for a line that takes a text from an ending of such lines alone
-  text_of : (x : Ending) → is_of_text x ≡ true → (P : Set → Type 0) → ((set : Set) (budget : Budget) → Synthesises set budget r f → P set) → ((set : Set) (job : Job) → Executes set job r f → P set) → Kind → r ≡ x → ForText words P
-  text_of x a P k l (of_none n s) e = absurd (text_not ending.NotALine x a refl (sym s.is ∙ e))
-  text_of x a P k l (of_unbuilt u s) e = absurd (text_not ending.NotBuilt x a refl (sym s.is ∙ e))
-  text_of x a P k l (of_synth set budget h s) e = record { set = set; takes = inl (record { budget = budget; is = h }); holds = k set budget s }
-  text_of x a P k l (of_exec set job h s) e = record { set = set; takes = inr (job, h); holds = l set job s }
-  text_of x a P k l (of_help h s) e = absurd (shown_not help_text ending.HelpShown s x (text_not ending.HelpShown x a refl) (text_not ending.WriteFault x a refl) (text_not ending.Memory x a refl) e)
-  text_of x a P k l (of_version h s) e = absurd (shown_not version_text ending.VersionShown s x (text_not ending.VersionShown x a refl) (text_not ending.WriteFault x a refl) (text_not ending.Memory x a refl) e)
-  text_of x a P k l (of_memory s) e = absurd (text_not ending.Memory x a refl (sym s.is ∙ e))
+  -- those of a line `lower` alone
+  lower_of : (x : Ending) → is_lower_alone x ≡ true → is_of_synth x ≡ false → by_exec.is_of_exec x ≡ false → Kind → r ≡ x → ForLower words (λ set. Lowers set r f)
+  lower_of x a b c (of_none n s) e = absurd (lower_alone_not ending.NotALine x a refl (sym s.is ∙ e))
+  lower_of x a b c (of_unbuilt u s) e = absurd (lower_alone_not ending.NotBuilt x a refl (sym s.is ∙ e))
+  lower_of x a b c (of_synth set budget h s) e = absurd (false≢true (sym b ∙ ap is_of_synth (sym e) ∙ s.ends))
+  lower_of x a b c (of_exec set job h s) e = by_exec.exec_not set job r f x c s.runs e
+  lower_of x a b c (of_lower set h s) e = record { set = set; is = h; holds = s }
+  lower_of x a b c (of_help h s) e = absurd (shown_not help_text ending.HelpShown s x (lower_alone_not ending.HelpShown x a refl) (lower_alone_not ending.WriteFault x a refl) (lower_alone_not ending.Memory x a refl) e)
+  lower_of x a b c (of_version h s) e = absurd (shown_not version_text ending.VersionShown s x (lower_alone_not ending.VersionShown x a refl) (lower_alone_not ending.WriteFault x a refl) (lower_alone_not ending.Memory x a refl) e)
+  lower_of x a b c (of_memory s) e = absurd (lower_alone_not ending.Memory x a refl (sym s.is ∙ e))
+
+  -- what follows for a line that takes a text as it is, and for a line `lower`, from an ending of lines that read their source alone
+  text_of : (x : Ending) → is_of_text x ≡ true → (P Q : Set → Type 0) → ((set : Set) (budget : Budget) → Synthesises set budget r f → P set) → ((set : Set) (job : Job) → Executes set job r f → P set) → ((set : Set) → Lowers set r f → Q set) → Kind → r ≡ x → ForText words P ⊎ ForLower words Q
+  text_of x a P Q k l m (of_none n s) e = absurd (text_not ending.NotALine x a refl (sym s.is ∙ e))
+  text_of x a P Q k l m (of_unbuilt u s) e = absurd (text_not ending.NotBuilt x a refl (sym s.is ∙ e))
+  text_of x a P Q k l m (of_synth set budget h s) e = inl (record { set = set; takes = inl (record { budget = budget; is = h }); holds = k set budget s })
+  text_of x a P Q k l m (of_exec set job h s) e = inl (record { set = set; takes = inr (job, h); holds = l set job s })
+  text_of x a P Q k l m (of_lower set h s) e = inr (record { set = set; is = h; holds = m set s })
+  text_of x a P Q k l m (of_help h s) e = absurd (shown_not help_text ending.HelpShown s x (text_not ending.HelpShown x a refl) (text_not ending.WriteFault x a refl) (text_not ending.Memory x a refl) e)
+  text_of x a P Q k l m (of_version h s) e = absurd (shown_not version_text ending.VersionShown s x (text_not ending.VersionShown x a refl) (text_not ending.WriteFault x a refl) (text_not ending.Memory x a refl) e)
+  text_of x a P Q k l m (of_memory s) e = absurd (text_not ending.Memory x a refl (sym s.is ∙ e))
+
+  -- what follows for either
+  for_both : {P : Type 0} → ForText words (λ set. P) ⊎ ForLower words (λ set. P) → P
+  for_both (inl h) = h.holds
+  for_both (inr h) = h.holds
 
   -- a line `synth` has none of the endings of other lines
   synth_not : (set : Set) (budget : Budget) (x : Ending) → Synthesises set budget r f → is_of_synth x ≡ false → r ≡ x → ⊥
@@ -196,6 +278,7 @@ module _ (words : List (List ℕ)) (r : Ending) (f : Effect) where
   not_a_line_of (of_unbuilt u s) e = let q = sym s.is ∙ e in cc
   not_a_line_of (of_synth set budget h s) e = absurd (synth_not set budget ending.NotALine s refl e)
   not_a_line_of (of_exec set job h s) e = by_exec.exec_not set job r f ending.NotALine refl s.runs e
+  not_a_line_of (of_lower set h s) e = by_lower.lower_not set r f ending.NotALine refl s.lowers e
   not_a_line_of (of_help h s) e = absurd (shown_not help_text ending.HelpShown s ending.NotALine (λ q. cc) (λ q. cc) (λ q. cc) e)
   not_a_line_of (of_version h s) e = absurd (shown_not version_text ending.VersionShown s ending.NotALine (λ q. cc) (λ q. cc) (λ q. cc) e)
   not_a_line_of (of_memory s) e = let q = sym s.is ∙ e in cc
@@ -223,6 +306,7 @@ module _ (words : List (List ℕ)) (r : Ending) (f : Effect) where
   help_of (of_unbuilt u s) e = let q = sym s.is ∙ e in cc
   help_of (of_synth set budget h s) e = absurd (synth_not set budget ending.HelpShown s refl e)
   help_of (of_exec set job h s) e = by_exec.exec_not set job r f ending.HelpShown refl s.runs e
+  help_of (of_lower set h s) e = by_lower.lower_not set r f ending.HelpShown refl s.lowers e
   help_of (of_help h s) e = (h, shown_whole help_text ending.HelpShown s (λ q. cc) (λ q. cc) e)
   help_of (of_version h s) e = absurd (shown_not version_text ending.VersionShown s ending.HelpShown (λ q. cc) (λ q. cc) (λ q. cc) e)
   help_of (of_memory s) e = let q = sym s.is ∙ e in cc
@@ -232,6 +316,7 @@ module _ (words : List (List ℕ)) (r : Ending) (f : Effect) where
   version_of (of_unbuilt u s) e = let q = sym s.is ∙ e in cc
   version_of (of_synth set budget h s) e = absurd (synth_not set budget ending.VersionShown s refl e)
   version_of (of_exec set job h s) e = by_exec.exec_not set job r f ending.VersionShown refl s.runs e
+  version_of (of_lower set h s) e = by_lower.lower_not set r f ending.VersionShown refl s.lowers e
   version_of (of_help h s) e = absurd (shown_not help_text ending.HelpShown s ending.VersionShown (λ q. cc) (λ q. cc) (λ q. cc) e)
   version_of (of_version h s) e = (h, shown_whole version_text ending.VersionShown s (λ q. cc) (λ q. cc) e)
   version_of (of_memory s) e = let q = sym s.is ∙ e in cc
@@ -241,6 +326,7 @@ module _ (words : List (List ℕ)) (r : Ending) (f : Effect) where
   not_built_of (of_unbuilt u s) e = u
   not_built_of (of_synth set budget h s) e = absurd (synth_not set budget ending.NotBuilt s refl e)
   not_built_of (of_exec set job h s) e = by_exec.exec_not set job r f ending.NotBuilt refl s.runs e
+  not_built_of (of_lower set h s) e = by_lower.lower_not set r f ending.NotBuilt refl s.lowers e
   not_built_of (of_help h s) e = absurd (shown_not help_text ending.HelpShown s ending.NotBuilt (λ q. cc) (λ q. cc) (λ q. cc) e)
   not_built_of (of_version h s) e = absurd (shown_not version_text ending.VersionShown s ending.NotBuilt (λ q. cc) (λ q. cc) (λ q. cc) e)
   not_built_of (of_memory s) e = let q = sym s.is ∙ e in cc
@@ -250,6 +336,7 @@ module _ (words : List (List ℕ)) (r : Ending) (f : Effect) where
   write_fault_of (of_unbuilt u s) e = let q = sym s.is ∙ e in cc
   write_fault_of (of_synth set budget h s) e = s.write_fault e
   write_fault_of (of_exec set job h s) e = by_exec.write_fault_by set job r f s.runs e
+  write_fault_of (of_lower set h s) e = by_lower.write_fault_by set r f s.lowers e
   write_fault_of (of_help h s) e = shown_rose help_text ending.HelpShown s (λ q. cc) (λ q. cc) e
   write_fault_of (of_version h s) e = shown_rose version_text ending.VersionShown s (λ q. cc) (λ q. cc) e
   write_fault_of (of_memory s) e = let q = sym s.is ∙ e in cc
@@ -262,6 +349,7 @@ module _ (words : List (List ℕ)) (r : Ending) (f : Effect) where
   prefix_of (of_unbuilt u s) e = let q = sym s.is ∙ e in cc
   prefix_of (of_synth set budget h s) e = mapped f.left_old (λ text. WritesPart (IsResult set budget text) f.held_old f.held_new) Cut (λ text w. record { out = w.out; is = output.result (record { set = set; budget = budget; is = h; holds = w.is }); appends = w.appends }) (s.prefix e)
   prefix_of (of_exec set job h s) e = mapped f.left_old (λ text. WritesPart (IsRunOutput set job text) f.held_old f.held_new) Cut (λ text w. record { out = w.out; is = output.run (record { set = set; job = job; is = h; holds = w.is }); appends = w.appends }) (by_exec.told_by set job r f (λ text. WritesPart (IsRunOutput set job text) f.held_old f.held_new) (λ text w. by_exec.prefix_by set job r f e text w) s.runs)
+  prefix_of (of_lower set h s) e = by_lower.told_as set r f ending.WriteFault Cut (λ text told. record { out = told.1.out; is = output.plain (record { set = set; is = h; holds = told.1.is }); appends = told.1.appends }) e s.lowers
   prefix_of (of_help h s) e = every f.left_old Cut (λ text. record { out = help_text; is = output.help h refl; appends = shown_cut help_text ending.HelpShown s (λ q. cc) (λ q. cc) e })
   prefix_of (of_version h s) e = every f.left_old Cut (λ text. record { out = version_text; is = output.version h refl; appends = shown_cut version_text ending.VersionShown s (λ q. cc) (λ q. cc) e })
   prefix_of (of_memory s) e = let q = sym s.is ∙ e in cc
@@ -271,6 +359,7 @@ module _ (words : List (List ℕ)) (r : Ending) (f : Effect) where
   kept_of (of_unbuilt u s) k = s.nothing.unwritten
   kept_of (of_synth set budget h s) k = s.kept k
   kept_of (of_exec set job h s) k = by_exec.kept_by set job r f s.runs k
+  kept_of (of_lower set h s) k = by_lower.kept_by set r f s.lowers k
   kept_of (of_help h s) k = shown_kept help_text ending.HelpShown s refl k
   kept_of (of_version h s) k = shown_kept version_text ending.VersionShown s refl k
   kept_of (of_memory s) k = s.nothing.unwritten
@@ -280,18 +369,20 @@ module _ (words : List (List ℕ)) (r : Ending) (f : Effect) where
   few_of (of_unbuilt u s) = nothing_taken f.left_old f.left_new s.nothing.unread.left
   few_of (of_synth set budget h s) = s.few
   few_of (of_exec set job h s) = s.few
+  few_of (of_lower set h s) = s.few
   few_of (of_help h s) = nothing_taken f.left_old f.left_new s.unread.left
   few_of (of_version h s) = nothing_taken f.left_old f.left_new s.unread.left
   few_of (of_memory s) = nothing_taken f.left_old f.left_new s.nothing.unread.left
 
-  unread_of : Kind → ((set : Set) → TakesText words set → ⊥) → f.left_new ≡ f.left_old
-  unread_of (of_none n s) spells = s.nothing.unread.left
-  unread_of (of_unbuilt u s) spells = s.nothing.unread.left
-  unread_of (of_synth set budget h s) spells = absurd (spells set (inl (record { budget = budget; is = h })))
-  unread_of (of_exec set job h s) spells = absurd (spells set (inr (job, h)))
-  unread_of (of_help h s) spells = s.unread.left
-  unread_of (of_version h s) spells = s.unread.left
-  unread_of (of_memory s) spells = s.nothing.unread.left
+  unread_of : Kind → ((set : Set) → ReadsText words set → ⊥) → f.left_new ≡ f.left_old
+  unread_of (of_none n s) reads = s.nothing.unread.left
+  unread_of (of_unbuilt u s) reads = s.nothing.unread.left
+  unread_of (of_synth set budget h s) reads = absurd (reads set (inl (inl (record { budget = budget; is = h }))))
+  unread_of (of_exec set job h s) reads = absurd (reads set (inl (inr (job, h))))
+  unread_of (of_lower set h s) reads = absurd (reads set (inr h))
+  unread_of (of_help h s) reads = s.unread.left
+  unread_of (of_version h s) reads = s.unread.left
+  unread_of (of_memory s) reads = s.nothing.unread.left
 
   -- Clauses that follow from the line
 
@@ -309,6 +400,7 @@ module _ (words : List (List ℕ)) (r : Ending) (f : Effect) where
   ends_no_line_of (of_unbuilt u s) spells = absurd (spells u.line u.is)
   ends_no_line_of (of_synth set budget h s) spells = absurd (spells (line.Synth set budget false) h)
   ends_no_line_of (of_exec set job h s) spells = absurd (spells (line_of set job) h)
+  ends_no_line_of (of_lower set h s) spells = absurd (spells (line.Lower set) h)
   ends_no_line_of (of_help h s) spells = absurd (spells line.Help h)
   ends_no_line_of (of_version h s) spells = absurd (spells line.Version h)
   ends_no_line_of (of_memory s) spells = subst EndsNoLine (sym s.is) tt
@@ -318,6 +410,7 @@ module _ (words : List (List ℕ)) (r : Ending) (f : Effect) where
   ends_unbuilt_line_of (of_unbuilt v s) u = subst EndsUnbuiltLine (sym s.is) tt
   ends_unbuilt_line_of (of_synth set budget h s) u = unbuilt_not (line.Synth set budget false) refl u h
   ends_unbuilt_line_of (of_exec set job h s) u = unbuilt_not (line_of set job) (job_is_built set job) u h
+  ends_unbuilt_line_of (of_lower set h s) u = unbuilt_not (line.Lower set) refl u h
   ends_unbuilt_line_of (of_help h s) u = unbuilt_not line.Help refl u h
   ends_unbuilt_line_of (of_version h s) u = unbuilt_not line.Version refl u h
   ends_unbuilt_line_of (of_memory s) u = subst EndsUnbuiltLine (sym s.is) tt
@@ -331,6 +424,7 @@ module _ (words : List (List ℕ)) (r : Ending) (f : Effect) where
   ends_help_of (of_unbuilt u s) h = not_unbuilt line.Help refl h u
   ends_help_of (of_synth set budget g s) h = let q = one (line.Synth set budget false) line.Help g h in cc
   ends_help_of (of_exec set job g s) h = not_of_job line.Help set job refl (one line.Help (line_of set job) h g)
+  ends_help_of (of_lower set g s) h = let q = one (line.Lower set) line.Help g h in cc
   ends_help_of (of_help g s) h = shown_ends help_text ending.HelpShown (λ x. EndsHelp x f.write_faults_old f.write_faults_new) s tt (λ w. w) tt
   ends_help_of (of_version g s) h = let q = one line.Version line.Help g h in cc
   ends_help_of (of_memory s) h = subst (λ x. EndsHelp x f.write_faults_old f.write_faults_new) (sym s.is) tt
@@ -340,6 +434,7 @@ module _ (words : List (List ℕ)) (r : Ending) (f : Effect) where
   ends_version_of (of_unbuilt u s) h = not_unbuilt line.Version refl h u
   ends_version_of (of_synth set budget g s) h = let q = one (line.Synth set budget false) line.Version g h in cc
   ends_version_of (of_exec set job g s) h = not_of_job line.Version set job refl (one line.Version (line_of set job) h g)
+  ends_version_of (of_lower set g s) h = let q = one (line.Lower set) line.Version g h in cc
   ends_version_of (of_help g s) h = let q = one line.Help line.Version g h in cc
   ends_version_of (of_version g s) h = shown_ends version_text ending.VersionShown (λ x. EndsVersion x f.write_faults_old f.write_faults_new) s tt (λ w. w) tt
   ends_version_of (of_memory s) h = subst (λ x. EndsVersion x f.write_faults_old f.write_faults_new) (sym s.is) tt
@@ -349,6 +444,7 @@ module _ (words : List (List ℕ)) (r : Ending) (f : Effect) where
   prefix_help_of (of_unbuilt u s) h e = not_unbuilt line.Help refl h u
   prefix_help_of (of_synth set budget g s) h e = let q = one (line.Synth set budget false) line.Help g h in cc
   prefix_help_of (of_exec set job g s) h e = not_of_job line.Help set job refl (one line.Help (line_of set job) h g)
+  prefix_help_of (of_lower set g s) h e = let q = one (line.Lower set) line.Help g h in cc
   prefix_help_of (of_help g s) h e = shown_cut help_text ending.HelpShown s (λ q. cc) (λ q. cc) e
   prefix_help_of (of_version g s) h e = let q = one line.Version line.Help g h in cc
   prefix_help_of (of_memory s) h e = let q = sym s.is ∙ e in cc
@@ -358,6 +454,7 @@ module _ (words : List (List ℕ)) (r : Ending) (f : Effect) where
   prefix_version_of (of_unbuilt u s) h e = not_unbuilt line.Version refl h u
   prefix_version_of (of_synth set budget g s) h e = let q = one (line.Synth set budget false) line.Version g h in cc
   prefix_version_of (of_exec set job g s) h e = not_of_job line.Version set job refl (one line.Version (line_of set job) h g)
+  prefix_version_of (of_lower set g s) h e = let q = one (line.Lower set) line.Version g h in cc
   prefix_version_of (of_help g s) h e = let q = one line.Help line.Version g h in cc
   prefix_version_of (of_version g s) h e = shown_cut version_text ending.VersionShown s (λ q. cc) (λ q. cc) e
   prefix_version_of (of_memory s) h e = let q = sym s.is ∙ e in cc
@@ -372,6 +469,7 @@ module _ (words : List (List ℕ)) (r : Ending) (f : Effect) where
       let budgets : other ≡ budget = cc in
       subst (λ x. P x budget) sets (subst (P t) budgets (a t other s))
   for_synth P a m (of_exec other job g s) set budget h = not_of_job (line.Synth set budget false) other job refl (one (line.Synth set budget false) (line_of other job) h g)
+  for_synth P a m (of_lower t g s) set budget h = let q = one (line.Lower t) (line.Synth set budget false) g h in cc
   for_synth P a m (of_help g s) set budget h = let q = one line.Help (line.Synth set budget false) g h in cc
   for_synth P a m (of_version g s) set budget h = let q = one line.Version (line.Synth set budget false) g h in cc
   for_synth P a m (of_memory s) set budget h = m set budget s.is
@@ -384,9 +482,24 @@ module _ (words : List (List ℕ)) (r : Ending) (f : Effect) where
   for_exec P a m (of_exec t other g s) set job h =
       let same = one_job t set other job (one (line_of t other) (line_of set job) g h) in
       subst (λ x. P x job) same.sets (subst (P t) same.jobs (a t other s))
+  for_exec P a m (of_lower t g s) set job h = not_of_job (line.Lower t) set job refl (one (line.Lower t) (line_of set job) g h)
   for_exec P a m (of_help g s) set job h = not_of_job line.Help set job refl (one line.Help (line_of set job) g h)
   for_exec P a m (of_version g s) set job h = not_of_job line.Version set job refl (one line.Version (line_of set job) g h)
   for_exec P a m (of_memory s) set job h = m set job s.is
+
+  -- what follows for a line `lower` from its own call, or from want of memory
+  for_lower : (P : Set → Type 0) → ((set : Set) → Lowers set r f → P set) → ((set : Set) → r ≡ ending.Memory → P set) → Kind → (set : Set) → IsLine words (line.Lower set) → P set
+  for_lower P a m (of_none n s) set h = absurd (n (line.Lower set) h)
+  for_lower P a m (of_unbuilt u s) set h = not_unbuilt (line.Lower set) refl h u
+  for_lower P a m (of_synth t budget g s) set h = let q = one (line.Synth t budget false) (line.Lower set) g h in cc
+  for_lower P a m (of_exec t job g s) set h = not_of_job (line.Lower set) t job refl (one (line.Lower set) (line_of t job) h g)
+  for_lower P a m (of_lower t g s) set h =
+      let q = one (line.Lower t) (line.Lower set) g h in
+      let sets : t ≡ set = cc in
+      subst P sets (a t s)
+  for_lower P a m (of_help g s) set h = let q = one line.Help (line.Lower set) g h in cc
+  for_lower P a m (of_version g s) set h = let q = one line.Version (line.Lower set) g h in cc
+  for_lower P a m (of_memory s) set h = m set s.is
 
 -- The clauses of `run`
 
@@ -450,45 +563,86 @@ module _ {words : List (List ℕ)} {r : Ending} {f : Effect} (a : Answers words 
       let s = exec_of words r f (ending.NotFilled told) refl refl the e in
       filled_of told s.set s.job.way s.job.name s.job.values s.is e s.holds
 
-  -- what is told of the text by an ending of lines that take one
-  told_of : (x : Ending) → is_of_text x ≡ true → (P : Set → List ℕ → Type 0) → ((set : Set) (budget : Budget) → Synthesises set budget r f → IfSome f.left_old (P set)) → ((set : Set) (job : Job) → Executes set job r f → IfSome f.left_old (P set)) → r ≡ x → ForText words (λ set. IfSome f.left_old (P set))
-  told_of x a P k l e = text_of words r f x a (λ set. IfSome f.left_old (P set)) k l the e
+  -- what is told of the text by an ending of a line `lower` alone
+  told_of_lower : (x : Ending) → is_lower_alone x ≡ true → is_of_synth x ≡ false → by_exec.is_of_exec x ≡ false → (P : Set → List ℕ → Type 0) → ((set : Set) (text : List ℕ) → by_lower.Tells set r f text x → P set text) → r ≡ x → ForLower words (λ set. IfSome f.left_old (P set))
+  told_of_lower x a b c P k e =
+      let s = lower_of words r f x a b c the e in
+      record { set = s.set; is = s.is; holds = by_lower.told_as s.set r f x (P s.set) (k s.set) e (s.holds).lowers }
 
-  pub not_text : (fault : TextFault) → r ≡ ending.NotText fault → IfSome f.left_old (IsTextFault fault)
+  pub lowered : r ≡ ending.Lowered → ForLower words (λ set. IfSome f.left_old (λ text. Writes (IsLoweredText set text) f.held_old f.held_new))
+  lowered = told_of_lower ending.Lowered refl refl refl (λ set text. Writes (IsLoweredText set text) f.held_old f.held_new) (λ set text h. h)
+
+  pub not_lowered : (told : AdtFault) → r ≡ ending.NotLowered told → ForLower words (λ set. IfSome f.left_old (λ text. HasNoPlainForm text told))
+  not_lowered told = told_of_lower (ending.NotLowered told) refl refl refl (λ set text. HasNoPlainForm text told) (λ set text h. h)
+
+  pub not_tagged : (span : Span) → r ≡ ending.NotTagged span → ForLower words (λ set. IfSome f.left_old (λ text. IsNotTagged set text span))
+  not_tagged span = told_of_lower (ending.NotTagged span) refl refl refl (λ set text. IsNotTagged set text span) (λ set text h. h)
+
+  -- what is told of the text by an ending of lines that read their source
+  told_of : (x : Ending) → is_of_text x ≡ true → (P Q : Set → List ℕ → Type 0) → ((set : Set) (budget : Budget) → Synthesises set budget r f → IfSome f.left_old (P set)) → ((set : Set) (job : Job) → Executes set job r f → IfSome f.left_old (P set)) → ((set : Set) → Lowers set r f → IfSome f.left_old (Q set)) → r ≡ x → ForText words (λ set. IfSome f.left_old (P set)) ⊎ ForLower words (λ set. IfSome f.left_old (Q set))
+  told_of x a P Q k l m e = text_of words r f x a (λ set. IfSome f.left_old (P set)) (λ set. IfSome f.left_old (Q set)) k l m the e
+
+  pub not_text : (fault : TextFault) → r ≡ ending.NotText fault → ForText words (λ set. IfSome f.left_old (IsTextFault fault)) ⊎ ForLower words (λ set. IfSome f.left_old (λ text. IsFaultOfLowering set text (sketch.NotText fault)))
   not_text fault e =
-      (told_of (ending.NotText fault) refl (λ set text. IsTextFault fault text)
+      told_of (ending.NotText fault) refl (λ set text. IsTextFault fault text) (λ set text. IsFaultOfLowering set text (sketch.NotText fault))
       (λ set budget s. told_as words r f set budget s (ending.NotText fault) (IsTextFault fault) (λ text h. h.1) e)
-      (λ set job s. by_exec.told_by set job r f (IsTextFault fault) (λ text w. by_exec.not_text_by set job r f fault e text w) s.runs) e).holds
+      (λ set job s. by_exec.told_by set job r f (IsTextFault fault) (λ text w. by_exec.not_text_by set job r f fault e text w) s.runs)
+      (λ set s. by_lower.told_as set r f (ending.NotText fault) (λ text. IsFaultOfLowering set text (sketch.NotText fault)) (λ text h. h.0) e s.lowers) e
 
-  pub not_typed : (fault : TypeFault) → r ≡ ending.NotTyped fault → ForText words (λ set. IfSome f.left_old (IsUntyped set))
+  pub not_typed : (fault : TypeFault) → r ≡ ending.NotTyped fault → ForText words (λ set. IfSome f.left_old (IsUntyped set)) ⊎ ForLower words (λ set. IfSome f.left_old (λ text. IsFaultOfLowering set text (sketch.NotTyped fault)))
   not_typed fault e =
-      told_of (ending.NotTyped fault) refl IsUntyped
+      told_of (ending.NotTyped fault) refl IsUntyped (λ set text. IsFaultOfLowering set text (sketch.NotTyped fault))
       (λ set budget s. told_as words r f set budget s (ending.NotTyped fault) (IsUntyped set) (λ text h. h.1) e)
-      (λ set job s. by_exec.told_by set job r f (IsUntyped set) (λ text w. by_exec.not_typed_by set job r f fault e text w) s.runs) e
+      (λ set job s. by_exec.told_by set job r f (IsUntyped set) (λ text w. by_exec.not_typed_by set job r f fault e text w) s.runs)
+      (λ set s. by_lower.told_as set r f (ending.NotTyped fault) (λ text. IsFaultOfLowering set text (sketch.NotTyped fault)) (λ text h. h.0) e s.lowers) e
+
+  -- a fault of the text is told within it
+  byte_told : (fault : TextFault) → IfSome f.left_old (IsTextFault fault) → IfSome f.left_old (λ text. byte_of fault ≤ length text)
+  byte_told fault = mapped f.left_old (IsTextFault fault) (λ text. byte_of fault ≤ length text) (λ text h. byte_within text fault h)
 
   pub text_place : (fault : TextFault) → r ≡ ending.NotText fault → IfSome f.left_old (λ text. byte_of fault ≤ length text)
-  text_place fault e = mapped f.left_old (IsTextFault fault) (λ text. byte_of fault ≤ length text) (λ text h. byte_within text fault h) (not_text fault e)
+  text_place fault e =
+      for_both words r f (told_of (ending.NotText fault) refl (λ set text. byte_of fault ≤ length text) (λ set text. byte_of fault ≤ length text)
+      (λ set budget s. byte_told fault (told_as words r f set budget s (ending.NotText fault) (IsTextFault fault) (λ text h. h.1) e))
+      (λ set job s. byte_told fault (by_exec.told_by set job r f (IsTextFault fault) (λ text w. by_exec.not_text_by set job r f fault e text w) s.runs))
+      (λ set s. by_lower.told_as set r f (ending.NotText fault) (λ text. byte_of fault ≤ length text) (λ text h. h.1) e s.lowers) e)
 
-  pub type_place : (fault : TypeFault) → r ≡ ending.NotTyped fault → IfSome f.left_old (λ text. HasSpan text fault.span)
-  type_place fault e = (text_of words r f (ending.NotTyped fault) refl (λ set. IfSome f.left_old (λ text. HasSpan text fault.span)) (λ set budget s. s.place fault e) (λ set job s. s.place fault e) the e).holds
+  pub type_place : (fault : TypeFault) → r ≡ ending.NotTyped fault → ForText words (λ set. IfSome f.left_old (λ text. HasSpan text fault.span)) ⊎ ForLower words (λ set. IfSome f.left_old (λ text. IsPlacedFault text (sketch.NotTyped fault)))
+  type_place fault e =
+      told_of (ending.NotTyped fault) refl (λ set text. HasSpan text fault.span) (λ set text. IsPlacedFault text (sketch.NotTyped fault))
+      (λ set budget s. s.place fault e)
+      (λ set job s. s.place fault e)
+      (λ set s. by_lower.told_as set r f (ending.NotTyped fault) (λ text. IsPlacedFault text (sketch.NotTyped fault)) (λ text h. h.1) e s.lowers) e
+
+  -- this does not come for a line `lower`
+  taken_alone : (P : Set → Type 0) → ForText words P ⊎ ForLower words (λ set. ⊥) → ForText words P
+  taken_alone P (inl h) = h
+  taken_alone P (inr h) = absurd h.holds
 
   pub too_large : (reason : SizeFault) → r ≡ ending.TooLarge reason → ForText words (λ set. IfSome f.left_old (λ text. IsTooLarge set text reason))
   too_large reason e =
-      told_of (ending.TooLarge reason) refl (λ set text. IsTooLarge set text reason)
+      taken_alone (λ set. IfSome f.left_old (λ text. IsTooLarge set text reason))
+      (text_of words r f (ending.TooLarge reason) refl (λ set. IfSome f.left_old (λ text. IsTooLarge set text reason)) (λ set. ⊥)
       (λ set budget s. told_as words r f set budget s (ending.TooLarge reason) (λ text. IsTooLarge set text reason) (λ text h. h) e)
-      (λ set job s. by_exec.told_by set job r f (λ text. IsTooLarge set text reason) (λ text w. by_exec.too_large_by set job r f reason e text w) s.runs) e
+      (λ set job s. by_exec.told_by set job r f (λ text. IsTooLarge set text reason) (λ text w. by_exec.too_large_by set job r f reason e text w) s.runs)
+      (λ set s. by_lower.lower_not set r f (ending.TooLarge reason) refl s.lowers e) the e)
 
   pub not_built : r ≡ ending.NotBuilt → IsUnbuiltLine words
   not_built = not_built_of words r f the
 
   pub too_long : r ≡ ending.TooLong → IfSome f.left_old (λ text. most_bytes < length text)
   too_long e =
-      (told_of ending.TooLong refl (λ set text. most_bytes < length text)
+      for_both words r f (told_of ending.TooLong refl (λ set text. most_bytes < length text) (λ set text. most_bytes < length text)
       (λ set budget s. told_as words r f set budget s ending.TooLong (λ text. most_bytes < length text) (λ text h. h) e)
-      (λ set job s. by_exec.told_by set job r f (λ text. most_bytes < length text) (λ text w. by_exec.too_long_by set job r f e text w) s.runs) e).holds
+      (λ set job s. by_exec.told_by set job r f (λ text. most_bytes < length text) (λ text w. by_exec.too_long_by set job r f e text w) s.runs)
+      (λ set s. by_lower.told_as set r f ending.TooLong (λ text. most_bytes < length text) (λ text h. h) e s.lowers) e)
 
   pub read_fault : r ≡ ending.ReadFault → Rose f.read_faults_old f.read_faults_new
-  read_fault e = (text_of words r f ending.ReadFault refl (λ set. Rose f.read_faults_old f.read_faults_new) (λ set budget s. s.read_fault e) (λ set job s. by_exec.read_fault_by set job r f s.runs e) the e).holds
+  read_fault e =
+      for_both words r f (text_of words r f ending.ReadFault refl (λ set. Rose f.read_faults_old f.read_faults_new) (λ set. Rose f.read_faults_old f.read_faults_new)
+      (λ set budget s. s.read_fault e)
+      (λ set job s. by_exec.read_fault_by set job r f s.runs e)
+      (λ set s. by_lower.read_fault_by set r f s.lowers e) the e)
 
   pub write_fault : r ≡ ending.WriteFault → Rose f.write_faults_old f.write_faults_new
   write_fault = write_fault_of words r f the
@@ -508,7 +662,7 @@ module _ {words : List (List ℕ)} {r : Ending} {f : Effect} (a : Answers words 
   pub few : TakesFew f.left_old f.left_new
   few = few_of words r f the
 
-  pub unread : ((set : Set) → TakesText words set → ⊥) → f.left_new ≡ f.left_old
+  pub unread : ((set : Set) → ReadsText words set → ⊥) → f.left_new ≡ f.left_old
   unread = unread_of words r f the
 
   pub ends_no_line : IsNoLine words → EndsNoLine r
@@ -533,12 +687,16 @@ module _ {words : List (List ℕ)} {r : Ending} {f : Effect} (a : Answers words 
 
   -- the same for a line that runs a function
   for_exec_text : (P : Set → Job → List ℕ → Type 0) → ((set : Set) (job : Job) (text : List ℕ) → by_exec.Came set job r f text → P set job text) → (set : Set) (job : Job) → IsJob words set job → IfSome f.left_old (P set job)
-  for_exec_text P k = for_exec words r f (λ set job. IfSome f.left_old (P set job)) (λ set job s. by_exec.told_by set job r f (P set job) (k set job) s.runs) (λ set job m. every f.left_old (P set job) (λ text. k set job text (by_exec.came_wanting m))) the
+  for_exec_text P k = for_exec words r f (λ set job. IfSome f.left_old (P set job)) (λ set job s. by_exec.told_by set job r f (P set job) (k set job) s.runs) (λ set job m. every f.left_old (P set job) (λ text. k set job text (came_wanting m))) the
 
   -- and for either
   for_either : (P : Set → List ℕ → Type 0) → ((set : Set) → IsSynth words set → IfSome f.left_old (P set)) → ((set : Set) (job : Job) → IsJob words set job → IfSome f.left_old (P set)) → (set : Set) → TakesText words set → IfSome f.left_old (P set)
   for_either P k l set (inl h) = k set h
   for_either P k l set (inr h) = l set h.0 h.1
+
+  -- and for a line `lower`
+  for_lowering : (P : Set → List ℕ → Type 0) → ((set : Set) (text : List ℕ) → by_lower.Came set r f text → P set text) → (set : Set) → IsLine words (line.Lower set) → IfSome f.left_old (P set)
+  for_lowering P k = for_lower words r f (λ set. IfSome f.left_old (P set)) (λ set s. by_lower.told_by set r f (P set) (k set) s.lowers) (λ set m. every f.left_old (P set) (λ text. k set text (came_wanting m))) the
 
   -- a budget that is spent is not 0
   allowed : (set : Set) (budget : Budget) → Synthesises set budget r f → (x : Ending) → r ≡ x → by.IsAllowed budget x
@@ -558,6 +716,9 @@ module _ {words : List (List ℕ)} {r : Ending} {f : Effect} (a : Answers words 
   allowed set budget s (ending.TooLarge reason) e = tt
   allowed set budget s (ending.NotRun reason) e = tt
   allowed set budget s (ending.NotFilled reason) e = tt
+  allowed set budget s ending.Lowered e = tt
+  allowed set budget s (ending.NotLowered reason) e = tt
+  allowed set budget s (ending.NotTagged span) e = tt
   allowed set budget s ending.ReadFault e = tt
   allowed set budget s ending.WriteFault e = tt
   allowed set budget s ending.TooLong e = tt
@@ -599,11 +760,31 @@ module _ {words : List (List ℕ)} {r : Ending} {f : Effect} (a : Answers words 
   pub ends_not_run : (set : Set) (job : Job) → IsJob words set job → IfSome f.left_old (λ text. (told : TraceFault) → IsStopped set job text told → EndsStopped told r f.read_faults_old f.read_faults_new)
   ends_not_run = for_exec_text (λ set job text. (told : TraceFault) → IsStopped set job text told → EndsStopped told r f.read_faults_old f.read_faults_new) (λ set job text w. by_exec.ends_not_run_by set job r f text w)
 
-  pub ends_long : (set : Set) → TakesText words set → IfSome f.left_old (λ text. most_bytes < length text → EndsLong r f.read_faults_old f.read_faults_new)
-  ends_long =
-      for_either (λ set text. most_bytes < length text → EndsLong r f.read_faults_old f.read_faults_new)
-      (for_text (λ set text. most_bytes < length text → EndsLong r f.read_faults_old f.read_faults_new) (λ set text. by.ends_long set text f.read_faults_old f.read_faults_new f.write_faults_old f.write_faults_new r))
-      (for_exec_text (λ set job text. most_bytes < length text → EndsLong r f.read_faults_old f.read_faults_new) (λ set job text w. by_exec.ends_long_by set job r f text w))
+  pub ends_lowered : (set : Set) → IsLine words (line.Lower set) → IfSome f.left_old (λ text. (out : List ℕ) → IsLoweredText set text out → EndsLowered r f.read_faults_old f.read_faults_new f.write_faults_old f.write_faults_new)
+  ends_lowered = for_lowering (λ set text. (out : List ℕ) → IsLoweredText set text out → EndsLowered r f.read_faults_old f.read_faults_new f.write_faults_old f.write_faults_new) (λ set text w. by_lower.ends_lowered_by set r f text w)
+
+  pub ends_not_lowered : (set : Set) → IsLine words (line.Lower set) → IfSome f.left_old (λ text. (told : AdtFault) → HasNoPlainForm text told → EndsNotLowered told r f.read_faults_old f.read_faults_new)
+  ends_not_lowered = for_lowering (λ set text. (told : AdtFault) → HasNoPlainForm text told → EndsNotLowered told r f.read_faults_old f.read_faults_new) (λ set text w. by_lower.ends_not_lowered_by set r f text w)
+
+  pub ends_not_tagged : (set : Set) → IsLine words (line.Lower set) → IfSome f.left_old (λ text. (span : Span) → IsNotTagged set text span → EndsNotTagged span r f.read_faults_old f.read_faults_new)
+  ends_not_tagged = for_lowering (λ set text. (span : Span) → IsNotTagged set text span → EndsNotTagged span r f.read_faults_old f.read_faults_new) (λ set text w. by_lower.ends_not_tagged_by set r f text w)
+
+  pub ends_refused : (set : Set) → IsLine words (line.Lower set) → IfSome f.left_old (λ text. length text ≤ most_bytes → (told : SketchFault) → IsCause (IsFaultOfLowering set text) told → EndsRefused told r f.read_faults_old f.read_faults_new)
+  ends_refused = for_lowering (λ set text. length text ≤ most_bytes → (told : SketchFault) → IsCause (IsFaultOfLowering set text) told → EndsRefused told r f.read_faults_old f.read_faults_new) (λ set text w. by_lower.ends_refused_by set r f text w)
+
+  abbrev Long : Set → List ℕ → Type 0
+  Long set text = most_bytes < length text → EndsLong r f.read_faults_old f.read_faults_new
+
+  -- of a line that takes the text as it is
+  ends_long_taken : (set : Set) → TakesText words set → IfSome f.left_old (Long set)
+  ends_long_taken =
+      for_either Long
+      (for_text Long (λ set text. by.ends_long set text f.read_faults_old f.read_faults_new f.write_faults_old f.write_faults_new r))
+      (for_exec_text (λ set job. Long set) (λ set job text w. by_exec.ends_long_by set job r f text w))
+
+  pub ends_long : (set : Set) → ReadsText words set → IfSome f.left_old (λ text. most_bytes < length text → EndsLong r f.read_faults_old f.read_faults_new)
+  ends_long set (inl h) = ends_long_taken set h
+  ends_long set (inr h) = for_lowering Long (λ s text w. by_lower.ends_long_by s r f text w) set h
 
 -- a call for a line `synth` without a certificate
 pub serves_search : (set : Set) (budget : Budget) (cert : Bool) (r : Ending) (f : Effect) → cert ≡ false → Synthesises set budget r f → Serves (line.Synth set budget cert) r f

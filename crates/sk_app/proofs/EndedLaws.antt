@@ -37,6 +37,9 @@ module _ (budget : Budget) where
   is_synth (ending.TooLarge reason) h = absurd h
   is_synth (ending.NotRun reason) h = absurd h
   is_synth (ending.NotFilled reason) h = absurd h
+  is_synth ending.Lowered h = absurd h
+  is_synth (ending.NotLowered reason) h = absurd h
+  is_synth (ending.NotTagged span) h = absurd h
   is_synth ending.ReadFault h = absurd h
   is_synth ending.WriteFault h = absurd h
   is_synth ending.TooLong h = absurd h
@@ -59,6 +62,9 @@ module _ (budget : Budget) where
   writes (ending.TooLarge reason) h = absurd h
   writes (ending.NotRun reason) h = absurd h
   writes (ending.NotFilled reason) h = absurd h
+  writes ending.Lowered h = absurd h
+  writes (ending.NotLowered reason) h = absurd h
+  writes (ending.NotTagged span) h = absurd h
   writes ending.ReadFault h = absurd h
   writes ending.WriteFault h = absurd h
   writes ending.TooLong h = absurd h
@@ -83,6 +89,9 @@ module _ (budget : Budget) where
     taken (ending.TooLarge reason) h = absurd h
     taken (ending.NotRun reason) h = absurd h
     taken (ending.NotFilled reason) h = absurd h
+    taken ending.Lowered h = absurd h
+    taken (ending.NotLowered reason) h = absurd h
+    taken (ending.NotTagged span) h = absurd h
     taken ending.ReadFault h = absurd h
     taken ending.WriteFault h = absurd h
     taken ending.TooLong h = absurd h
@@ -105,6 +114,9 @@ module _ (budget : Budget) where
     tells (ending.TooLarge reason) h t = absurd h
     tells (ending.NotRun reason) h t = absurd h
     tells (ending.NotFilled reason) h t = absurd h
+    tells ending.Lowered h t = absurd h
+    tells (ending.NotLowered reason) h t = absurd h
+    tells (ending.NotTagged span) h t = absurd h
     tells ending.ReadFault h t = absurd h
     tells ending.WriteFault h t = absurd h
     tells ending.TooLong h t = absurd h

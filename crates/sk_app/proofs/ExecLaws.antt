@@ -24,6 +24,7 @@ use Rattle.sk_app.specs.declared.ending.Ending.{Ending}
 use Rattle.sk_app.specs.declared.ending.Ending.TheVariants as ending
 use Rattle.sk_app.specs.Ends.{delivered, cut, no_room, Writes, WritesPart, writes_nothing, ending_of, stopped, EndsRun, EndsStopped, EndsFaulty, EndsUntyped, EndsLarge, EndsLong}
 use Rattle.sk_app.specs.Effects.{Effect, refusal, is_of_expansion, RunsText, refused, not_run, ran, RunsSource, failed, long, wanting, whole, IsRunResult, IsRunOutput}
+use Rattle.sk_app.proofs.SourceLaws.{differ, too_long, Came as CameTo, came_failed, came_long, came_wanting, came_whole, told_of}
 
 -- Kinds of endings
 
@@ -51,6 +52,9 @@ is_of_exec ending.NotALine = false
 is_of_exec ending.HelpShown = false
 is_of_exec ending.VersionShown = false
 is_of_exec ending.NotBuilt = false
+is_of_exec ending.Lowered = false
+is_of_exec (ending.NotLowered reason) = false
+is_of_exec (ending.NotTagged span) = false
 is_of_exec _ = true
 
 run_is : (o : Outcome) → is_run (ending_of o) ≡ true
@@ -117,21 +121,6 @@ refusal_is_no_run (fault.NotText a) = refl
 refusal_is_no_run (fault.NotTyped a) = refl
 refusal_is_no_run (fault.TooLarge a) = refl
 refusal_is_no_run fault.Memory = refl
-
--- two endings differ where a test does
-differ : {A : Type 0} (test : Ending → Bool) (x y : Ending) → test x ≡ false → test y ≡ true → x ≡ y → A
-differ test x y a b e = absurd (false≢true (sym a ∙ ap test e ∙ b))
-
-every : (left : Option (List ℕ)) (P : List ℕ → Type 0) → ((text : List ℕ) → P text) → IfSome left P
-every None P h = tt
-every (Some text) P h = h text
-
-mapped : (left : Option (List ℕ)) (P Q : List ℕ → Type 0) → ((text : List ℕ) → P text → Q text) → IfSome left P → IfSome left Q
-mapped None P Q h k = tt
-mapped (Some text) P Q h k = h text k
-
-too_long : {A : Type 0} (text : List ℕ) → length text ≤ most_bytes → most_bytes < length text → A
-too_long text short over = absurd (omega (arith, short, over))
 
 module _ (set : Set) (job : Job) (r : Ending) (f : Effect) where
   abbrev pub Runs : List ℕ → Type 0
@@ -224,20 +213,11 @@ module _ (set : Set) (job : Job) (r : Ending) (f : Effect) where
 
   -- Of the text that the source had left
 
-  pub data Came (text : List ℕ) : Type 0 where
-    came_failed : r ≡ ending.ReadFault → Rose f.read_faults_old f.read_faults_new → Came text
-    came_long : r ≡ ending.TooLong → most_bytes < length text → Came text
-    came_wanting : r ≡ ending.Memory → Came text
-    came_whole : length text ≤ most_bytes → Runs text → Came text
-
-  came : RunsSource set job r f → IfSome f.left_old Came
-  came (failed e rose same) = every f.left_old Came (λ text. came_failed e rose)
-  came (long e l same) = mapped f.left_old (λ text. most_bytes < length text) Came (λ text h. came_long e h) l
-  came (wanting e same) = every f.left_old Came (λ text. came_wanting e)
-  came (whole text w x) = mapped f.left_old (λ left. left ≡ text) Came (λ left h. subst Came (sym h) (came_whole w.short x)) w.whole
+  abbrev pub Came : List ℕ → Type 0
+  Came = CameTo Runs r f
 
   pub told_by : (P : List ℕ → Type 0) → ((text : List ℕ) → Came text → P text) → RunsSource set job r f → IfSome f.left_old P
-  told_by P k s = mapped f.left_old Came P k (came s)
+  told_by = told_of Runs r f
 
   -- Clauses that follow from the ending
 

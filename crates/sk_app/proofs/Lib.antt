@@ -3,7 +3,9 @@ mod EndingLemmas
 mod EndedLaws
 mod ToldLaws
 mod JobLaws
+mod SourceLaws
 mod ExecLaws
+mod LowerLaws
 mod EffectLaws
 pub mod SpentLaws
 pub mod CompleteLaws

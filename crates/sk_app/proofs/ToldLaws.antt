@@ -66,6 +66,9 @@ module _ (set : Set) (text : List ℕ) where
     ends_built budget (ending.ExecSkipped span) some h bounds e is = absurd h
     ends_built budget (ending.NotRun reason) some h bounds e is = absurd h
     ends_built budget (ending.NotFilled reason) some h bounds e is = absurd h
+    ends_built budget ending.Lowered some h bounds e is = absurd h
+    ends_built budget (ending.NotLowered reason) some h bounds e is = absurd h
+    ends_built budget (ending.NotTagged span) some h bounds e is = absurd h
 
     pub ends_faulty : (r : Ending) → IsToldOf set text r a b c d → length text ≤ most_bytes → (f : TextFault) → IsTextFault f text → EndsFaulty f r a b
     ends_faulty ending.Completed h short f is = taken_or_cause (fault.NotText f) h is
@@ -88,6 +91,9 @@ module _ (set : Set) (text : List ℕ) where
     ends_faulty (ending.ExecSkipped span) h short f is = absurd h
     ends_faulty (ending.NotRun reason) h short f is = absurd h
     ends_faulty (ending.NotFilled reason) h short f is = absurd h
+    ends_faulty ending.Lowered h short f is = absurd h
+    ends_faulty (ending.NotLowered reason) h short f is = absurd h
+    ends_faulty (ending.NotTagged span) h short f is = absurd h
 
     pub ends_untyped : (r : Ending) → IsToldOf set text r a b c d → length text ≤ most_bytes → IsUntyped set text → EndsUntyped r a b
     ends_untyped ending.Completed h short n = taken_or_cause (fault.NotTyped some_fault) h n
@@ -110,6 +116,9 @@ module _ (set : Set) (text : List ℕ) where
     ends_untyped (ending.ExecSkipped span) h short n = absurd h
     ends_untyped (ending.NotRun reason) h short n = absurd h
     ends_untyped (ending.NotFilled reason) h short n = absurd h
+    ends_untyped ending.Lowered h short n = absurd h
+    ends_untyped (ending.NotLowered reason) h short n = absurd h
+    ends_untyped (ending.NotTagged span) h short n = absurd h
 
     pub ends_large : (r : Ending) → IsToldOf set text r a b c d → (s : SizeFault) → IsTooLarge set text s → EndsLarge s r a b
     ends_large ending.Completed h s is = taken_or_cause (fault.TooLarge s) h is
@@ -132,6 +141,9 @@ module _ (set : Set) (text : List ℕ) where
     ends_large (ending.ExecSkipped span) h s is = absurd h
     ends_large (ending.NotRun reason) h s is = absurd h
     ends_large (ending.NotFilled reason) h s is = absurd h
+    ends_large ending.Lowered h s is = absurd h
+    ends_large (ending.NotLowered reason) h s is = absurd h
+    ends_large (ending.NotTagged span) h s is = absurd h
 
     pub ends_long : (r : Ending) → IsToldOf set text r a b c d → most_bytes < length text → EndsLong r a b
     ends_long ending.Completed h long = too_long (short_of h) long
@@ -154,3 +166,6 @@ module _ (set : Set) (text : List ℕ) where
     ends_long (ending.ExecSkipped span) h long = absurd h
     ends_long (ending.NotRun reason) h long = absurd h
     ends_long (ending.NotFilled reason) h long = absurd h
+    ends_long ending.Lowered h long = absurd h
+    ends_long (ending.NotLowered reason) h long = absurd h
+    ends_long (ending.NotTagged span) h long = absurd h

@@ -1,6 +1,7 @@
 -- What a call does for a line: how it ends, and what it does to its source and its sink.
 use Rattle.std.specs.Prelude.{ℕ, ◌≡◌, Bool, true, false, IsTrue, List, Option, IfSome}
 use Rattle.sk_base.specs.Stream.{Rose}
+use Rattle.sk_base.specs.declared.span.Span.{Span}
 use Rattle.sk_base.specs.declared.bounds.Budget.{Budget}
 use Rattle.sk_clause.specs.declared.lit.Lit.{Lit}
 use Rattle.sk_cnf.specs.declared.growing.Encoded.{Encoded}
@@ -17,6 +18,8 @@ use Rattle.sk_front.specs.declared.fault.SketchFault.{SketchFault}
 use Rattle.sk_front.specs.declared.fault.SketchFault.TheVariants as fault
 use Rattle.sk_front.specs.Front.{IsFaultOfExpansion}
 use Rattle.sk_front.specs.Texts.{HasSpan}
+use Rattle.sk_lower.specs.declared.algebraic.AdtFault.{AdtFault}
+use Rattle.sk_lowered.specs.PlainTexts.{HasNoPlainForm, IsNotTagged, IsLoweredText, IsFaultOfLowering, IsPlacedFault}
 use Rattle.sk_check.specs.declared.fault.TypeFault.{TypeFault}
 use Rattle.sk_sizes.specs.declared.fault.SizeFault.{SizeFault}
 use Rattle.sk_sizes.specs.declared.fault.SizeFault.TheVariants as size
@@ -25,13 +28,13 @@ use Rattle.sk_app.specs.declared.direct.Way.TheVariants as way
 use Rattle.sk_app.specs.declared.direct.Job.{Job}
 use Rattle.sk_app.specs.Jobs.{IsStopped, IsRunOfJob}
 use Rattle.sk_app.specs.declared.ending.Ending.{Ending}
-use Rattle.sk_app.specs.declared.ending.Ending.TheVariants.{Completed, NoCompletion, SpentRounds, SpentConflicts, HelpShown, VersionShown, NotALine, NotText, NotTyped, TooLarge, NotRun, NotFilled, ReadFault, WriteFault, TooLong, Memory, NotBuilt, ExecDone, ExecFailed, ExecSkipped}
+use Rattle.sk_app.specs.declared.ending.Ending.TheVariants.{Completed, NoCompletion, SpentRounds, SpentConflicts, HelpShown, VersionShown, NotALine, NotText, NotTyped, TooLarge, NotRun, NotFilled, ReadFault, WriteFault, TooLong, Memory, NotBuilt, ExecDone, ExecFailed, ExecSkipped, Lowered, NotLowered, NotTagged}
 use Rattle.sk_app.specs.Streams.{IsWhole, IsLong, TakesFew}
 use Rattle.sk_app.specs.ResultText.{IsCompletion, IsNone}
 use Rattle.sk_app.specs.Spent.{AreLearnt, IsSpentRounds, IsSpentConflicts}
 use Rattle.sk_app.specs.Results.{IsResult}
 use Rattle.sk_app.specs.Help.{help_text, version_text}
-use Rattle.sk_app.specs.Lines.{IsNoLine, ForSearch, ForJob}
+use Rattle.sk_app.specs.Lines.{IsNoLine, ForSearch, ForJob, ForLower}
 use Rattle.sk_app.specs.Ends.{IsDelivered, Writes, WritesPart, writes_nothing, IsToldOf, ending_of, stopped}
 
 -- what is left of the source before and after a call, what the sink holds, where they tell it, and the counts of
@@ -77,6 +80,9 @@ is_of_synth (ExecFailed span) = false
 is_of_synth (ExecSkipped span) = false
 is_of_synth (NotRun reason) = false
 is_of_synth (NotFilled reason) = false
+is_of_synth Lowered = false
+is_of_synth (NotLowered reason) = false
+is_of_synth (NotTagged span) = false
 is_of_synth _ = true
 
 -- a fault of types is told at a span of the text
@@ -128,12 +134,15 @@ pub data RunsText (set : Set) (job : Job) (text : List ℕ) (result : Ending) (f
   not_run : (reason : TraceFault) → IsStopped set job text reason → result ≡ stopped reason → new ≡ old → RunsText set job text result faults_old faults_new old new
   ran : (outcome : Outcome) (out : List ℕ) → IsRunOfJob set job text outcome out → IsDelivered result (ending_of outcome) out faults_old faults_new old new → RunsText set job text result faults_old faults_new old new
 
--- the source failed, or gives too many bytes, or memory was wanting, and nothing was written; or its text was taken
-pub data RunsSource (set : Set) (job : Job) (result : Ending) (f : Effect) : Type 0 where
-  failed : result ≡ ReadFault → Rose f.read_faults_old f.read_faults_new → f.held_new ≡ f.held_old → RunsSource set job result f
-  long : result ≡ TooLong → IsLong f.left_old → f.held_new ≡ f.held_old → RunsSource set job result f
-  wanting : result ≡ Memory → f.held_new ≡ f.held_old → RunsSource set job result f
-  whole : (text : List ℕ) → IsWhole text f.left_old → RunsText set job text result f.write_faults_old f.write_faults_new f.held_old f.held_new → RunsSource set job result f
+-- The source failed, or gives too many bytes, or memory was wanting, and nothing was written; or its text was taken, and this was done for it.
+pub data TakesSource (Does : List ℕ → Type 0) (result : Ending) (f : Effect) : Type 0 where
+  failed : result ≡ ReadFault → Rose f.read_faults_old f.read_faults_new → f.held_new ≡ f.held_old → TakesSource Does result f
+  long : result ≡ TooLong → IsLong f.left_old → f.held_new ≡ f.held_old → TakesSource Does result f
+  wanting : result ≡ Memory → f.held_new ≡ f.held_old → TakesSource Does result f
+  whole : (text : List ℕ) → IsWhole text f.left_old → Does text → TakesSource Does result f
+
+abbrev pub RunsSource : Set → Job → Ending → Effect → Type 0
+RunsSource set job result f = TakesSource (λ text. RunsText set job text result f.write_faults_old f.write_faults_new f.held_old f.held_new) result f
 
 -- a call for a line `exec` or `trace` with these options, which asks for this job
 pub record Executes (set : Set) (job : Job) (result : Ending) (f : Effect) : Type 0 where
@@ -143,22 +152,17 @@ pub record Executes (set : Set) (job : Job) (result : Ending) (f : Effect) : Typ
 
 -- what a line `lower` does for a text that is not too long
 pub data LowersText (set : Set) (text : List ℕ) (result : Ending) (faults_old faults_new : ℕ) (old new : Option (List ℕ)) : Type 0 where
-  refused : (told : SketchFault) → IsFaultOfLowering set text told → result ≡ refusal told → new ≡ old → LowersText set text result faults_old faults_new old new
+  no_program : (told : SketchFault) → IsFaultOfLowering set text told → IsPlacedFault text told → result ≡ refusal told → new ≡ old → LowersText set text result faults_old faults_new old new
   not_lowered : (reason : AdtFault) → HasNoPlainForm text reason → result ≡ NotLowered reason → new ≡ old → LowersText set text result faults_old faults_new old new
   not_tagged : (span : Span) → IsNotTagged set text span → result ≡ NotTagged span → new ≡ old → LowersText set text result faults_old faults_new old new
-  written : (out : List ℕ) → IsLoweredText set text out → IsDelivered result Lowered out faults_old faults_new old new → LowersText set text result faults_old faults_new old new
+  lowered : (out : List ℕ) → IsLoweredText set text out → IsDelivered result Lowered out faults_old faults_new old new → LowersText set text result faults_old faults_new old new
 
--- the source failed, or gives too many bytes, or memory was wanting, and nothing was written; or its text was taken
-pub data LowersSource (set : Set) (result : Ending) (f : Effect) : Type 0 where
-  failed : result ≡ ReadFault → Rose f.read_faults_old f.read_faults_new → f.held_new ≡ f.held_old → LowersSource set result f
-  long : result ≡ TooLong → IsLong f.left_old → f.held_new ≡ f.held_old → LowersSource set result f
-  wanting : result ≡ Memory → f.held_new ≡ f.held_old → LowersSource set result f
-  whole : (text : List ℕ) → IsWhole text f.left_old → LowersText set text result f.write_faults_old f.write_faults_new f.held_old f.held_new → LowersSource set result f
+abbrev pub LowersSource : Set → Ending → Effect → Type 0
+LowersSource set result f = TakesSource (λ text. LowersText set text result f.write_faults_old f.write_faults_new f.held_old f.held_new) result f
 
--- a call for a line `lower` with these options; a fault of types is told on a span of the plain form
+-- a call for a line `lower` with these options
 pub record Lowers (set : Set) (result : Ending) (f : Effect) : Type 0 where
   pub lowers : LowersSource set result f
-  pub place : (told : TypeFault) → result ≡ NotTyped told → IfSome f.left_old (λ text. HasPlainForm text (λ form. HasSpan form.tokens (length text) told.span))
   pub few : TakesFew f.left_old f.left_new
 
 -- what a call does for a line

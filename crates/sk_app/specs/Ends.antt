@@ -1,14 +1,18 @@
 -- What the sink holds after an ending, and which endings there are for a text.
 use Rattle.std.specs.Prelude.{ℕ, ◌≡◌, ◌<◌, ◌≤◌, length, Bool, true, false, List, Option}
 use Rattle.sk_base.specs.Stream.{Rose}
+use Rattle.sk_base.specs.declared.span.Span.{Span}
 use Rattle.sk_base.specs.declared.bounds.Budget.{Budget}
 use Rattle.sk_model.specs.declared.outcome.Outcome.{Outcome}
 use Rattle.sk_model.specs.declared.outcome.Outcome.TheVariants as outcome
 use Rattle.sk_app.specs.declared.ending.Ending.{Ending}
-use Rattle.sk_app.specs.declared.ending.Ending.TheVariants.{Completed, NoCompletion, SpentRounds, SpentConflicts, HelpShown, VersionShown, ExecDone, ExecFailed, ExecSkipped, NotALine, NotText, NotTyped, TooLarge, NotRun, NotFilled, ReadFault, WriteFault, TooLong, Memory, NotBuilt}
+use Rattle.sk_app.specs.declared.ending.Ending.TheVariants.{Completed, NoCompletion, SpentRounds, SpentConflicts, HelpShown, VersionShown, ExecDone, ExecFailed, ExecSkipped, Lowered, NotALine, NotText, NotTyped, TooLarge, NotRun, NotFilled, NotLowered, NotTagged, ReadFault, WriteFault, TooLong, Memory, NotBuilt}
 use Rattle.sk_front.specs.declared.fault.TextFault.{TextFault}
 use Rattle.sk_front.specs.Texts.{most_bytes, IsTextFault, IsSameFault}
-use Rattle.sk_front.specs.Front.{IsUntyped, IsTooLarge}
+use Rattle.sk_front.specs.declared.fault.SketchFault.{SketchFault}
+use Rattle.sk_front.specs.declared.fault.SketchFault.TheVariants as sketch
+use Rattle.sk_front.specs.Front.{IsUntyped, IsTooLarge, IsToldAs}
+use Rattle.sk_lower.specs.declared.algebraic.AdtFault.{AdtFault}
 use Rattle.sk_opts.specs.declared.line.Set.{Set}
 use Rattle.sk_traced.specs.declared.fault.TraceFault.{TraceFault}
 use Rattle.sk_traced.specs.declared.fault.TraceFault.TheVariants as fault
@@ -39,6 +43,7 @@ writes_nothing VersionShown = false
 writes_nothing ExecDone = false
 writes_nothing (ExecFailed span) = false
 writes_nothing (ExecSkipped span) = false
+writes_nothing Lowered = false
 writes_nothing WriteFault = false
 writes_nothing _ = true
 
@@ -165,7 +170,7 @@ EndsStopped reason Memory source_old source_new = Unit {0}
 EndsStopped reason ReadFault source_old source_new = Rose source_old source_new
 EndsStopped reason _ source_old source_new = ⊥
 
--- A text that has a plain form, of a program that is tagged, is written, unless the source or the sink failed or memory was wanting.
+-- The plain form of a text is written where it means a program that is tagged, unless the source or the sink failed or memory was wanting.
 abbrev pub EndsLowered : Ending → ℕ → ℕ → ℕ → ℕ → Type 0
 EndsLowered Lowered source_old source_new sink_old sink_new = Unit {0}
 EndsLowered Memory source_old source_new sink_old sink_new = Unit {0}
@@ -173,21 +178,21 @@ EndsLowered ReadFault source_old source_new sink_old sink_new = Rose source_old 
 EndsLowered WriteFault source_old source_new sink_old sink_new = Rose sink_old sink_new
 EndsLowered _ source_old source_new sink_old sink_new = ⊥
 
--- Where it has none for this reason, that is told, unless the source failed or memory was wanting.
+-- Where a text has none for this reason, that is told, unless the source failed or memory was wanting.
 abbrev pub EndsNotLowered : AdtFault → Ending → ℕ → ℕ → Type 0
 EndsNotLowered reason (NotLowered told) source_old source_new = told ≡ reason
 EndsNotLowered reason Memory source_old source_new = Unit {0}
 EndsNotLowered reason ReadFault source_old source_new = Rose source_old source_new
 EndsNotLowered reason _ source_old source_new = ⊥
 
--- Where its program is not tagged, the first span that breaks a rule is told, unless the source failed or memory was wanting.
+-- Where its program is not tagged, and breaks a rule first at this span, that is told, unless the source failed or memory was wanting.
 abbrev pub EndsNotTagged : Span → Ending → ℕ → ℕ → Type 0
 EndsNotTagged span (NotTagged told) source_old source_new = told ≡ span
 EndsNotTagged span Memory source_old source_new = Unit {0}
 EndsNotTagged span ReadFault source_old source_new = Rose source_old source_new
 EndsNotTagged span _ source_old source_new = ⊥
 
--- A text that is refused for this cause is told as that, unless the source failed or memory was wanting.
+-- A text without tokens, or whose plain form means no program, is refused for this cause, unless the source failed or memory was wanting.
 abbrev pub EndsRefused : SketchFault → Ending → ℕ → ℕ → Type 0
 EndsRefused told (NotText fault) source_old source_new = IsToldAs told (sketch.NotText fault)
 EndsRefused told (NotTyped fault) source_old source_new = IsToldAs told (sketch.NotTyped fault)

@@ -63,13 +63,13 @@ pub record ForTrace (words : List (List ℕ)) (Holds : Set → Option (List ℕ)
   pub is : IsLine words (line.Trace set name values holes)
   pub holds : Holds set holes name values
 
--- The words are a line `lower` with these options, and this holds of them.
+-- The words are a line `lower`, and this holds of its options.
 pub record ForLower (words : List (List ℕ)) (Holds : Set → Type 0) : Type 0 where
   pub set : Set
   pub is : IsLine words (line.Lower set)
   pub holds : Holds set
 
--- The words are a line that takes a text, with these options: `synth` without a certificate, `exec` or `trace`.
+-- The words are a line that takes a text as it is, with these options: `synth` without a certificate, `exec` or `trace`.
 abbrev pub TakesText : List (List ℕ) → Set → Type 0
 TakesText words set = IsSynth words set ⊎ ((job : Job) × IsJob words set job)
 
@@ -78,6 +78,10 @@ pub record ForText (words : List (List ℕ)) (Holds : Set → Type 0) : Type 0 w
   pub set : Set
   pub takes : TakesText words set
   pub holds : Holds set
+
+-- The words are a line that reads its source, with these options: one that takes a text as it is, or `lower`, which takes its plain form.
+abbrev pub ReadsText : List (List ℕ) → Set → Type 0
+ReadsText words set = TakesText words set ⊎ IsLine words (line.Lower set)
 
 -- whether the program does nothing for a line: it is `check` or `self`, or it asks for a certificate
 abbrev pub is_unbuilt : Line → Bool

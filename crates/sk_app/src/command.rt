@@ -1,6 +1,6 @@
 //! The call that does all that the program does.
 
-ghost use Rattle.std.specs.Prelude.{List, ℕ, Option, ◌≡◌, ◌≤◌, ◌<◌, length, map, string_bytes, IsTrue, IfSome};
+ghost use Rattle.std.specs.Prelude.{List, ℕ, Option, ◌≡◌, ◌≤◌, ◌<◌, ◌⊎◌, length, map, string_bytes, IsTrue, IfSome};
 ghost use Rattle.sk_base.specs.Stream.{Rose};
 ghost use Rattle.sk_base.specs.declared.bounds.Bounds.{Bounds};
 ghost use Rattle.sk_base.specs.declared.bounds.Budget.{Budget};
@@ -21,7 +21,10 @@ ghost use Rattle.sk_app.specs.Spent.{AreLearnt, IsSpentRounds, IsSpentConflicts}
 ghost use Rattle.sk_app.specs.Results.{IsResult};
 ghost use Rattle.sk_app.specs.Streams.{Appends, AppendsPrefix, TakesFew};
 ghost use Rattle.sk_front.specs.Texts.{most_bytes, byte_of, HasSpan, IsTextFault};
-ghost use Rattle.sk_front.specs.Front.{IsUntyped, IsTooLarge};
+ghost use Rattle.sk_front.specs.Front.{IsUntyped, IsTooLarge, IsCause};
+ghost use Rattle.sk_front.specs.declared.fault.SketchFault.{SketchFault};
+ghost use Rattle.sk_lower.specs.declared.algebraic.AdtFault.{AdtFault};
+ghost use Rattle.sk_lowered.specs.PlainTexts.{HasNoPlainForm, IsNotTagged, IsLoweredText, IsFaultOfLowering, IsPlacedFault};
 ghost use Rattle.sk_front.specs.declared.fault.TextFault.{TextFault};
 ghost use Rattle.sk_check.specs.declared.fault.TypeFault.{TypeFault};
 ghost use Rattle.sk_sizes.specs.declared.fault.SizeFault.{SizeFault};
@@ -34,13 +37,14 @@ ghost use Rattle.sk_traced.specs.Traced.{IsNotTraced};
 ghost use Rattle.sk_app.specs.declared.direct.Job.{Job};
 ghost use Rattle.sk_app.specs.Jobs.{IsStopped, IsRunOfJob};
 ghost use Rattle.sk_app.specs.Help.{help_text, version_text};
-ghost use Rattle.sk_app.specs.Lines.{IsNoLine, IsSearch, ForSearch, IsSynth, ForSynth, IsJob, ForJob, ForTrace, TakesText, ForText, IsUnbuiltLine};
-ghost use Rattle.sk_app.specs.Ends.{IsDelivered, Writes, WritesPart, writes_nothing, IsToldOf, EndsBuilt, EndsFaulty, EndsUntyped, EndsLarge, EndsLong, EndsRun, EndsStopped, EndsNoLine, EndsUnbuiltLine, EndsHelp, EndsVersion};
+ghost use Rattle.sk_app.specs.Lines.{IsNoLine, IsSearch, ForSearch, IsSynth, ForSynth, IsJob, ForJob, ForTrace, ForLower, TakesText, ForText, ReadsText, IsUnbuiltLine};
+ghost use Rattle.sk_app.specs.Ends.{IsDelivered, Writes, WritesPart, writes_nothing, IsToldOf, EndsBuilt, EndsFaulty, EndsUntyped, EndsLarge, EndsLong, EndsRun, EndsStopped, EndsLowered, EndsNotLowered, EndsNotTagged, EndsRefused, EndsNoLine, EndsUnbuiltLine, EndsHelp, EndsVersion};
 ghost use Rattle.sk_app.specs.Effects.{is_of_synth, is_of_expansion, TellsSpan, IsRunResult, IsOutput, Serves, Answers};
 
 use crate::direct::{Job, Way, run_source};
 use crate::ending::Ending;
 use crate::help::{help, version};
+use crate::lower::lower_source;
 use crate::output::deliver;
 use crate::prepare::{Found, Prepared, prepare};
 use sk_base::{Budget, Sink, Source};
@@ -180,8 +184,8 @@ fn answer<S: Source, K: Sink>(
 
 /// Runs a command: the words are those behind the program's own name. A line `synth` reads a sketch from the source,
 /// completes it, and writes the result to the sink; a line `exec` runs a function of it, and writes what comes of that; a line
-/// `trace` fills it with numbers, runs a function of the filling, and writes its steps too; `--help` and `--version` write
-/// their texts. A line `check` or `self`, or one that asks for a certificate, ends with `NotBuilt`.
+/// `trace` fills it with numbers, runs a function of the filling, and writes its steps too; a line `lower` writes the plain
+/// sketch of a text with algebraic types; `--help` and `--version` write their texts. A line `check` or `self`, or one that asks for a certificate, ends with `NotBuilt`.
 ///
 /// What is said of the text holds where the source tells what is left, and what is said of what the sink
 /// holds where the sink tells it. Want of memory may come at any step.
@@ -217,22 +221,23 @@ pub fn run<S: Source, K: Sink>(
     // The numbers of a line `trace` do not fill the sketch, for this reason.
     ensures not_filled { (reason : FillFault) → result ≡ Ending.NotFilled reason → ForTrace (map string_bytes words.now) (λ set holes name values. IfSome (S.left source.old) (λ text. IsNotTraced set holes name values text (TraceFault.NotFilled reason))) }
 
-    // A line `lower`: what the sink got is the text of the program that the plain form of the text means, which is tagged.
+    // For a line `lower` the sink got the text of the program that the plain form of the text means, which is tagged.
     ensures lowered { result ≡ Ending.Lowered → ForLower (map string_bytes words.now) (λ set. IfSome (S.left source.old) (λ text. Writes (IsLoweredText set text) (K.held sink.old) (K.held sink.new))) }
     // The text has no plain form, for this reason.
     ensures not_lowered { (reason : AdtFault) → result ≡ Ending.NotLowered reason → ForLower (map string_bytes words.now) (λ set. IfSome (S.left source.old) (λ text. HasNoPlainForm text reason)) }
     // The program of its plain form is not tagged: this is the first span that breaks a rule.
     ensures not_tagged { (span : Span) → result ≡ Ending.NotTagged span → ForLower (map string_bytes words.now) (λ set. IfSome (S.left source.old) (λ text. IsNotTagged set text span)) }
 
-    // The text has this fault: its first as bytes, or what its tokens read as; for a line `lower` what those of its plain form do.
-    ensures not_text { (fault : TextFault) → result ≡ Ending.NotText fault → IfSome (S.left source.old) (λ text. ForText (map string_bytes words.now) (λ set. IsTextFault fault text) ⊎ ForLower (map string_bytes words.now) (λ set. IsFaultOfLowering set text (SketchFault.NotText fault))) }
+    // The text has this fault: its first as bytes, or what its tokens read as; for a line `lower`, what those of its plain form
+    // read as.
+    ensures not_text { (fault : TextFault) → result ≡ Ending.NotText fault → ForText (map string_bytes words.now) (λ set. IfSome (S.left source.old) (IsTextFault fault)) ⊎ ForLower (map string_bytes words.now) (λ set. IfSome (S.left source.old) (λ text. IsFaultOfLowering set text (SketchFault.NotText fault))) }
     // It is told at a byte of the text, or at its end.
     ensures text_place { (fault : TextFault) → result ≡ Ending.NotText fault → IfSome (S.left source.old) (λ text. byte_of fault ≤ length text) }
-    // The tree of the text means no program with the options of the line.
+    // The tree of the text, or for a line `lower` that of its plain form, means no program with the options of the line.
     ensures not_typed { (fault : TypeFault) → result ≡ Ending.NotTyped fault → ForText (map string_bytes words.now) (λ set. IfSome (S.left source.old) (IsUntyped set)) ⊎ ForLower (map string_bytes words.now) (λ set. IfSome (S.left source.old) (λ text. IsFaultOfLowering set text (SketchFault.NotTyped fault))) }
-    // It is told at the span of an expression or a statement of the text, which lies within it, or at none, as 0 to 0.
-    ensures type_place { (fault : TypeFault) → result ≡ Ending.NotTyped fault → IfSome (S.left source.old) (λ text. HasSpan text fault.span ⊎ ForLower (map string_bytes words.now) (λ set. IsPlacedFault text (SketchFault.NotTyped fault))) }
-    // The expansion of its program passes this limit, and none before it.
+    // It is told at the span of an expression or a statement of that tree, which lies within the text, or at none, as 0 to 0.
+    ensures type_place { (fault : TypeFault) → result ≡ Ending.NotTyped fault → ForText (map string_bytes words.now) (λ set. IfSome (S.left source.old) (λ text. HasSpan text fault.span)) ⊎ ForLower (map string_bytes words.now) (λ set. IfSome (S.left source.old) (λ text. IsPlacedFault text (SketchFault.NotTyped fault))) }
+    // The expansion of its program passes this limit, and none before it. For a line `lower` this does not come.
     ensures too_large { (reason : SizeFault) → result ≡ Ending.TooLarge reason → ForText (map string_bytes words.now) (λ set. IfSome (S.left source.old) (λ text. IsTooLarge set text reason)) }
     // The line is one for which the program does nothing: `check`, `self`, or one that asks for a certificate.
     ensures not_built { result ≡ Ending.NotBuilt → IsUnbuiltLine (map string_bytes words.now) }
@@ -246,9 +251,9 @@ pub fn run<S: Source, K: Sink>(
     ensures prefix_version { IsLine (map string_bytes words.now) line.Version → result ≡ Ending.WriteFault → AppendsPrefix version_text (K.held sink.old) (K.held sink.new) }
     // After any other status from 10 on it holds what it held.
     ensures kept { IsTrue (writes_nothing result) → K.held sink.new ≡ K.held sink.old }
-    // At most one byte past the limit is read, and none but for a line that takes a text.
+    // At most one byte past the limit is read, and none but for a line that reads its source.
     ensures few { TakesFew (S.left source.old) (S.left source.new) }
-    ensures unread { ((set : Set) → TakesText (map string_bytes words.now) set → ⊥) → S.left source.new ≡ S.left source.old }
+    ensures unread { ((set : Set) → ReadsText (map string_bytes words.now) set → ⊥) → S.left source.new ≡ S.left source.old }
 
     // The other direction of the causes: which endings there are for words, and for a text.
     ensures ends_no_line { IsNoLine (map string_bytes words.now) → EndsNoLine result }
@@ -266,7 +271,7 @@ pub fn run<S: Source, K: Sink>(
     ensures ends_not_lowered { (set : Set) → IsLine (map string_bytes words.now) (line.Lower set) → IfSome (S.left source.old) (λ text. (reason : AdtFault) → HasNoPlainForm text reason → EndsNotLowered reason result (S.faults source.old) (S.faults source.new)) }
     ensures ends_not_tagged { (set : Set) → IsLine (map string_bytes words.now) (line.Lower set) → IfSome (S.left source.old) (λ text. (span : Span) → IsNotTagged set text span → EndsNotTagged span result (S.faults source.old) (S.faults source.new)) }
     ensures ends_refused { (set : Set) → IsLine (map string_bytes words.now) (line.Lower set) → IfSome (S.left source.old) (λ text. length text ≤ most_bytes → (told : SketchFault) → IsCause (IsFaultOfLowering set text) told → EndsRefused told result (S.faults source.old) (S.faults source.new)) }
-    ensures ends_long { (set : Set) → TakesText (map string_bytes words.now) set → IfSome (S.left source.old) (λ text. most_bytes < length text → EndsLong result (S.faults source.old) (S.faults source.new)) }
+    ensures ends_long { (set : Set) → ReadsText (map string_bytes words.now) set → IfSome (S.left source.old) (λ text. most_bytes < length text → EndsLong result (S.faults source.old) (S.faults source.new)) }
 {
     let ending = answer(alloc, words, source, sink);
     ending

@@ -14,6 +14,7 @@ fn usage() -> &'static [u8]
 sketch synth [OPTION].. < SKETCH               writes the completed sketch, or the line //@ none
 sketch exec [OPTION].. NAME VALUE.. < PROGRAM  writes what the function NAME gives for the values
 sketch trace [OPTION].. NAME VALUE.. < SKETCH  writes each step of that run, in a filling
+sketch lower [OPTION].. < TEXT                 writes the plain sketch of a text with algebraic types
 sketch --help                                  writes this help
 sketch --version                               writes the version
 
@@ -37,7 +38,7 @@ fn statuses() -> &'static [u8]
     b"
 It ends with one of these, and from 10 on says more on standard error.
 
-   0  completed, or the run is done
+   0  completed, or the run is done, or the plain sketch is written
    1  no completion meets the harnesses and references on every input
    2  a budget is spent, and no completion is known
    3  a budget is spent; the completion may not cost least
@@ -53,7 +54,9 @@ It ends with one of these, and from 10 on says more on standard error.
   17  out of memory
   18  the function cannot be run
   20  not built: a line with check, self or --cert
+  21  an algebraic type, a switch or a case stands wrong
   22  the numbers of --holes do not fill the sketch
+  23  a value of an algebraic type is used outside its case
 
 SKETCH_EXPLAIN=1 writes more lines for people to standard error behind the message, =0 none;
 else they are written where standard error is a terminal.

@@ -1,10 +1,8 @@
 //! The line `lower`: it writes the plain sketch of the text of a source.
 
-ghost use Rattle.std.specs.Prelude.{◌≡◌, ◌≤◌, length};
-ghost use Rattle.sk_check.specs.declared.fault.TypeFault.{TypeFault};
+ghost use Rattle.std.specs.Prelude.{◌≤◌, length};
 ghost use Rattle.sk_opts.specs.Ranges.{IsInRanges};
 ghost use Rattle.sk_front.specs.Texts.{most_bytes};
-ghost use Rattle.sk_lowered.specs.PlainTexts.{HasPlainForm, HasSpan};
 ghost use Rattle.sk_app.specs.Effects.{LowersText, Lowers};
 
 use crate::direct::refusal;
@@ -20,8 +18,7 @@ use std::alloc::Global;
 fn lower_text<K: Sink>(alloc: Global, set: &Set, text: &[u8], sink: &mut K) -> Ending
     requires short { length text.now ≤ most_bytes }
     requires set { IsInRanges set.now }
-    ensures lowers { LowersText set.now text.now result (K.faults sink.old) (K.faults sink.new) (K.held sink.old) (K.held sink.new) }
-    ensures place { (fault : TypeFault) → result ≡ Ending.NotTyped fault → HasPlainForm text.now (λ form. HasSpan form.tokens (length text.now) fault.span) }
+    ensures { LowersText set.now text.now result (K.faults sink.old) (K.faults sink.new) (K.held sink.old) (K.held sink.new) }
 {
     match lowered_text(alloc, set, text) {
         Err(fault) => refusal(fault),

@@ -117,3 +117,24 @@ returns-clause-ends_run g c = laws.ends_run c.answer-ending.ensures
 
 pub returns-clause-ends_not_run : goal.returns-clause-ends_not_run
 returns-clause-ends_not_run g c = laws.ends_not_run c.answer-ending.ensures
+
+pub returns-clause-lowered : goal.returns-clause-lowered
+returns-clause-lowered g c = laws.lowered c.answer-ending.ensures
+
+pub returns-clause-not_lowered : goal.returns-clause-not_lowered
+returns-clause-not_lowered g c = laws.not_lowered c.answer-ending.ensures
+
+pub returns-clause-not_tagged : goal.returns-clause-not_tagged
+returns-clause-not_tagged g c = laws.not_tagged c.answer-ending.ensures
+
+pub returns-clause-ends_lowered : goal.returns-clause-ends_lowered
+returns-clause-ends_lowered g c = laws.ends_lowered c.answer-ending.ensures
+
+pub returns-clause-ends_not_lowered : goal.returns-clause-ends_not_lowered
+returns-clause-ends_not_lowered g c = laws.ends_not_lowered c.answer-ending.ensures
+
+pub returns-clause-ends_not_tagged : goal.returns-clause-ends_not_tagged
+returns-clause-ends_not_tagged g c = laws.ends_not_tagged c.answer-ending.ensures
+
+pub returns-clause-ends_refused : goal.returns-clause-ends_refused
+returns-clause-ends_refused g c = laws.ends_refused c.answer-ending.ensures
