@@ -1,5 +1,5 @@
 -- What the clauses of `run` say, from what a call does for the words and the line that they spell.
-use Rattle.std.proofs.Common.{◌≡◌, ℕ, ◌≤◌, ◌<◌, ◌⊎◌, inl, inr, Bool, true, false, List, [], Option, Some, None, length, refl, sym, ap, subst, ◌∙◌, arith}
+use Rattle.std.proofs.Common.{◌≡◌, ℕ, ◌≤◌, ◌<◌, ◌⊎◌, inl, inr, Bool, true, false, List, [], Option, length, refl, sym, ap, subst, ◌∙◌, arith}
 use Rattle.std.specs.Prelude.{IsTrue, IfSome}
 use Rattle.std.proofs.lemmas.Bool.{false≢true}
 use Rattle.sk_base.specs.Stream.{Rose}
@@ -48,7 +48,7 @@ use Rattle.sk_app.specs.Spent.{AreLearnt, IsSpentRounds, IsSpentConflicts}
 use Rattle.sk_app.specs.Results.{IsResult}
 use Rattle.sk_app.specs.Help.{help_text, version_text}
 use Rattle.sk_app.specs.Lines.{IsNoLine, IsSearch, ForSearch, IsSynth, ForSynth, line_by, line_of, IsJob, ForJob, ForTrace, ForLower, TakesText, ForText, ReadsText, is_unbuilt, IsUnbuiltLine}
-use Rattle.sk_app.specs.Ends.{delivered, cut, no_room, Writes, WritesPart, writes_nothing, IsToldOf, stopped, EndsBuilt, EndsFaulty, EndsUntyped, EndsLarge, EndsLong, EndsRun, EndsStopped, EndsLowered, EndsNotLowered, EndsNotTagged, EndsRefused, EndsNoLine, EndsUnbuiltLine, EndsHelp, EndsVersion}
+use Rattle.sk_app.specs.Ends.{delivered, cut, no_room, Writes, WritesPart, writes_nothing, IsToldOf, EndsBuilt, EndsFaulty, EndsUntyped, EndsLarge, EndsLong, EndsRun, EndsStopped, EndsLowered, EndsNotLowered, EndsNotTagged, EndsRefused, EndsNoLine, EndsUnbuiltLine, EndsHelp, EndsVersion}
 use Rattle.sk_app.specs.Effects.{Effect, IsRefused, IsShown, is_of_synth, Synthesises, is_of_expansion, IsRunResult, IsRunOutput, Executes, Lowers, Serves, Answers, no_line, served, no_memory, IsOutput}
 use Rattle.sk_app.specs.Effects as output
 use Rattle.sk_app.proofs.StreamLemmas.{front-nil}

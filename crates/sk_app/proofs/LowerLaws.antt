@@ -4,10 +4,8 @@ use Rattle.std.specs.Prelude.{IsTrue, Err}
 use Rattle.std.proofs.lemmas.Bool.{false≢true}
 use Rattle.sk_base.specs.Stream.{Rose}
 use Rattle.sk_base.specs.declared.span.Span.{Span}
-use Rattle.sk_check.specs.declared.fault.TypeFault.{TypeFault}
 use Rattle.sk_opts.specs.declared.line.Set.{Set}
 use Rattle.sk_lower.specs.declared.algebraic.AdtFault.{AdtFault}
-use Rattle.sk_front.specs.declared.fault.TextFault.{TextFault}
 use Rattle.sk_front.specs.declared.fault.SketchFault.{SketchFault}
 use Rattle.sk_front.specs.declared.fault.SketchFault.TheVariants as fault
 use Rattle.sk_front.specs.Texts.{most_bytes, byte_of}

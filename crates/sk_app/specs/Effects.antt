@@ -134,7 +134,8 @@ pub data RunsText (set : Set) (job : Job) (text : List ℕ) (result : Ending) (f
   not_run : (reason : TraceFault) → IsStopped set job text reason → result ≡ stopped reason → new ≡ old → RunsText set job text result faults_old faults_new old new
   ran : (outcome : Outcome) (out : List ℕ) → IsRunOfJob set job text outcome out → IsDelivered result (ending_of outcome) out faults_old faults_new old new → RunsText set job text result faults_old faults_new old new
 
--- The source failed, or gives too many bytes, or memory was wanting, and nothing was written; or its text was taken, and this was done for it.
+-- The source failed, or gives too many bytes, or memory was wanting, and nothing was written; or its text was taken, and
+-- this was done for it.
 pub data TakesSource (Does : List ℕ → Type 0) (result : Ending) (f : Effect) : Type 0 where
   failed : result ≡ ReadFault → Rose f.read_faults_old f.read_faults_new → f.held_new ≡ f.held_old → TakesSource Does result f
   long : result ≡ TooLong → IsLong f.left_old → f.held_new ≡ f.held_old → TakesSource Does result f

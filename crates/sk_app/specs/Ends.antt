@@ -170,7 +170,8 @@ EndsStopped reason Memory source_old source_new = Unit {0}
 EndsStopped reason ReadFault source_old source_new = Rose source_old source_new
 EndsStopped reason _ source_old source_new = ⊥
 
--- The plain form of a text is written where it means a program that is tagged, unless the source or the sink failed or memory was wanting.
+-- Where the plain form of a text means a program that is tagged, its text is written, unless the source or the sink failed
+-- or memory was wanting.
 abbrev pub EndsLowered : Ending → ℕ → ℕ → ℕ → ℕ → Type 0
 EndsLowered Lowered source_old source_new sink_old sink_new = Unit {0}
 EndsLowered Memory source_old source_new sink_old sink_new = Unit {0}
@@ -185,14 +186,16 @@ EndsNotLowered reason Memory source_old source_new = Unit {0}
 EndsNotLowered reason ReadFault source_old source_new = Rose source_old source_new
 EndsNotLowered reason _ source_old source_new = ⊥
 
--- Where its program is not tagged, and breaks a rule first at this span, that is told, unless the source failed or memory was wanting.
+-- Where the program of its plain form breaks a rule of tags first at this span, that is told, unless the source failed or
+-- memory was wanting.
 abbrev pub EndsNotTagged : Span → Ending → ℕ → ℕ → Type 0
 EndsNotTagged span (NotTagged told) source_old source_new = told ≡ span
 EndsNotTagged span Memory source_old source_new = Unit {0}
 EndsNotTagged span ReadFault source_old source_new = Rose source_old source_new
 EndsNotTagged span _ source_old source_new = ⊥
 
--- A text without tokens, or whose plain form means no program, is refused for this cause, unless the source failed or memory was wanting.
+-- A text that has no tokens, or whose plain form means no program, is refused for this cause, unless the source failed or
+-- memory was wanting.
 abbrev pub EndsRefused : SketchFault → Ending → ℕ → ℕ → Type 0
 EndsRefused told (NotText fault) source_old source_new = IsToldAs told (sketch.NotText fault)
 EndsRefused told (NotTyped fault) source_old source_new = IsToldAs told (sketch.NotTyped fault)

@@ -185,7 +185,8 @@ fn answer<S: Source, K: Sink>(
 /// Runs a command: the words are those behind the program's own name. A line `synth` reads a sketch from the source,
 /// completes it, and writes the result to the sink; a line `exec` runs a function of it, and writes what comes of that; a line
 /// `trace` fills it with numbers, runs a function of the filling, and writes its steps too; a line `lower` writes the plain
-/// sketch of a text with algebraic types; `--help` and `--version` write their texts. A line `check` or `self`, or one that asks for a certificate, ends with `NotBuilt`.
+/// sketch of a text with algebraic types; `--help` and `--version` write their texts. A line `check` or `self`, or one that
+/// asks for a certificate, ends with `NotBuilt`.
 ///
 /// What is said of the text holds where the source tells what is left, and what is said of what the sink
 /// holds where the sink tells it. Want of memory may come at any step.

@@ -54,9 +54,9 @@ It ends with one of these, and from 10 on says more on standard error.
   17  out of memory
   18  the function cannot be run
   20  not built: a line with check, self or --cert
-  21  an algebraic type, a switch or a case stands wrong
+  21  algebraic types of the text have no plain form
   22  the numbers of --holes do not fill the sketch
-  23  a value of an algebraic type is used outside its case
+  23  a variable is used otherwise than as its variant
 
 SKETCH_EXPLAIN=1 writes more lines for people to standard error behind the message, =0 none;
 else they are written where standard error is a terminal.
