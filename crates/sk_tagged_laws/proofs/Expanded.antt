@@ -35,7 +35,7 @@ use Rattle.sk_expanded.proofs.Ordinary.{IsFrom, function_from, function_found, c
 use Rattle.sk_expanded.proofs.Plain.{item_fine, items_fine}
 use Rattle.sk_lower.specs.declared.algebraic.Algebraic.{Algebraic}
 use Rattle.sk_lower.specs.Words.{each}
-use Rattle.sk_tagged.specs.Tags.{Work, of_none, idle, all_of, params_of, part, work, fun_breaks, breaks}
+use Rattle.sk_tagged.specs.Tags.{Work, idle, all_of, params_of, work, fun_breaks, breaks}
 use Rattle.sk_tagged_laws.specs.Fillings.{ExpansionsStayTagged}
 use Rattle.sk_tagged_laws.proofs.Follow.{none_first, none_second, none_both, none_follows, quiet_tracks}
 use Rattle.sk_tagged_laws.proofs.Ahead.{made, funs, copy_is, body_fits, body_counts}

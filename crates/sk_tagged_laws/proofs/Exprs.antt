@@ -1,5 +1,5 @@
 -- A filled expression follows the one that it was, where the functions that it calls have the parameters that they had.
-use Rattle.std.proofs.Common.{◌≡◌, ℕ, zero, suc, ◌+◌, Bool, true, false, List, [], ◌∷◌, ◌++◌, map, Option, Some, None, refl, sym, ap, subst, ◌∙◌, arith}
+use Rattle.std.proofs.Common.{◌≡◌, ℕ, zero, suc, ◌+◌, true, false, List, [], ◌∷◌, map, Option, Some, None, refl, sym, ap, subst}
 use Rattle.std.specs.Prelude.{slice_get, if◌then◌else◌}
 use Rattle.sk_base.specs.declared.span.Span.{Span}
 use Rattle.sk_prog.specs.declared.ids.FunId.{FunId}
@@ -23,7 +23,7 @@ use Rattle.sk_model.proofs.Induction.{Each, ExprCases, expr_ind}
 use Rattle.sk_filled.specs.Filling.{Every}
 use Rattle.sk_filled.proofs.Rows.{every_append}
 use Rattle.sk_lower.specs.declared.algebraic.Algebraic.{Algebraic}
-use Rattle.sk_tagged.specs.Tags.{Part, of_none, of_one, of_two, of_parts, pattern_part, member_part, role_in, algebraic_of, test_of, params_of, variable_part, eform_part as tag_form, part}
+use Rattle.sk_tagged.specs.Tags.{Part, of_none, pattern_part, role_in, algebraic_of, params_of, eform_part as tag_form, part}
 use Rattle.sk_tagged.specs.Fields.{field_part}
 use Rattle.sk_tagged_laws.proofs.Follow.{Follows, AllFollow, AllQuiet, SetFollows, AllSetFollow, quiet_follows, none_follows, number_follows, variable_follows, one_follows, two_follow, binary_follows, parts_follow, quiet_parts, call_follows, member_follows, made_follows, pattern_first, pattern_later, pattern_wrapped}
 

@@ -1,6 +1,6 @@
 -- A filling of an expansion that is tagged is tagged.
 use Rattle.std.proofs.Common.{◌≡◌, ◌<◌, ℕ, zero, suc, ◌+◌, ◌-◌, Bool, true, false, List, [], ◌∷◌, ◌++◌, map, Option, Some, None, inl, inr, refl, sym, ap, subst, ◌∙◌, arith}
-use Rattle.std.specs.Prelude.{IsTrue, nat_lt, slice_get, slice_index_or, ◌||◌, ◌==◌, option_map, ◌⊎◌}
+use Rattle.std.specs.Prelude.{nat_lt, slice_get, slice_index_or, ◌||◌, ◌==◌, option_map, ◌⊎◌}
 use Rattle.std.proofs.lemmas.Bool.{ltb-true, eqb-false}
 use Rattle.std.proofs.lemmas.Option.{slice_get-map}
 use Rattle.sk_prog.specs.declared.stmt.PStmt.{PStmt}
@@ -11,7 +11,6 @@ use Rattle.sk_prog.specs.declared.prog.Fun.{Fun}
 use Rattle.sk_prog.specs.declared.prog.Prog.{Prog}
 use Rattle.sk_types.specs.Scope.{Signature, signature_of}
 use Rattle.sk_model.specs.declared.expanded.Expanded.{Expanded}
-use Rattle.sk_model.specs.declared.expanded.Choice.{Choice}
 use Rattle.sk_model.specs.Parts.{rank}
 use Rattle.sk_model.specs.Stands.{Payment, is_called, body_standing, part_if, standing, all_paid}
 use Rattle.sk_model.specs.Fill.{minimize_of, before_body, fill_stmts, stmts_count, fill_fun, fill_funs, fill}
@@ -23,10 +22,10 @@ use Rattle.sk_lower.specs.declared.algebraic.Algebraic.{Algebraic}
 use Rattle.sk_lower.specs.Words.{each}
 use Rattle.sk_tagged.specs.Tags.{Work, all_of, params_of, work, fun_breaks, breaks}
 use Rattle.sk_tagged_laws.specs.Fillings.{CallsAreAhead, FilledStayTagged}
-use Rattle.sk_tagged_laws.proofs.Follow.{none_first, none_second, none_both, EachTracks, all_track}
+use Rattle.sk_tagged_laws.proofs.Follow.{none_first, none_second, none_both, all_track}
 use Rattle.sk_tagged_laws.proofs.Rows.{Row, append_row}
 use Rattle.sk_tagged_laws.proofs.Exprs.{again, Stays}
-use Rattle.sk_tagged_laws.proofs.Stmts.{Here, body_count, body_tracks, paid_tracks}
+use Rattle.sk_tagged_laws.proofs.Stmts.{body_count, body_tracks, paid_tracks}
 
 -- Lists
 
@@ -111,6 +110,7 @@ module _ (types : List Algebraic) (x : Expanded) (values : List ℕ) (ahead : Ca
   abbrev inside : List ℕ → ℕ → ℕ → Fun → List ℕ
   inside called n i g = called ++ ((part_if (nat_lt n x.ordinary || is_called called n) (body_standing values g.body)).at i).called
 
+  -- They are the functions from number n on, and they stand as all do.
   record Stretch (fs : List Fun) (called : List ℕ) (n i : ℕ) : Type 0 where
     there : (j : ℕ) (g : Fun) → slice_get fs j ≡ Some g → slice_get x.prog.funs (n + j) ≡ Some g
     back : (j : ℕ) (g : Fun) → slice_get x.prog.funs (n + j) ≡ Some g → slice_get fs j ≡ Some g

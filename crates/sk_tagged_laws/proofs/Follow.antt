@@ -1,6 +1,6 @@
 -- A part follows another where it may do no more than the other, says what the other says, and breaks no rule where the other breaks none, also in the
 -- first branches of more tests.
-use Rattle.std.proofs.Common.{◌≡◌, ℕ, Bool, true, false, List, [], ◌∷◌, ◌++◌, map, Option, Some, None, refl, sym, ap, subst, ◌∙◌}
+use Rattle.std.proofs.Common.{◌≡◌, ℕ, Bool, true, false, List, [], ◌∷◌, ◌++◌, map, Option, Some, None, refl, sym, subst, ◌∙◌}
 use Rattle.std.specs.Prelude.{◌&&◌, ◌||◌, ◌==◌, if◌then◌else◌}
 use Rattle.std.specs.List.{list_all, list_any}
 use Rattle.sk_base.specs.declared.span.Span.{Span}
@@ -12,7 +12,7 @@ use Rattle.sk_tagged.specs.declared.role.Role.{Role}
 use Rattle.sk_tagged.specs.declared.role.Role.TheVariants as role
 use Rattle.sk_tagged.specs.declared.role.Test.{Test}
 use Rattle.sk_lower.specs.Words.{each}
-use Rattle.sk_tagged.specs.Tags.{Part, of_none, of_one, of_two, of_parts, pattern_part, test_for, test_of, unless, is_tested, member_part, passes_to, role_in, variant_numbered, made_variant, is_of, sets_only, new_fits, Work, of_expr, both, all_of, or_idle, idle, touching, condition_breaks, condition, tests_within, first_branch, tested}
+use Rattle.sk_tagged.specs.Tags.{Part, of_none, of_one, of_two, of_parts, pattern_part, test_for, test_of, unless, is_tested, member_part, passes_to, role_in, variant_numbered, made_variant, is_of, sets_only, new_fits, Work, of_expr, both, all_of, idle, touching, condition_breaks, condition, tests_within, first_branch, tested}
 
 -- Truth values and spans
 
@@ -46,9 +46,11 @@ none_both (x ∷ xs) ys e h = cc
 
 -- Tests
 
+-- What these tests test, the others test too.
 abbrev pub Within : List Test → List Test → Type 0
 Within ts us = (x i : ℕ) → is_tested (Some x) i ts ≡ true → is_tested (Some x) i us ≡ true
 
+-- Where the one names a number, the other names it too.
 abbrev pub Says : Option ℕ → Option ℕ → Type 0
 Says a b = (n : ℕ) → a ≡ Some n → b ≡ Some n
 
@@ -58,6 +60,7 @@ tested_says (Some x) b h i ts us w k = subst (λ o. is_tested o i us ≡ true) (
 
 -- Expressions
 
+-- b follows a
 pub record Follows (a b : Part) : Type 0 where
   pub slot : Says a.slot b.slot
   pub number : Says a.number b.number
@@ -74,6 +77,7 @@ AllFollow (a ∷ olds) (b ∷ news) = Follows a b × AllFollow olds news
 AllFollow [] (b ∷ news) = ⊥
 AllFollow (a ∷ olds) [] = ⊥
 
+-- fields that `new` sets, of the same number
 abbrev pub SetFollows : ℕ × Part → ℕ × Part → Type 0
 SetFollows f g = (f.0 ≡ g.0) × Follows f.1 g.1
 
@@ -326,6 +330,7 @@ pattern_wrapped olds b h = record { slot = λ x e. cc; number = λ x e. cc; tag 
 
 -- Statements
 
+-- b touches no more than a, and breaks no rule where a breaks none.
 pub record Tracks (a b : Work) : Type 0 where
   pub touches : (x : ℕ) → b.touches x ≡ true → a.touches x ≡ true
   pub breaks : (ts us : List Test) → Within ts us → a.breaks ts ≡ [] → b.breaks us ≡ []

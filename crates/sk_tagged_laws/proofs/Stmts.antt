@@ -1,6 +1,6 @@
 -- A filled statement touches no more than the one that it was, and breaks no rule where that one breaks none.
-use Rattle.std.proofs.Common.{◌≡◌, ℕ, zero, suc, ◌+◌, ◌-◌, Bool, true, false, List, [], ◌∷◌, ◌++◌, map, length, take, drop, Option, Some, None, refl, sym, ap, subst, ◌∙◌}
-use Rattle.std.specs.Prelude.{slice_get, insert, if◌then◌else◌}
+use Rattle.std.proofs.Common.{◌≡◌, ℕ, zero, suc, ◌+◌, ◌-◌, Bool, true, false, List, [], ◌∷◌, map, length, take, Option, Some, None, refl, sym, ap, subst, ◌∙◌}
+use Rattle.std.specs.Prelude.{if◌then◌else◌}
 use Rattle.std.proofs.lemmas.List.{length-map}
 use Rattle.sk_base.specs.declared.span.Span.{Span}
 use Rattle.sk_prog.specs.declared.ty.Ty.TheVariants as ty
@@ -18,14 +18,14 @@ use Rattle.sk_prog.specs.declared.prog.Prog.{Prog}
 use Rattle.sk_model.specs.Parts.{Part as Placed, counts, in_turn, value}
 use Rattle.sk_model.specs.Sites.{is_hole}
 use Rattle.sk_model.specs.Stands.{Payment, Standing, own, beside, in_row, first_of, by_value, value_standing, form_standing, stmt_standing, expr_standing}
-use Rattle.sk_model.specs.Fill.{arrange, digit, expr_part, value_part, some_copies, all_copies, form_part, stmt_step, stmt_part, fill_stmts, stmts_count, minimize_of}
+use Rattle.sk_model.specs.Fill.{arrange, expr_part, value_part, some_copies, all_copies, form_part, stmt_step, stmt_part, fill_stmts, stmts_count, minimize_of}
 use Rattle.sk_model.proofs.Layers.{stmt_layer}
 use Rattle.sk_model.proofs.Induction.{Each, StmtCases, stmt_ind}
 use Rattle.sk_filled.specs.Filling.{Every}
 use Rattle.sk_filled.proofs.Rows.{every_append}
 use Rattle.sk_lower.specs.declared.algebraic.Algebraic.{Algebraic}
-use Rattle.sk_tagged.specs.Tags.{Part, Work, of_none, idle, of_expr, both, all_of, touching, tested, form_work, work, any_part, part}
-use Rattle.sk_tagged_laws.proofs.Follow.{Follows, Tracks, EachTracks, idle_tracks, expr_tracks, both_track, touching_tracks, all_first, all_later, all_track, later_of, quiet_tracks, tested_tracks}
+use Rattle.sk_tagged.specs.Tags.{Part, Work, of_expr, both, all_of, form_work, work, any_part, part}
+use Rattle.sk_tagged_laws.proofs.Follow.{Follows, Tracks, EachTracks, idle_tracks, expr_tracks, both_track, touching_tracks, all_first, all_track, later_of, quiet_tracks, tested_tracks}
 use Rattle.sk_tagged_laws.proofs.Rows.{Row, later_row, arrange_row}
 use Rattle.sk_tagged_laws.proofs.Exprs.{again, Stays, Ready, number_quiet, expr_fits, expr_follows}
 

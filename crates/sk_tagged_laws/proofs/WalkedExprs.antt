@@ -1,5 +1,5 @@
 -- A walked expression follows the one that it was, where what each call becomes has the parameters that the function had.
-use Rattle.std.proofs.Common.{◌≡◌, ℕ, ◌+◌, Bool, true, ◌&&◌, List, [], ◌∷◌, ◌++◌, map, length, Option, Some, None, refl, sym, ap, subst, ◌∙◌}
+use Rattle.std.proofs.Common.{◌≡◌, ℕ, ◌+◌, Bool, true, ◌&&◌, List, [], ◌∷◌, ◌++◌, map, length, Option, refl, sym, subst}
 use Rattle.std.specs.Prelude.{slice_get}
 use Rattle.std.specs.List.{list_all}
 use Rattle.std.proofs.lemmas.Bool.{and_parts}
@@ -10,13 +10,12 @@ use Rattle.sk_prog.specs.declared.ty.Ty.{Ty}
 use Rattle.sk_prog.specs.declared.expr.PExpr.{PExpr}
 use Rattle.sk_prog.specs.declared.expr.PField.{PField}
 use Rattle.sk_prog.specs.declared.expr.PEForm.{PEForm}
-use Rattle.sk_prog.specs.declared.expr.PEForm.TheVariants as eform
 use Rattle.sk_prog.specs.declared.expr.PEForm.TheOpen as P
 use Rattle.sk_prog.specs.declared.expr.PEForm.TheViews as V
 use Rattle.sk_prog.specs.declared.expr.PEForm.TheFolds.{map-PEForm, fold-PEForm, fold-PField}
 use Rattle.sk_prog.specs.declared.prog.Fun.{Fun}
 use Rattle.sk_prog.specs.declared.prog.Prog.{Prog}
-use Rattle.sk_prog.specs.Fits.{is_name, has_struct, has_fun, has_const, has_field, any_ty_fits, eform_fits, layer_fits, pfield_fits, expr_fits}
+use Rattle.sk_prog.specs.Fits.{has_struct, has_fun, has_field, any_ty_fits, eform_fits, layer_fits, pfield_fits, expr_fits}
 use Rattle.sk_prog.specs.Names.{is_yes}
 use Rattle.sk_model.specs.Expand.{Walk, as_walk, in_order, CallWalk, fun_id, eform_walk, expr_step, field_step, walk_expr}
 use Rattle.sk_model.proofs.Layers.{expr_layer, layer_field}
@@ -24,7 +23,7 @@ use Rattle.sk_model.proofs.Induction.{Each, ExprCases, expr_ind}
 use Rattle.sk_expanded.specs.Copies.{Standing}
 use Rattle.sk_expanded.proofs.Walks.{standing_parts}
 use Rattle.sk_lower.specs.declared.algebraic.Algebraic.{Algebraic}
-use Rattle.sk_tagged.specs.Tags.{Part, of_none, of_one, of_two, of_parts, pattern_part, member_part, role_in, algebraic_of, test_of, params_of, variable_part, eform_part as tag_form, part}
+use Rattle.sk_tagged.specs.Tags.{Part, role_in, algebraic_of, params_of, eform_part as tag_form, part}
 use Rattle.sk_tagged.specs.Fields.{field_part}
 use Rattle.sk_tagged_laws.proofs.Follow.{Follows, AllFollow, SetFollows, AllSetFollow, none_follows, number_follows, variable_follows, one_follows, two_follow, binary_follows, parts_follow, call_follows, member_follows, made_follows, patterns_follow}
 

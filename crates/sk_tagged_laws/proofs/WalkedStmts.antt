@@ -1,6 +1,6 @@
 -- A walked statement touches no more than the one that it was, and breaks no rule where that one breaks none. The count of a repeat is not walked: it is a
 -- number or a hole.
-use Rattle.std.proofs.Common.{◌≡◌, ℕ, zero, suc, ◌+◌, Bool, true, false, ◌&&◌, List, [], ◌∷◌, ◌++◌, map, length, Option, Some, None, refl, sym, subst}
+use Rattle.std.proofs.Common.{◌≡◌, ℕ, zero, suc, ◌+◌, Bool, true, ◌&&◌, List, [], ◌∷◌, ◌++◌, map, length, Option, Some, None, sym, subst}
 use Rattle.std.specs.Prelude.{nat_lt}
 use Rattle.std.specs.List.{list_all}
 use Rattle.std.proofs.lemmas.Bool.{and_parts}
@@ -14,7 +14,6 @@ use Rattle.sk_prog.specs.declared.expr.PEForm.TheOpen as P
 use Rattle.sk_prog.specs.declared.expr.PEForm.TheViews as V
 use Rattle.sk_prog.specs.declared.stmt.PStmt.{PStmt}
 use Rattle.sk_prog.specs.declared.stmt.PForm.{PForm}
-use Rattle.sk_prog.specs.declared.stmt.PForm.TheVariants as pform
 use Rattle.sk_prog.specs.declared.stmt.PForm.TheOpen as S
 use Rattle.sk_prog.specs.declared.stmt.PForm.TheViews as W
 use Rattle.sk_prog.specs.declared.stmt.PForm.TheFolds.{map-PForm, fold-PForm}
@@ -29,7 +28,7 @@ use Rattle.sk_expanded.specs.Copies.{Standing}
 use Rattle.sk_expanded.proofs.Counts.{is_count, form_counts, stmt_counts}
 use Rattle.sk_expanded.proofs.Walks.{standing_parts}
 use Rattle.sk_lower.specs.declared.algebraic.Algebraic.{Algebraic}
-use Rattle.sk_tagged.specs.Tags.{Part, Work, of_none, idle, of_expr, both, all_of, touching, tested, form_work, work, any_part, part}
+use Rattle.sk_tagged.specs.Tags.{Part, Work, of_none, of_expr, all_of, form_work, work, any_part, part}
 use Rattle.sk_tagged_laws.proofs.Follow.{Follows, Tracks, none_follows, quiet_follows, idle_tracks, quiet_tracks, expr_tracks, both_track, touching_tracks, all_first, all_track, tested_tracks}
 use Rattle.sk_tagged_laws.proofs.Rows.{Row, later_row, append_row}
 use Rattle.sk_tagged_laws.proofs.WalkedExprs.{next, CallsStay, walks, seen, expr_walks}

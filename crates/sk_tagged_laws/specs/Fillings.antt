@@ -14,8 +14,8 @@ use Rattle.sk_filled.specs.Callees.{stmt_callees, is_ahead}
 use Rattle.sk_lower.specs.declared.algebraic.Algebraic.{Algebraic}
 use Rattle.sk_tagged.specs.Tags.{Tagged}
 
--- The expansion of a tagged program that keeps the rules of types is tagged. Of these rules two are needed: each call is of a function of the program, so
--- that what it becomes has the same `ref` parameters, and the count of a repeat, which is not walked, is a number or a hole.
+-- The expansion of a tagged program that keeps the rules of types and is well-formed is tagged. Two of these rules are needed: a call is of a function of the
+-- program, so that what is called in its place has the same `ref` parameters; and the count of a repeat, which is not walked, is a number or a hole.
 abbrev pub ExpansionsStayTagged : Type 0
 ExpansionsStayTagged =
     (bounds : Bounds) (types : List Algebraic) (prog : Prog)
@@ -26,12 +26,13 @@ ExpansionsStayTagged =
 abbrev pub CallsAreAhead : Expanded → Type 0
 CallsAreAhead x = (n : ℕ) (f : Fun) → slice_get x.prog.funs n ≡ Some f → IsTrue (list_all (stmt_callees (is_ahead x.ordinary n)) f.body)
 
--- Whatever a tagged expansion becomes under a choice is tagged. Of what makes it an expansion only the order of its functions is needed: by it each call that
--- stands is of a function that stands, so that the filled call, with the new number, passes the same variables to `ref` parameters.
+-- What a tagged expansion becomes under a choice is tagged, also where the choice is not in range. Of what makes it an expansion only the order of its
+-- functions is needed: by it each call that stands is of a function that stands, so that the filled call, with the new number, passes the same variables to
+-- `ref` parameters.
 abbrev pub FilledStayTagged : Type 0
 FilledStayTagged = (types : List Algebraic) (x : Expanded) (choice : Choice) → CallsAreAhead x → Tagged types x.prog → Tagged types (fill x choice)
 
--- Each filling of a tagged program that keeps the rules of types is tagged.
+-- Each filling of a tagged program that keeps the rules of types and is well-formed is tagged.
 abbrev pub FillingsStayTagged : Type 0
 FillingsStayTagged =
     (bounds : Bounds) (types : List Algebraic) (prog : Prog) (choice : Choice)
