@@ -26,10 +26,10 @@ LIST = "struct Node { int value; Node next; } "
 # turns of loops in each other, and how often a statement in the innermost is done
 TIMES = {1024: (1, 16, 64), 4096: (1, 64, 64), 16384: (4, 64, 64), 65536: (16, 64, 64), 262144: (64, 64, 64)}
 STATEMENTS = {
-    "`s = s + x`": ("s = s + x;", "", 262144),
-    "`s = s * ??(3) + x`": ("s = s * ??(3) + x;", "", 262144),
-    "`if (s > x) s = s - x`": ("if (s > x) s = s - x;", "s = x * x;", 262144),
-    "`a[x] = s` of 64 elements": ("a[x] = s; s = s + x;", "int[64] a;", 16384),
+    "`s = s + x`": ("s = s + x;", ""),
+    "`s = s * ??(3) + x`": ("s = s * ??(3) + x;", ""),
+    "`if (s > x) s = s - x`": ("if (s > x) s = s - x;", "s = x * x;"),
+    "`a[x] = s` of 64 elements": ("a[x] = s; s = s + x;", "int[64] a;"),
 }
 
 # functions of examples/ on constants, done 1,000 times or so
@@ -118,10 +118,9 @@ def main(cases, sketch, runs="5"):
         bench = Bench(os.path.abspath(cases), os.path.abspath(sketch), folder, int(runs))
         print("load", open("/proc/loadavg", encoding="utf-8").read().split()[0])
         print("| statement | done | ns each | MiB |\n|---|---|---|---|")
-        for title, (inner, before, most) in STATEMENTS.items():
+        for title, (inner, before) in STATEMENTS.items():
             for done, turns in TIMES.items():
-                if done <= most:
-                    bench.row(title, done, loops(turns, inner, before))
+                bench.row(title, done, loops(turns, inner, before))
         for done, turns in TIMES.items():
             bench.row("a walk over a list of 64", done, walk(turns))
         print("| function | `exec`, ms | over nodes, beside `exec` |\n|---|---|---|")

@@ -8,6 +8,7 @@ import pathlib
 import re
 import sys
 
+import lowering
 import sketch
 
 DATA = pathlib.Path(__file__).resolve().parents[2] / "crates/cases/data"
@@ -163,13 +164,23 @@ def work(prog, b):
     return choices * max(inputs, 1)
 
 
+def lowered(text, options):
+    plain, types = lowering.lower(sketch.tokens(text))
+    items = sketch.P(plain).program()
+    prog = sketch.Typer(items, sketch.bounds_of(items, options)).run()
+    span = lowering.first_break(prog, types)
+    return ("0", sketch.layout(prog)) if span is None else (f"tag {span[0]} {span[1]}", "")
+
+
 def computed(line, text):
     """Message or status, and output; nothing where the reference is not asked."""
     words = line.split()
-    if not words or words[0] not in ("synth", "exec") or any(w.split("=")[0] in ("--rounds", "--conflicts", "--cert") for w in words):
+    if not words or words[0] not in ("synth", "exec", "lower") or any(w.split("=")[0] in ("--rounds", "--conflicts", "--cert") for w in words):
         return None
     options, others = bounds(words[1:])
     try:
+        if words[0] == "lower":
+            return lowered(text, options)
         prog, b = sketch.load(text, **options)
         if words[0] == "exec":
             return executed(prog, b, others)
@@ -178,7 +189,7 @@ def computed(line, text):
         out = sketch.synth(text, **options)[0]
         return "1" if out == "//@ none\n" else "0", out
     except sketch.Refuse as fault:
-        return {11: f"text {fault.a[1]}", 12: f"type {fault.a[1]}"}.get(fault.a[0], "size"), ""
+        return {11: f"text {fault.a[1]}", 12: f"type {fault.a[1]}", 21: " ".join(["adt", *map(str, fault.a[1:])])}.get(fault.a[0], "size"), ""
 
 
 def agrees(found, answer):

@@ -25,7 +25,7 @@ impl Judge for Cases {
 
 // The status of the endings with this message.
 fn status_of(message: &[u8]) -> u8 {
-    const BEGINS: [(&[u8], u8); 11] = [
+    const BEGINS: [(&[u8], u8); 13] = [
         (b"usage", 10),
         (b"text ", 11),
         (b"type ", 12),
@@ -36,7 +36,9 @@ fn status_of(message: &[u8]) -> u8 {
         (b"no memory", 17),
         (b"exec ", 18),
         (b"not built", 20),
+        (b"adt ", 21),
         (b"fill ", 22),
+        (b"tag", 23),
     ];
     for (begin, status) in BEGINS {
         if message.starts_with(begin) {

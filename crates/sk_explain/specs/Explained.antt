@@ -10,6 +10,8 @@ use Rattle.sk_lexer.specs.declared.fault.LexFault.{LexFault}
 use Rattle.sk_lexer.specs.declared.fault.LexFault.TheVariants as lex
 use Rattle.sk_parser.specs.declared.fault.ParseFault.{ParseFault}
 use Rattle.sk_parser.specs.declared.fault.ParseFault.TheVariants as parse
+use Rattle.sk_lower.specs.declared.algebraic.AdtFault.{AdtFault}
+use Rattle.sk_lower.specs.declared.algebraic.AdtFault.TheVariants as adt
 use Rattle.sk_place.specs.declared.spots.Spot.{Spot}
 use Rattle.sk_place.specs.Spots.{IsSpotOf, place_text, excerpt_text}
 use Rattle.sk_notes.specs.Notes.{is_note}
@@ -33,6 +35,13 @@ parse_span (parse.BadAlternative at) = point at
 parse_span (parse.TooManyStrings at) = point at
 parse_span parse.Memory = None
 
+abbrev pub adt_span : AdtFault → Option Span
+adt_span (adt.NoForm at) = point at
+adt_span (adt.Twice at) = point at
+adt_span (adt.NoVariant at) = point at
+adt_span (adt.TooMany at) = point at
+adt_span adt.Memory = None
+
 -- what breaks a rule of types at 0 to 0 has no place
 abbrev pub some_span : Span → Option Span
 some_span span = if span.to == 0 then None else Some span
@@ -43,6 +52,8 @@ span_of (ending.NotText (text.Parse fault)) = parse_span fault
 span_of (ending.NotTyped fault) = some_span fault.span
 span_of (ending.ExecFailed span) = Some span
 span_of (ending.ExecSkipped span) = Some span
+span_of (ending.NotLowered reason) = adt_span reason
+span_of (ending.NotTagged span) = Some span
 span_of ending.Completed = None
 span_of ending.NoCompletion = None
 span_of (ending.SpentRounds pairs best) = None
@@ -50,6 +61,7 @@ span_of (ending.SpentConflicts pairs query formula log best) = None
 span_of ending.HelpShown = None
 span_of ending.VersionShown = None
 span_of ending.ExecDone = None
+span_of ending.Lowered = None
 span_of ending.NotALine = None
 span_of (ending.TooLarge reason) = None
 span_of (ending.NotRun reason) = None

@@ -1,16 +1,18 @@
 //! What there is to tell people of an ending.
 ghost use Rattle.std.specs.Prelude.{◌≡◌, ◌++◌, IfOk, OnOk};
-ghost use Rattle.sk_explain.specs.Explained.{point, lex_span, parse_span, some_span, span_of, IsShown, IsSpot, IsExplanation, head_text, shown_text, title_text, layout, IsExplained};
+ghost use Rattle.sk_explain.specs.Explained.{point, lex_span, parse_span, adt_span, some_span, span_of, IsShown, IsSpot, IsExplanation, head_text, shown_text, title_text, layout, IsExplained};
 
 use sk_app::{Ending, TextFault};
 use sk_base::{Name, Span};
 use sk_lexer::LexFault;
+use sk_lower::AdtFault;
 use sk_notes::{Note, Told, tell_not_built, tell_words};
 use sk_parser::ParseFault;
 use sk_place::{Spot, push_excerpt, push_place, spot_of};
 use sk_told::{
-    push_passed_over, push_warnings, tell_failed, tell_none, tell_not_filled, tell_not_run,
-    tell_size, tell_skipped, tell_spent, tell_text, tell_type,
+    push_not_written, push_passed_over, push_warnings, tell_failed, tell_none, tell_not_filled,
+    tell_not_lowered, tell_not_run, tell_not_tagged, tell_size, tell_skipped, tell_spent,
+    tell_text, tell_type,
 };
 use std::alloc::{AllocError, Global};
 
@@ -55,6 +57,18 @@ fn parse_span(fault: &ParseFault) -> Option<Span>
     }
 }
 
+fn adt_span(reason: AdtFault) -> Option<Span>
+    ensures { result ≡ adt_span reason }
+{
+    match reason {
+        AdtFault::NoForm { at } => point(at),
+        AdtFault::Twice { at } => point(at),
+        AdtFault::NoVariant { at } => point(at),
+        AdtFault::TooMany { at } => point(at),
+        AdtFault::Memory => None,
+    }
+}
+
 // A span, where it is not that of what has none.
 fn some_span(span: Span) -> Option<Span>
     ensures { result ≡ some_span span }
@@ -71,8 +85,11 @@ fn span_of(ending: &Ending) -> Option<Span>
         Ending::NotText(TextFault::Parse(fault)) => parse_span(fault),
         Ending::NotTyped(fault) => some_span(fault.span),
         Ending::ExecFailed { span } | Ending::ExecSkipped { span } => Some(*span),
+        Ending::NotLowered(reason) => adt_span(*reason),
+        Ending::NotTagged { span } => Some(*span),
         Ending::Completed | Ending::NoCompletion | Ending::HelpShown | Ending::VersionShown => None,
         Ending::SpentRounds { .. } | Ending::SpentConflicts { .. } | Ending::ExecDone => None,
+        Ending::Lowered => None,
         Ending::NotALine | Ending::TooLarge(_) | Ending::NotRun(_) | Ending::NotFilled(_) => None,
         Ending::NotBuilt
         | Ending::ReadFault
@@ -145,11 +162,13 @@ fn tell_refusal(
         Ending::ExecFailed { span } => tell_failed(alloc, told, words, text, *span),
         Ending::ExecSkipped { span: _ } => tell_skipped(told),
         Ending::NotALine => tell_words(alloc, told, words),
-        Ending::NotText(fault) => tell_text(alloc, told, text, fault),
+        Ending::NotText(fault) => tell_text(alloc, told, words, text, fault),
         Ending::NotTyped(fault) => tell_type(alloc, told, words, text, fault),
         Ending::TooLarge(reason) => tell_size(told, *reason),
         Ending::NotRun(reason) => tell_not_run(alloc, told, words, text, *reason),
         Ending::NotFilled(fault) => tell_not_filled(alloc, told, words, text, *fault),
+        Ending::NotLowered(reason) => tell_not_lowered(alloc, told, text, *reason),
+        Ending::NotTagged { span } => tell_not_tagged(alloc, told, text, *span),
         Ending::ReadFault => told.title(&[b"standard input failed"]),
         Ending::WriteFault => {
             told.title(&[b"standard output failed; it may hold a part of the result"])
@@ -158,6 +177,7 @@ fn tell_refusal(
         Ending::Memory => tell_memory(told),
         Ending::NotBuilt => tell_not_built(told, words),
         Ending::ExecDone => push_passed_over(alloc, told, text),
+        Ending::Lowered => push_not_written(alloc, told, text),
         Ending::Completed | Ending::NoCompletion | Ending::HelpShown => Ok(()),
         Ending::SpentRounds { .. } | Ending::SpentConflicts { .. } | Ending::VersionShown => Ok(()),
     }
@@ -168,10 +188,11 @@ fn is_search(ending: &Ending) -> bool {
     match ending {
         Ending::Completed | Ending::NoCompletion => true,
         Ending::SpentRounds { .. } | Ending::SpentConflicts { .. } => true,
-        Ending::HelpShown | Ending::VersionShown | Ending::ExecDone => false,
+        Ending::HelpShown | Ending::VersionShown | Ending::ExecDone | Ending::Lowered => false,
         Ending::ExecFailed { .. } | Ending::ExecSkipped { .. } | Ending::NotALine => false,
         Ending::NotText(_) | Ending::NotTyped(_) | Ending::TooLarge(_) => false,
-        Ending::NotRun(_) | Ending::NotFilled(_) | Ending::ReadFault => false,
+        Ending::NotRun(_) | Ending::NotFilled(_) | Ending::NotLowered(_) => false,
+        Ending::NotTagged { .. } | Ending::ReadFault => false,
         Ending::WriteFault | Ending::TooLong | Ending::Memory | Ending::NotBuilt => false,
     }
 }

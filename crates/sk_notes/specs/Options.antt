@@ -16,11 +16,12 @@ abbrev pub command_word : Command → List ℕ
 command_word command.Synth = codes "synth"
 command_word command.Exec = codes "exec"
 command_word command.Trace = codes "trace"
+command_word command.Lower = codes "lower"
 command_word command.Check = codes "check"
 command_word command.Itself = codes "self"
 
 abbrev pub commands : List Command
-commands = command.Synth ∷ command.Exec ∷ command.Trace ∷ command.Check ∷ command.Itself ∷ []
+commands = command.Synth ∷ command.Exec ∷ command.Trace ∷ command.Lower ∷ command.Check ∷ command.Itself ∷ []
 
 -- the one of these that a word is
 abbrev pub command_among : List Command → List ℕ → Option Command
@@ -106,6 +107,7 @@ abbrev pub command_has : Command → Choice → Bool
 command_has command.Synth c = not (is_holes c)
 command_has command.Exec c = is_bound c
 command_has command.Trace c = is_holes c || is_bound c
+command_has command.Lower c = is_bound c
 command_has command.Check c = is_bound c
 command_has command.Itself c = false
 

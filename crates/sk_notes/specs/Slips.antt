@@ -79,6 +79,7 @@ abbrev pub other_slip : Command → Bool → List ℕ → Option Wrong
 other_slip command.Exec others word = None
 other_slip command.Trace others word = None
 other_slip command.Synth others word = Some (of_word (slip.Extra command.Synth) word)
+other_slip command.Lower others word = Some (of_word (slip.Extra command.Lower) word)
 other_slip command.Check others word = Some (of_word (slip.Extra command.Check) word)
 other_slip command.Itself others word = if others then Some (of_word (slip.Extra command.Itself) word) else number_slip word
 
@@ -135,6 +136,7 @@ wants_word command.Exec = true
 wants_word command.Trace = true
 wants_word command.Itself = true
 wants_word command.Synth = false
+wants_word command.Lower = false
 wants_word command.Check = false
 
 abbrev pub end_at : Walk → Option Choice → Wrong

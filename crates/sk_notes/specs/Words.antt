@@ -22,6 +22,7 @@ usage =
     one_line (codes "usage: sketch synth [OPTION].. < SKETCH")
     ++ one_line (codes "       sketch exec [OPTION].. NAME VALUE.. < PROGRAM")
     ++ one_line (codes "       sketch trace [OPTION].. NAME VALUE.. < SKETCH")
+    ++ one_line (codes "       sketch lower [OPTION].. < SKETCH")
     ++ one_line (codes "       sketch --help")
 
 -- a question for a name that is nearly a word
@@ -31,7 +32,7 @@ question (Some name) = said (codes "; is " ∷ name ∷ codes " meant?" ∷ [])
 
 -- the commands and the lines of one word
 abbrev pub command_names : List (List ℕ)
-command_names = codes "synth" ∷ codes "exec" ∷ codes "trace" ∷ codes "check" ∷ codes "self" ∷ codes "--help" ∷ codes "--version" ∷ []
+command_names = codes "synth" ∷ codes "exec" ∷ codes "trace" ∷ codes "lower" ∷ codes "check" ∷ codes "self" ∷ codes "--help" ∷ codes "--version" ∷ []
 
 -- the names of the options of a command
 abbrev pub names_of : Command → List (List ℕ)
@@ -47,6 +48,7 @@ abbrev pub takes_values : Command → Bool
 takes_values command.Exec = true
 takes_values command.Trace = true
 takes_values command.Synth = false
+takes_values command.Lower = false
 takes_values command.Check = false
 takes_values command.Itself = false
 
@@ -99,6 +101,7 @@ extra_title command.Itself word = said (codes "self takes one number, and not '"
 extra_title command.Synth word = extra_words command.Synth word
 extra_title command.Exec word = extra_words command.Exec word
 extra_title command.Trace word = extra_words command.Trace word
+extra_title command.Lower word = extra_words command.Lower word
 extra_title command.Check word = extra_words command.Check word
 
 abbrev pub wants_number : Command → List ℕ
@@ -108,6 +111,7 @@ abbrev pub missing_title : Command → List ℕ
 missing_title command.Exec = one (codes "exec wants the name of a function")
 missing_title command.Trace = one (codes "trace wants the name of a function")
 missing_title command.Synth = wants_number command.Synth
+missing_title command.Lower = wants_number command.Lower
 missing_title command.Check = wants_number command.Check
 missing_title command.Itself = wants_number command.Itself
 
@@ -149,12 +153,14 @@ extra_notes command.Itself word = []
 extra_notes command.Synth word = input_notes command.Synth word
 extra_notes command.Exec word = input_notes command.Exec word
 extra_notes command.Trace word = input_notes command.Trace word
+extra_notes command.Lower word = input_notes command.Lower word
 extra_notes command.Check word = input_notes command.Check word
 
 abbrev pub missing_notes : Command → List ℕ
 missing_notes command.Exec = one_line (codes "as in: sketch exec NAME VALUE.. < PROGRAM")
 missing_notes command.Trace = one_line (codes "as in: sketch trace NAME VALUE.. < SKETCH")
 missing_notes command.Synth = []
+missing_notes command.Lower = []
 missing_notes command.Check = []
 missing_notes command.Itself = []
 
@@ -201,6 +207,7 @@ undone_title (Some command.Itself) word = not_done word
 undone_title (Some command.Synth) word = no_certificates
 undone_title (Some command.Exec) word = no_certificates
 undone_title (Some command.Trace) word = no_certificates
+undone_title (Some command.Lower) word = no_certificates
 
 abbrev pub not_built_title : List (List ℕ) → List ℕ
 not_built_title words = undone_title (command_of (first_word words)) (first_word words)

@@ -10,6 +10,7 @@ pub enum Command {
     Synth,
     Exec,
     Trace,
+    Lower,
     Check,
     Itself,
 }
@@ -30,6 +31,7 @@ impl Command {
             Command::Synth => b"synth",
             Command::Exec => b"exec",
             Command::Trace => b"trace",
+            Command::Lower => b"lower",
             Command::Check => b"check",
             Command::Itself => b"self",
         }
@@ -42,17 +44,18 @@ impl Command {
         match self {
             Command::Synth => !choice.is_holes(),
             Command::Trace => choice.is_holes() || choice.is_bound(),
-            Command::Exec | Command::Check => choice.is_bound(),
+            Command::Exec | Command::Lower | Command::Check => choice.is_bound(),
             Command::Itself => false,
         }
     }
 }
 
 /// All commands.
-const COMMANDS: [Command; 5] = [
+const COMMANDS: [Command; 6] = [
     Command::Synth,
     Command::Exec,
     Command::Trace,
+    Command::Lower,
     Command::Check,
     Command::Itself,
 ];
@@ -164,7 +167,7 @@ impl Choice {
         }
     }
 
-    /// Whether it sets a bound. These `exec`, `trace` and `check` have too.
+    /// Whether it sets a bound. These all commands but `self` have too.
     pub fn is_bound(self) -> bool
         ensures { result ≡ is_bound self }
     {

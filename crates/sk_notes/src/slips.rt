@@ -171,7 +171,7 @@ impl Walk {
     {
         match self.command {
             Command::Exec | Command::Trace => None,
-            Command::Synth | Command::Check => Some(Found {
+            Command::Synth | Command::Lower | Command::Check => Some(Found {
                 slip: Slip::Extra(self.command),
                 word,
             }),
@@ -271,7 +271,7 @@ impl Walk {
     {
         match self.command {
             Command::Exec | Command::Trace | Command::Itself => !self.others,
-            Command::Synth | Command::Check => false,
+            Command::Synth | Command::Lower | Command::Check => false,
         }
     }
 

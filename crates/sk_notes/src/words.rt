@@ -22,6 +22,7 @@ fn push_usage(told: &mut Told) -> Result<(), AllocError>
     told.note(&[b"usage: sketch synth [OPTION].. < SKETCH"])?;
     told.note(&[b"       sketch exec [OPTION].. NAME VALUE.. < PROGRAM"])?;
     told.note(&[b"       sketch trace [OPTION].. NAME VALUE.. < SKETCH"])?;
+    told.note(&[b"       sketch lower [OPTION].. < SKETCH"])?;
     told.note(&[b"       sketch --help"])?;
     Ok(())
 }
@@ -51,6 +52,7 @@ fn near_command(alloc: Global, word: &[u8]) -> Result<Option<&'static [u8]>, All
             b"synth",
             b"exec",
             b"trace",
+            b"lower",
             b"check",
             b"self",
             b"--help",
@@ -113,7 +115,7 @@ fn takes_values(command: Command) -> bool
 {
     match command {
         Command::Exec | Command::Trace => true,
-        Command::Synth | Command::Check | Command::Itself => false,
+        Command::Synth | Command::Lower | Command::Check | Command::Itself => false,
     }
 }
 
@@ -346,7 +348,7 @@ fn tell_extra(told: &mut Told, command: Command, word: &[u8]) -> Result<(), Allo
             told.title(&[b"self takes one number, and not '", word, b"' too"])?;
             Ok(())
         }
-        Command::Synth | Command::Exec | Command::Trace | Command::Check => {
+        Command::Synth | Command::Exec | Command::Trace | Command::Lower | Command::Check => {
             push_extra(told, command, word)?;
             push_input(told, command, word)?;
             Ok(())
@@ -379,7 +381,7 @@ fn tell_missing(told: &mut Told, command: Command) -> Result<(), AllocError>
             told.note(&[b"as in: sketch trace NAME VALUE.. < SKETCH"])?;
             Ok(())
         }
-        Command::Synth | Command::Check | Command::Itself => {
+        Command::Synth | Command::Lower | Command::Check | Command::Itself => {
             tell_wants_number(told, command)?;
             Ok(())
         }
@@ -499,7 +501,7 @@ pub fn tell_not_built(told: &mut Told, words: &[String]) -> Result<(), AllocErro
             told.title(&[b"'", first, b"' is a command that this program does not do"])?;
             Ok(())
         }
-        Some(Command::Synth | Command::Exec | Command::Trace) | None => {
+        Some(Command::Synth | Command::Exec | Command::Trace | Command::Lower) | None => {
             told.title(&[b"this program writes no certificates: leave --cert out"])?;
             Ok(())
         }

@@ -36,13 +36,13 @@ absorbs_put vs lv depth l marks out h = absorbs_nothing vs lv depth (l ∷ []) m
 pub absorbs_low : (vs : List (Option Bool)) (lv : List ℕ) (depth : ℕ) (l : Lit) (marks : List Bool) (out : List Lit) → level_at lv l ≡ 0 → Absorbs vs lv depth (l ∷ []) marks out marks out
 absorbs_low vs lv depth l marks out h = absorbs_nothing vs lv depth (l ∷ []) marks out (covered_one vs lv l marks out (inr (inr h)))
 
-set_kept : (marks : List Bool) (v w : ℕ) → v < length marks → get_or marks w false ≡ true → get_or (set marks v true) w false ≡ true
+pub set_kept : (marks : List Bool) (v w : ℕ) → v < length marks → get_or marks w false ≡ true → get_or (set marks v true) w false ≡ true
 set_kept marks v w l h = elim (cases_eq w v) [
   | inl same ↦ ap (λ i. get_or (set marks v true) i false) same ∙ get_or-set_same marks v true false l
   | inr other ↦ get_or-set_other marks v w true false other ∙ h
 ]
 
-set_cases : (marks : List Bool) (v w : ℕ) → v < length marks → get_or (set marks v true) w false ≡ true → (w ≡ v) ⊎ (get_or marks w false ≡ true)
+pub set_cases : (marks : List Bool) (v w : ℕ) → v < length marks → get_or (set marks v true) w false ≡ true → (w ≡ v) ⊎ (get_or marks w false ≡ true)
 set_cases marks v w l h = elim (cases_eq w v) [
   | inl same ↦ inl same
   | inr other ↦ inr (sym (get_or-set_other marks v w true false other) ∙ h)

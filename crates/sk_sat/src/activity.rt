@@ -198,6 +198,30 @@ impl Activity {
         None
     }
 
+    // Takes variables that have values from the front of the heap.
+    fn skip(&mut self, values: &[Option<bool>]) {
+        for _ in 0..self.heap.len() {
+            if is_free(values, self.at(0) as usize) || self.take().is_none() {
+                return;
+            }
+        }
+    }
+
+    /// How many levels, from the first on, begin with a decision that is heavier than each variable of the heap that has
+    /// no value: a search that begins anew would come to them again.
+    pub fn levels_kept(&mut self, values: &[Option<bool>], lits: &[Lit], lims: &[usize]) -> usize {
+        self.skip(values);
+        let least = self.weight(self.at(0) as usize);
+        let mut level: usize = 0;
+        for begin in lims {
+            if *begin >= lits.len() || self.weight(lits[*begin].var) <= least {
+                return level;
+            }
+            level = level.saturating_add(1);
+        }
+        level
+    }
+
     /// The literals from a place on lose their values: their signs are kept for later decisions, and their variables
     /// are in the heap again.
     pub fn release(&mut self, lits: &[Lit], begin: usize) {

@@ -16,6 +16,11 @@ pub fn code_of(l: Lit) -> u32 {
     if l.neg { twice + 1 } else { twice }
 }
 
+/// A number of things, where it is small enough, or `NONE`.
+pub fn place_of(n: usize) -> u32 {
+    if n < NONE as usize { n as u32 } else { NONE }
+}
+
 /// The number of the negation.
 pub fn opposite(code: u32) -> u32 {
     code ^ 1

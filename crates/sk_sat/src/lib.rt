@@ -6,6 +6,7 @@ mod activity;
 mod analysis;
 mod codes;
 mod known;
+mod lists;
 mod propagate;
 mod restarts;
 mod round;

@@ -9,19 +9,56 @@ use crate::trail::Trail;
 /// So many restarts at most, so that each search ends.
 const TOTAL: u64 = 1 << 32;
 
-/// So many conflicts stand before the first.
+/// The unit of the steady times: so many conflicts stand before the first restart.
 const UNIT: u64 = 100;
 
-/// The conflicts between restarts follow Luby's sequence, 1 1 2 1 1 2 4 and so on, times a unit.
+/// In the other times so many conflicts stand between restarts at least.
+const LEAST: u64 = 2;
+
+/// The means of glue are kept in parts of a level.
+const PARTS: u64 = 1 << 20;
+
+/// So many conflicts count for the mean of the last ones.
+const LAST: u64 = 32;
+
+/// So many conflicts count for the mean of all.
+const MANY: u64 = 8192;
+
+/// So many conflicts stand before the first steady time.
+const FIRST_TURN: u64 = 1000;
+
+/// When the search begins anew. The glue of a learnt clause is the number of levels that its literals had. At times a
+/// restart comes when the glue of the last clauses is a tenth more than that of all; in between are steady times, where
+/// the conflicts between restarts follow Luby's sequence, 1 1 2 1 1 2 4 and so on, times a unit.
 #[derive(Drop)]
 pub struct Restarts {
     /// How many may still come.
     pub left: u64,
-    /// The conflicts since the last.
+    /// The conflicts so far, and since the last restart.
+    conflicts: u64,
     passed: u64,
     /// The place in the sequence, and its number there.
     place: u64,
     factor: u64,
+    /// The mean glue of the last clauses, and of all.
+    last: u64,
+    all: u64,
+    /// Whether this is a steady time, and when the other begins.
+    steady: bool,
+    turn: u64,
+}
+
+// A mean of so many numbers with one more, which takes the place of an average one.
+fn mean(before: u64, glue: u64, count: u64) -> u64 {
+    let share = if count == 0 { 1 } else { count };
+    before
+        .saturating_sub(before / share)
+        .saturating_add(glue.saturating_mul(PARTS) / share)
+}
+
+// The lesser of two numbers.
+fn lesser(a: u64, b: u64) -> u64 {
+    if a < b { a } else { b }
 }
 
 impl Restarts {
@@ -29,9 +66,14 @@ impl Restarts {
     pub fn new() -> Restarts {
         Restarts {
             left: TOTAL,
+            conflicts: 0,
             passed: 0,
             place: 1,
             factor: 1,
+            last: 0,
+            all: 0,
+            steady: false,
+            turn: FIRST_TURN,
         }
     }
 
@@ -48,13 +90,45 @@ impl Restarts {
         }
     }
 
-    /// Counts a conflict. Whether the search is to begin anew.
-    pub fn count(&mut self) -> bool
+    // Counts a conflict whose clause has this glue.
+    fn note(&mut self, glue: u64)
+        ensures { self.new.left ≡ self.old.left }
+    {
+        self.conflicts = self.conflicts.saturating_add(1);
+        self.passed = self.passed.saturating_add(1);
+        self.last = mean(self.last, glue, lesser(self.conflicts, LAST));
+        self.all = mean(self.all, glue, lesser(self.conflicts, MANY));
+    }
+
+    // Begins a steady time, or ends it, where it is time for that: each lasts half as long as all before it.
+    fn take_turn(&mut self)
+        ensures { self.new.left ≡ self.old.left }
+    {
+        if self.conflicts >= self.turn {
+            self.turn = self.turn.saturating_add(self.turn / 2);
+            self.steady = !self.steady;
+            self.passed = 0;
+            self.place = 1;
+            self.factor = 1;
+        }
+    }
+
+    // Whether the search is to begin anew.
+    fn is_due(&self) -> bool {
+        if self.steady {
+            return self.passed >= self.factor.saturating_mul(UNIT);
+        }
+        self.passed >= LEAST && self.last > self.all.saturating_add(self.all / 10)
+    }
+
+    /// Counts a conflict whose clause has this glue. Whether the search is to begin anew.
+    pub fn count(&mut self, glue: u32) -> bool
         ensures due { result ≡ true → self.new.left + 1 ≡ self.old.left }
         ensures same { result ≡ false → self.new.left ≡ self.old.left }
     {
-        self.passed = self.passed.saturating_add(1);
-        if self.left == 0 || self.passed < self.factor.saturating_mul(UNIT) {
+        self.note(glue as u64);
+        self.take_turn();
+        if self.left == 0 || !self.is_due() {
             return false;
         }
         self.advance();
@@ -63,26 +137,27 @@ impl Restarts {
     }
 }
 
-// Goes back to level 0.
+// Goes back to the first level whose decision is no heavier than the variable that would be decided first.
 fn to_start(trail: &mut Trail, activity: &mut Activity)
     requires { (known : List (List Lit)) × IsTrail known trail.old }
     ensures trail { (known : List (List Lit)) → IsTrail known trail.old → IsTrail known trail.new }
     ensures long { length trail.new.values.items ≡ length trail.old.values.items }
 {
-    if trail.lims.len() > 0 {
-        trail.cancel(0, activity);
+    let level = activity.levels_kept(&trail.values, &trail.lits, &trail.lims);
+    if level < trail.lims.len() {
+        trail.cancel(level, activity);
     }
 }
 
-/// Counts a conflict, and goes back to level 0 if the search is to begin anew.
+/// Counts a conflict whose clause has this glue, and goes back if the search is to begin anew.
 #[tactic(auto, using(crate::proofs::SearchLemmas::restarts))]
-pub fn begin_anew(trail: &mut Trail, activity: &mut Activity, restarts: &mut Restarts)
+pub fn begin_anew(trail: &mut Trail, activity: &mut Activity, restarts: &mut Restarts, glue: u32)
     requires { (known : List (List Lit)) × IsTrail known trail.old }
     ensures trail { (known : List (List Lit)) → IsTrail known trail.old → IsTrail known trail.new }
     ensures long { length trail.new.values.items ≡ length trail.old.values.items }
     ensures less { effort restarts.new.left trail.new ≤ effort restarts.old.left trail.old }
 {
-    if restarts.count() {
+    if restarts.count(glue) {
         to_start(trail, activity);
     }
 }

@@ -40,19 +40,20 @@ fn is_limited(budget: u64) -> bool
     budget > 0
 }
 
-// Watches the last clause, and ends the conflict that taught it.
+// Watches the last clause, and ends the conflict that taught it. How many levels its literals had.
 fn learn_last(
     watches: &mut Watches,
     activity: &mut Activity,
     known: &Known,
     level: &[usize],
-) -> Result<(), AllocError> {
+) -> Result<u32, AllocError> {
     let n = known.len();
     if n > 0 {
-        watches.learn(known.get(n - 1), level)?;
+        let glue = watches.learn(known.get(n - 1), level)?;
         activity.end_conflict();
+        return Ok(glue);
     }
-    Ok(())
+    Ok(0)
 }
 
 /// Searches for values with which the known clauses are true, and adds each clause that it learns to both lists.
@@ -98,8 +99,8 @@ pub fn search(
                     return Ok(Outcome::Spent);
                 }
                 left = left.saturating_sub(1);
-                learn_last(&mut watches, &mut activity, known, &trail.level)?;
-                begin_anew(&mut trail, &mut activity, &mut restarts);
+                let glue = learn_last(&mut watches, &mut activity, known, &trail.level)?;
+                begin_anew(&mut trail, &mut activity, &mut restarts, glue);
             }
         }
     }

@@ -1,46 +1,60 @@
 // What known clauses force, found through two watched literals of each.
-ghost use Rattle.std.specs.Prelude.{◌≡◌, ℕ, ◌<◌, ◌≤◌, ◌/◌, length, OnOk, IfOk, IfSome};
+ghost use Rattle.std.specs.Prelude.{◌≡◌, ℕ, ◌<◌, ◌≤◌, length, OnOk, IfOk, IfSome};
 ghost use Rattle.sk_clause.specs.Problem.{AreWithin};
 ghost use Rattle.sk_sat.specs.Trail.{IsTrail, Extends};
 ghost use Rattle.sk_sat.specs.Analysis.{IsFalsified};
 ghost use Rattle.sk_sat.specs.declared.watches.Visit.TheVariants.{Falsified};
 
-use crate::codes::{NONE, code_of, is_false, is_true, opposite};
+use crate::codes::{NONE, code_of, is_false, is_true, opposite, place_of};
 use crate::known::Known;
+use crate::lists::{Lists, Watch};
 use crate::propagate::{Look, look_at};
 use crate::trail::Trail;
 use sk_clause::Lit;
 use std::alloc::{AllocError, Global};
-
-/// A clause watches a literal, and the next watch of the same literal.
-#[derive(Clone, Copy, Drop)]
-struct Watch {
-    lit: u32,
-    next: u32,
-}
 
 /// Whether a clause watches.
 #[derive(Clone, Copy, Drop)]
 enum Use {
     /// It always does.
     Always,
-    /// It does until it rests, and forced a literal or was false when so many clauses had been learnt.
-    Last(u32),
+    /// It does until it rests: until so many more were learnt since it forced a literal or was false.
+    Last { at: u32, rest: u32 },
 }
-
-/// A learnt clause stops watching when so many more were learnt since it was of use. It stays in the list of clauses,
-/// and can be a reason.
-const LONGEST_REST: u32 = 1000;
 
 /// Learnt clauses of so many literals always watch.
 const SHORT: usize = 3;
 
+/// Learnt clauses whose literals had so many levels always watch.
+const CLOSE: u32 = 2;
+
+/// Learnt clauses whose literals had so many levels rest late.
+const NEAR: u32 = 6;
+
+/// A learnt clause whose literals had few levels stops watching when so many more were learnt since it was of use. It
+/// stays in the list of clauses, and can be a reason.
+const LATE: u32 = 10_000;
+
+/// The same of other learnt clauses.
+const EARLY: u32 = 1000;
+
 impl Use {
+    // The use of a clause that has just been learnt.
+    fn of_learnt(len: usize, glue: u32, now: u32) -> Use {
+        if len <= SHORT || glue <= CLOSE {
+            return Use::Always;
+        }
+        Use::Last {
+            at: now,
+            rest: if glue <= NEAR { LATE } else { EARLY },
+        }
+    }
+
     // Whether a clause has stopped watching when so many have been learnt.
     fn is_over(self, now: u32) -> bool {
         match self {
             Use::Always => false,
-            Use::Last(at) => at.saturating_add(LONGEST_REST) < now,
+            Use::Last { at, rest } => at.saturating_add(rest) < now,
         }
     }
 
@@ -48,7 +62,7 @@ impl Use {
     fn renewed(self, now: u32) -> Use {
         match self {
             Use::Always => Use::Always,
-            Use::Last(_) => Use::Last(now),
+            Use::Last { rest, .. } => Use::Last { at: now, rest },
         }
     }
 }
@@ -61,18 +75,11 @@ struct Row {
     used: Use,
 }
 
-// A place among the literals, where it is small enough.
-fn place_of(n: usize) -> u32 {
-    if n < NONE as usize { n as u32 } else { NONE }
-}
-
-/// For each literal the watches of it, in a list that is linked by their numbers. Watches 2i and 2i + 1 are those of
-/// clause i. No contract says that they are right: wrong ones would only make the search slower.
+/// For each literal the watches of it. No contract says that they are right: wrong ones would only make the search
+/// slower.
 #[derive(Drop)]
 pub struct Watches {
-    /// Of each literal its first watch.
-    heads: Vec<u32>,
-    watches: Vec<Watch>,
+    lists: Lists,
     /// The literals of the clauses, one clause behind another, in each the watched ones first.
     codes: Vec<u32>,
     rows: Vec<Row>,
@@ -80,31 +87,43 @@ pub struct Watches {
     learnt: u32,
     /// How many literals of the trail have been followed up.
     done: usize,
+    /// Of each level the number of the last clause that had a literal of it, where the levels of clauses were counted.
+    stamps: Vec<u64>,
+    counted: u64,
 }
 
 /// What a visit of a clause that watches a false literal came to.
 #[derive(Clone, Copy, Debug)]
 pub enum Visit {
-    /// The clause goes on watching the literal.
-    Stays,
-    /// It is to watch this literal in its place.
-    Moves(u32),
-    /// It watches no more.
+    /// The clause goes on watching the literal, and this is another literal of it.
+    Stays(u32),
+    /// It watches it no more.
     Leaves,
     /// Each literal of it is false.
     Falsified,
 }
 
-// Puts a literal that is not false into the place of a watched one, if there is one that is not watched.
-fn replace(codes: &mut [u32], values: &[Option<bool>], place: usize, other: u32) -> Option<u32> {
+// Puts a literal that is not false into the second place, if there is one that is not watched.
+fn replace(codes: &mut [u32], values: &[Option<bool>], other: u32) -> Option<u32> {
     for p in 2..codes.len() {
         let code = codes[p];
         if !is_false(values, code) && code != other {
-            codes.swap(p, place % 2);
+            codes.swap(p, 1);
             return Some(code);
         }
     }
     None
+}
+
+// Brings a watched literal to the second place. The other watched one.
+fn turn_over(codes: &mut [u32], gone: u32) -> u32 {
+    if codes.len() < 2 {
+        return NONE;
+    }
+    if codes[0] == gone {
+        codes.swap(0, 1);
+    }
+    codes[0]
 }
 
 // Brings a literal to a place.
@@ -139,73 +158,17 @@ fn deepest_of(level: &[usize], clause: &[Lit], other: Lit) -> Lit {
 impl Watches {
     /// Lists for so many variables, and no watches.
     pub fn new(alloc: Global, vars: usize) -> Result<Watches, AllocError> {
-        let mut heads = vec![in alloc; NONE; vars]?;
-        let negative = vec![in alloc; NONE; vars]?;
-        heads.extend_from_slice(&negative)?;
+        let lists = Lists::new(alloc, vars)?;
+        let stamps = vec![in alloc; 0; vars]?;
         Ok(Watches {
-            heads,
-            watches: Vec::new(alloc),
+            lists,
             codes: Vec::new(alloc),
             rows: Vec::new(alloc),
             learnt: 0,
             done: 0,
+            stamps,
+            counted: 0,
         })
-    }
-
-    // The first watch of a literal.
-    fn first(&self, code: u32) -> u32 {
-        let c = code as usize;
-        if c < self.heads.len() {
-            self.heads[c]
-        } else {
-            NONE
-        }
-    }
-
-    fn set_first(&mut self, code: u32, k: u32) {
-        let c = code as usize;
-        if c < self.heads.len() {
-            self.heads[c] = k;
-        }
-    }
-
-    fn next(&self, k: u32) -> u32 {
-        let k = k as usize;
-        if k < self.watches.len() {
-            self.watches[k].next
-        } else {
-            NONE
-        }
-    }
-
-    // The literal of a watch.
-    fn lit(&self, k: u32) -> u32 {
-        let k = k as usize;
-        if k < self.watches.len() {
-            self.watches[k].lit
-        } else {
-            NONE
-        }
-    }
-
-    // Puts a watch into the list of a literal.
-    fn link(&mut self, k: u32, lit: u32) {
-        let next = self.first(lit);
-        let at = k as usize;
-        if at < self.watches.len() {
-            self.watches[at] = Watch { lit, next };
-            self.set_first(lit, k);
-        }
-    }
-
-    // Takes the watch behind `before` out of the list of a literal; `next` is the one that follows it.
-    fn unlink(&mut self, lit: u32, before: u32, next: u32) {
-        let at = before as usize;
-        if at < self.watches.len() {
-            self.watches[at].next = next;
-        } else {
-            self.set_first(lit, next);
-        }
     }
 
     // The number of clauses that have watches.
@@ -215,12 +178,6 @@ impl Watches {
 
     // Makes the watches of the next clause, which watch nothing.
     fn make(&mut self, clause: &[Lit], first_use: Use) -> Result<(), AllocError> {
-        let none = Watch {
-            lit: NONE,
-            next: NONE,
-        };
-        self.watches.push(none)?;
-        self.watches.push(none)?;
         let start = place_of(self.codes.len());
         for l in clause {
             self.codes.push(code_of(*l))?;
@@ -251,17 +208,19 @@ impl Watches {
     }
 
     // Has a clause watch two literals of it, if they are two.
-    fn set(&mut self, i: usize, a: Lit, b: Lit) {
-        if i >= (NONE / 2) as usize || a.is(b) {
-            return;
+    fn set(&mut self, i: usize, a: Lit, b: Lit) -> Result<(), AllocError> {
+        if a.is(b) {
+            return Ok(());
         }
+        let (a, b) = (code_of(a), code_of(b));
         let (start, end) = self.range(i);
         let codes = &mut self.codes[start..end];
-        bring(codes, code_of(a), 0);
-        bring(codes, code_of(b), 1);
-        let k = (i as u32) * 2;
-        self.link(k, code_of(a));
-        self.link(k + 1, code_of(b));
+        bring(codes, a, 0);
+        bring(codes, b, 1);
+        let is_pair = end - start == 2;
+        self.lists.push(a, Watch::new(i, is_pair, b))?;
+        self.lists.push(b, Watch::new(i, is_pair, a))?;
+        Ok(())
     }
 
     // Whether a clause has stopped watching. Its watches leave the lists when they are next met.
@@ -276,20 +235,42 @@ impl Watches {
         }
     }
 
-    /// Makes the watches of a clause that was learnt: its last literal, which it forces, and a deepest other one.
-    pub fn learn(&mut self, clause: &[Lit], level: &[usize]) -> Result<(), AllocError> {
+    // Whether a level is met for the first time since the count began.
+    fn is_new(&mut self, level: usize) -> bool {
+        if level < self.stamps.len() && self.stamps[level] != self.counted {
+            self.stamps[level] = self.counted;
+            return true;
+        }
+        false
+    }
+
+    // How many levels the literals have.
+    fn glue_of(&mut self, clause: &[Lit], level: &[usize]) -> u32 {
+        self.counted = self.counted.saturating_add(1);
+        let mut glue: u32 = 0;
+        for l in clause {
+            if self.is_new(level_of(level, *l)) {
+                glue = glue.saturating_add(1);
+            }
+        }
+        glue
+    }
+
+    /// Makes the watches of a clause that was learnt: its last literal, which it forces, and a deepest other one. How
+    /// many levels its literals had when it was false.
+    pub fn learn(&mut self, clause: &[Lit], level: &[usize]) -> Result<u32, AllocError> {
         let i = self.len();
         self.learnt = self.learnt.saturating_add(1);
-        let first_use = if clause.len() <= SHORT {
-            Use::Always
-        } else {
-            Use::Last(self.learnt)
-        };
+        let mut glue = 0;
+        if let [front @ .., _] = clause {
+            glue = self.glue_of(front, level).saturating_add(1);
+        }
+        let first_use = Use::of_learnt(clause.len(), glue, self.learnt);
         self.make(clause, first_use)?;
         if let [front @ .., turn] = clause {
-            self.set(i, *turn, deepest_of(level, front, *turn));
+            self.set(i, *turn, deepest_of(level, front, *turn))?;
         }
-        Ok(())
+        Ok(glue)
     }
 
     // Makes the watches of the clauses that have none yet, and makes literals true that they force. A false one.
@@ -307,38 +288,42 @@ impl Watches {
                 Look::Forced => self.make(known.get(i), Use::Always)?,
                 Look::Settled(a, b) => {
                     self.make(known.get(i), Use::Always)?;
-                    self.set(i, a, b);
+                    self.set(i, a, b)?;
                 }
             }
         }
         Ok(None)
     }
 
-    // Has watch k move from its literal, which became false, to another that is not, if there is one.
-    fn replaced(&mut self, values: &[Option<bool>], k: u32, other: u32) -> Option<u32> {
-        let (start, end) = self.range((k / 2) as usize);
-        replace(&mut self.codes[start..end], values, (k % 2) as usize, other)
+    // Brings the watched literal of a clause that became false to the second place. The other watched one.
+    fn turned(&mut self, i: usize, gone: u32) -> u32 {
+        let (start, end) = self.range(i);
+        turn_over(&mut self.codes[start..end], gone)
     }
 
-    // Deals with watch k, whose literal became false.
+    // Puts a literal that is not false into the second place of a clause, if there is one.
+    fn replaced(&mut self, values: &[Option<bool>], i: usize, other: u32) -> Option<u32> {
+        let (start, end) = self.range(i);
+        replace(&mut self.codes[start..end], values, other)
+    }
+
+    // Deals with a clause that watches a literal which became false, where no other literal is there to watch.
     #[tactic(auto, using(crate::proofs::PropagateLemmas::passes))]
-    fn visit(&mut self, trail: &mut Trail, known: &Known, k: u32) -> Result<Visit, AllocError>
+    fn look(
+        &mut self,
+        trail: &mut Trail,
+        known: &Known,
+        i: usize,
+        other: u32,
+    ) -> Result<Visit, AllocError>
         requires trail { IsTrail known.now trail.old }
         requires within { AreWithin (length trail.old.values.items) known.now }
         ensures trail { OnOk result (IsTrail known.now trail.new) }
         ensures extends { OnOk result (Extends trail.old trail.new) }
-        ensures falsified { IfOk result (λ seen. seen ≡ Falsified → IsFalsified known.now trail.new.values.items (k / 2)) }
+        ensures falsified { IfOk result (λ seen. seen ≡ Falsified → IsFalsified known.now trail.new.values.items i) }
     {
-        let i = (k / 2) as usize;
-        let other = self.lit(k ^ 1);
-        if i >= known.len() || is_true(&trail.values, other) {
-            return Ok(Visit::Stays);
-        }
-        if self.is_forgotten(i) {
+        if i >= known.len() {
             return Ok(Visit::Leaves);
-        }
-        if let Some(lit) = self.replaced(&trail.values, k, other) {
-            return Ok(Visit::Moves(lit));
         }
         match look_at(trail, known, i)? {
             Look::Falsified => {
@@ -347,13 +332,71 @@ impl Watches {
             }
             Look::Forced => {
                 self.renew(i);
-                Ok(Visit::Stays)
+                Ok(Visit::Stays(other))
             }
-            Look::Settled(_, _) => Ok(Visit::Stays),
+            Look::Settled(_, _) => Ok(Visit::Stays(other)),
         }
     }
 
-    // Visits the clauses that watch a literal which became false. A false one.
+    // Deals with clause i, which watches a literal that became false.
+    #[tactic(auto, using(crate::proofs::PropagateLemmas::passes))]
+    fn visit(
+        &mut self,
+        trail: &mut Trail,
+        known: &Known,
+        gone: u32,
+        i: usize,
+        watch: Watch,
+    ) -> Result<Visit, AllocError>
+        requires trail { IsTrail known.now trail.old }
+        requires within { AreWithin (length trail.old.values.items) known.now }
+        ensures trail { OnOk result (IsTrail known.now trail.new) }
+        ensures extends { OnOk result (Extends trail.old trail.new) }
+        ensures falsified { IfOk result (λ seen. seen ≡ Falsified → IsFalsified known.now trail.new.values.items i) }
+    {
+        if self.is_forgotten(i) {
+            return Ok(Visit::Leaves);
+        }
+        let other = self.turned(i, gone);
+        if is_true(&trail.values, other) {
+            return Ok(Visit::Stays(other));
+        }
+        if let Some(code) = self.replaced(&trail.values, i, other) {
+            self.lists.push(code, watch.beside(other))?;
+            return Ok(Visit::Leaves);
+        }
+        let seen = self.look(trail, known, i, other)?;
+        Ok(seen)
+    }
+
+    // Deals with clause i, which may have two literals, and watches a literal that became false.
+    #[tactic(auto, using(crate::proofs::PropagateLemmas::passes))]
+    fn meet(
+        &mut self,
+        trail: &mut Trail,
+        known: &Known,
+        gone: u32,
+        i: usize,
+        watch: Watch,
+    ) -> Result<Visit, AllocError>
+        requires trail { IsTrail known.now trail.old }
+        requires within { AreWithin (length trail.old.values.items) known.now }
+        ensures trail { OnOk result (IsTrail known.now trail.new) }
+        ensures extends { OnOk result (Extends trail.old trail.new) }
+        ensures falsified { IfOk result (λ seen. seen ≡ Falsified → IsFalsified known.now trail.new.values.items i) }
+    {
+        if is_true(&trail.values, watch.other) {
+            return Ok(Visit::Stays(watch.other));
+        }
+        if watch.is_pair() {
+            let seen = self.look(trail, known, i, watch.other)?;
+            return Ok(seen);
+        }
+        let seen = self.visit(trail, known, gone, i, watch)?;
+        Ok(seen)
+    }
+
+    // Deals with the clauses that watch a literal which became false. A false one.
     #[tactic(auto, using(crate::proofs::PropagateLemmas::passes))]
     fn spread(
         &mut self,
@@ -367,24 +410,24 @@ impl Watches {
         ensures extends { OnOk result (Extends trail.old trail.new) }
         ensures falsified { IfOk result (λ found. IfSome found (IsFalsified known.now trail.new.values.items)) }
     {
-        let mut before = NONE;
-        let mut k = self.first(gone);
-        for _ in 0..self.watches.len() {
-            if k == NONE {
-                return Ok(None);
-            }
-            let next = self.next(k);
-            match self.visit(trail, known, k)? {
-                Visit::Stays => before = k,
-                Visit::Moves(lit) => {
-                    self.unlink(gone, before, next);
-                    self.link(k, lit);
+        let (start, end) = self.lists.range(gone);
+        let mut kept = start;
+        for at in start..end {
+            let watch = self.lists.get(at);
+            let i = watch.clause();
+            match self.meet(trail, known, gone, i, watch)? {
+                Visit::Stays(other) => {
+                    self.lists.put(kept, watch.beside(other));
+                    kept = kept.saturating_add(1);
                 }
-                Visit::Leaves => self.unlink(gone, before, next),
-                Visit::Falsified => return Ok(Some((k / 2) as usize)),
+                Visit::Leaves => {}
+                Visit::Falsified => {
+                    self.lists.close(gone, kept, at);
+                    return Ok(Some(i));
+                }
             }
-            k = next;
         }
+        self.lists.cut(gone, kept);
         Ok(None)
     }
 

@@ -1,5 +1,5 @@
 -- What a line gives.
-use Rattle.std.specs.Prelude.{Option, Some, None}
+use Rattle.std.specs.Prelude.{Bool, true, false, Option, Some, None}
 use Rattle.sk_opts.specs.declared.line.Line.{Line}
 use Rattle.sk_opts.specs.declared.line.Line.TheVariants as line
 use Rattle.sk_opts.specs.declared.line.Set.{Set}
@@ -10,7 +10,20 @@ set_of None = None
 set_of (Some (line.Synth set budget cert)) = Some set
 set_of (Some (line.Exec set name values)) = Some set
 set_of (Some (line.Trace set name values holes)) = Some set
+set_of (Some (line.Lower set)) = Some set
 set_of (Some (line.Check set)) = None
 set_of (Some (line.Itself n)) = None
 set_of (Some line.Help) = None
 set_of (Some line.Version) = None
+
+-- it takes the plain form of a text
+abbrev pub lowers : Option Line → Bool
+lowers None = false
+lowers (Some (line.Synth set budget cert)) = false
+lowers (Some (line.Exec set name values)) = false
+lowers (Some (line.Trace set name values holes)) = false
+lowers (Some (line.Lower set)) = true
+lowers (Some (line.Check set)) = false
+lowers (Some (line.Itself n)) = false
+lowers (Some line.Help) = false
+lowers (Some line.Version) = false

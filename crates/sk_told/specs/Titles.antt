@@ -1,10 +1,15 @@
 -- The words for each cause: the title, and the lines behind it.
 use Rattle.std.specs.Prelude.{ℕ, Bool, List, [], ◌∷◌, ◌++◌, decimal, codes, nat_lt, length, slice_index, Option, Some, None, if◌then◌else◌}
+use Rattle.std.specs.Str.{bytes_eq}
 use Rattle.sk_notes.specs.Notes.{is_plain, said, one, one_line}
 use Rattle.sk_sizes.specs.declared.fault.SizeFault.{SizeFault}
 use Rattle.sk_sizes.specs.declared.fault.SizeFault.TheVariants as size
 use Rattle.sk_lexer.specs.declared.fault.LexFault.{LexFault}
 use Rattle.sk_lexer.specs.declared.fault.LexFault.TheVariants as lex
+use Rattle.sk_lower.specs.declared.algebraic.AdtFault.{AdtFault}
+use Rattle.sk_lower.specs.declared.algebraic.AdtFault.TheVariants as adt
+use Rattle.sk_told.specs.declared.lowering.Broken.{Broken}
+use Rattle.sk_told.specs.declared.lowering.Broken.TheVariants as broken
 
 -- Programs that are too large
 
@@ -69,3 +74,36 @@ lex_title text (lex.OpenComment at) = one (codes "the comment has no end: */ is 
 lex_title text (lex.LiteralTooLarge at) = one (codes "the number is above 2147483647")
 lex_title text (lex.OpenString at) = one (codes "the text has no end on its line: \" is wanting")
 lex_title text lex.Memory = one (codes "out of memory")
+
+-- Texts with algebraic types
+
+-- which form a word wants
+abbrev pub form_notes : List ℕ → List ℕ
+form_notes word =
+    if bytes_eq word (codes "adt") then one_line (codes "its form is adt NAME { VARIANT { TYPE FIELD; .. } .. }")
+    else if bytes_eq word (codes "switch") then one_line (codes "its form is switch (VARIABLE) { case VARIANT: { .. } .. }")
+    else one_line (codes "its form is case VARIANT: { .. }, in the braces of a switch")
+
+abbrev pub adt_title : List ℕ → AdtFault → List ℕ
+adt_title word (adt.NoForm at) = said (codes "'" ∷ word ∷ codes "' does not stand in its form" ∷ [])
+adt_title word (adt.Twice at) = said (codes "the name '" ∷ word ∷ codes "' stands twice" ∷ [])
+adt_title word (adt.NoVariant at) = said (codes "'" ∷ word ∷ codes "' is no variant, or one of another type than the first case" ∷ [])
+adt_title word (adt.TooMany at) = said (codes "'" ∷ word ∷ codes "' has more than 16 variants, or more than 16 fields" ∷ [])
+adt_title word adt.Memory = one (codes "out of memory")
+
+abbrev pub adt_notes : List ℕ → AdtFault → List ℕ
+adt_notes word (adt.NoForm at) = form_notes word
+adt_notes word (adt.Twice at) = one_line (codes "types and variants have one group of names, each variant has one, and the cases of each switch")
+adt_notes word (adt.NoVariant at) = []
+adt_notes word (adt.TooMany at) = []
+adt_notes word adt.Memory = []
+
+abbrev pub tag_title : Broken → List ℕ
+tag_title broken.Build = one (codes "this new does not set the tag of a variant first, and then fields of that variant alone")
+tag_title broken.Tag = one (codes "a tag, or a field of that name, stands where it cannot")
+tag_title broken.Member = one (codes "the field may be one of another variant than its record has here")
+
+abbrev pub tag_notes : Broken → List ℕ
+tag_notes broken.Build = one_line (codes "new VARIANT(FIELD = VALUE, ..) does")
+tag_notes broken.Tag = one_line (codes "a tag is asked in x.tag == i alone, the whole condition of an if; switch asks it")
+tag_notes broken.Member = one_line (codes "it stands in the block of a case of its variable, which neither assigns that variable nor passes it for ref")

@@ -1,11 +1,31 @@
 -- Tokens of a text, and the bytes of them.
-use Rattle.std.specs.Prelude.{ℕ, nat_le, nat_lt, Bool, true, false, ◌&&◌, ◌||◌, List, [], ◌∷◌, length, slice_range, Option, Some, None, if◌then◌else◌}
+use Rattle.std.specs.Prelude.{ℕ, ◌≡◌, nat_le, nat_lt, Bool, true, false, ◌&&◌, ◌||◌, List, [], ◌∷◌, length, slice_range, Option, Some, None, Ok, if◌then◌else◌}
 use Rattle.sk_base.specs.declared.span.Span.{Span}
 use Rattle.sk_tree.specs.declared.token.Token.{Token}
 use Rattle.sk_tree.specs.declared.token.Kind.{Kind}
 use Rattle.sk_tree.specs.declared.token.Kind.TheVariants as kind
 use Rattle.sk_tree.specs.declared.token.Mark.TheVariants as mark
+use Rattle.sk_tree.specs.Tokens.{AreTokens}
 use Rattle.sk_reading.specs.Readers.{is_mark}
+use Rattle.sk_lower.specs.declared.algebraic.Lowered.{Lowered}
+use Rattle.sk_lower.specs.Lowering.{lowered}
+
+-- these are the tokens of the plain form of others
+pub record ArePlain (tokens plain : List Token) : Type 0 where
+  pub form : Lowered
+  pub is : lowered tokens ≡ Ok form
+  pub same : plain ≡ form.tokens
+
+-- these are the tokens of the plain form of a text
+pub record ArePlainOf (text : List ℕ) (plain : List Token) : Type 0 where
+  pub tokens : List Token
+  pub lexed : AreTokens text tokens
+  pub plain_is : ArePlain tokens plain
+
+-- These are the tokens that a line reads: those of the plain form of a text, where it takes that, or else of the text itself.
+abbrev pub AreTokensRead : Bool → List ℕ → List Token → Type 0
+AreTokensRead true text tokens = ArePlainOf text tokens
+AreTokensRead false text tokens = AreTokens text tokens
 
 -- the bytes of a span; none where it does not lie in the text
 abbrev pub bytes_of : List ℕ → Span → List ℕ

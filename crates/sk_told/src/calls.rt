@@ -312,7 +312,7 @@ pub fn tell_not_run(
             let called = call_of(&name, values.as_slice(), true);
             tell_call(alloc, told, &set, &called, text, reason)
         }
-        Ok(Line::Synth { .. } | Line::Check { .. } | Line::Itself { .. }) => {
+        Ok(Line::Synth { .. } | Line::Lower { .. } | Line::Check { .. } | Line::Itself { .. }) => {
             told.title(&[b"the function is not run"])
         }
         Ok(Line::Help | Line::Version) | Err(Usage::NotALine) => {

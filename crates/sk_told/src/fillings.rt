@@ -89,10 +89,10 @@ pub fn tell_not_filled(
                 None => told.title(&[b"the numbers do not fill the sketch"]),
             }
         }
-        Ok(Line::Synth { .. } | Line::Exec { .. } | Line::Check { .. } | Line::Itself { .. }) => {
+        Ok(Line::Synth { .. } | Line::Exec { .. } | Line::Lower { .. } | Line::Check { .. }) => {
             told.title(&[b"the numbers do not fill the sketch"])
         }
-        Ok(Line::Help | Line::Version) | Err(Usage::NotALine) => {
+        Ok(Line::Itself { .. } | Line::Help | Line::Version) | Err(Usage::NotALine) => {
             told.title(&[b"the numbers do not fill the sketch"])
         }
         Err(Usage::Memory) => Err(AllocError),

@@ -5,6 +5,7 @@ mod calls;
 mod declared;
 mod fillings;
 mod lines;
+mod lowering;
 mod operands;
 mod phrases;
 mod pieces;
@@ -18,6 +19,7 @@ mod typing;
 
 pub use calls::tell_not_run;
 pub use fillings::tell_not_filled;
+pub use lowering::{push_not_written, tell_not_lowered, tell_not_tagged};
 pub use reading::tell_text;
 pub use runs::{tell_failed, tell_skipped};
 pub use searches::{push_passed_over, push_warnings, tell_none, tell_spent};

@@ -4,7 +4,7 @@ ghost use Rattle.std.specs.String.{string_bytes};
 ghost use Rattle.sk_opts.specs.CommandLine.{IsLine};
 ghost use Rattle.sk_front.specs.Front.{Expands};
 ghost use Rattle.sk_opts.specs.Ranges.{IsInRanges};
-ghost use Rattle.sk_told.specs.Lines.{set_of};
+ghost use Rattle.sk_told.specs.Lines.{set_of, lowers};
 
 use sk_front::{Expansion, SketchFault, expansion_of};
 use sk_opts::{Line, Set, Usage, options};
@@ -31,8 +31,21 @@ pub fn set_of(line: &Option<Line>) -> Option<Set>
     match line {
         Some(Line::Synth { set, .. }) => Some(*set),
         Some(Line::Exec { set, .. } | Line::Trace { set, .. }) => Some(*set),
+        Some(Line::Lower { set }) => Some(*set),
         Some(Line::Check { .. } | Line::Itself { .. } | Line::Help | Line::Version) => None,
         None => None,
+    }
+}
+
+/// Whether a line takes the plain form of a text.
+pub fn lowers(line: &Option<Line>) -> bool
+    ensures { result ≡ lowers line.now }
+{
+    match line {
+        Some(Line::Lower { .. }) => true,
+        Some(Line::Synth { .. } | Line::Exec { .. } | Line::Trace { .. }) => false,
+        Some(Line::Check { .. } | Line::Itself { .. } | Line::Help | Line::Version) => false,
+        None => false,
     }
 }
 

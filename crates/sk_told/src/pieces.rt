@@ -4,10 +4,11 @@ ghost use Rattle.std.specs.List.{list_any};
 ghost use Rattle.sk_tree.specs.declared.token.Token.{Token};
 ghost use Rattle.sk_tree.specs.Tokens.{AreTokens};
 ghost use Rattle.sk_reading.specs.Readers.{is_key, is_mark};
-ghost use Rattle.sk_told.specs.Tokens.{bytes_of, tokens_from, first_of, begins_before, is_word, opens, closes};
+ghost use Rattle.sk_told.specs.Tokens.{ArePlain, AreTokensRead, bytes_of, tokens_from, first_of, begins_before, is_word, opens, closes};
 
 use sk_base::{List, Span};
 use sk_lexer::{LexFault, tokens};
+use sk_lower::{AdtFault, lower};
 use sk_tree::{Key, Kind, Mark, Token};
 use std::alloc::{AllocError, Global};
 
@@ -33,6 +34,37 @@ pub fn some_tokens(alloc: Global, text: &[u8]) -> Result<List<Token>, AllocError
     match tokens_of(alloc, text)? {
         Some(tokens) => Ok(tokens),
         None => Ok(List::new(alloc)),
+    }
+}
+
+/// The tokens that a line reads of a text, where it has some: for a line that takes the plain form of a text, those of that form.
+pub fn tokens_read(
+    alloc: Global,
+    text: &[u8],
+    lowers: bool,
+) -> Result<Option<List<Token>>, AllocError>
+    ensures { IfOk result (λ found. IfSome found (AreTokensRead lowers text.now)) }
+{
+    match tokens_of(alloc, text)? {
+        Some(tokens) => {
+            if lowers {
+                plain_of(alloc, tokens.as_slice())
+            } else {
+                Ok(Some(tokens))
+            }
+        }
+        None => Ok(None),
+    }
+}
+
+// The tokens of the plain form, where there is one.
+fn plain_of(alloc: Global, tokens: &[Token]) -> Result<Option<List<Token>>, AllocError>
+    ensures { IfOk result (λ found. IfSome found (ArePlain tokens.now)) }
+{
+    match lower(alloc, tokens) {
+        Ok(lowered) => Ok(Some(lowered.tokens)),
+        Err(AdtFault::Memory) => Err(AllocError),
+        Err(_) => Ok(None),
     }
 }
 

@@ -2,14 +2,17 @@
 ghost use Rattle.std.specs.Prelude.{◌≡◌, ◌++◌, OnOk};
 ghost use Rattle.sk_told.specs.Titles.{lex_title, byte_at, bad_byte_title};
 
-use crate::pieces::{bytes_of, closes, opens, some_tokens, token_from, tokens_before, tokens_of};
+use crate::lines::{line_of, lowers};
+use crate::pieces::{
+    bytes_of, closes, is_key, opens, some_tokens, token_from, tokens_before, tokens_read,
+};
 use crate::strings::{MOST_COUNTED, strings_at};
 use sk_front::TextFault;
 use sk_lexer::LexFault;
 use sk_notes::Told;
 use sk_parser::{ParseFault, parse};
 use sk_place::place_of;
-use sk_tree::Token;
+use sk_tree::{Key, Token};
 use std::alloc::{AllocError, Global};
 
 // A word that is tried in front of a token that cannot go on, and what it is called.
@@ -133,9 +136,16 @@ fn tell_bad_byte(told: &mut Told, byte: Option<u8>) -> Result<(), AllocError>
     }
 }
 
+// A text, and whether its plain form is read.
+#[derive(Clone, Copy)]
+struct Reads<'a> {
+    text: &'a [u8],
+    lowers: bool,
+}
+
 // Whether a text with words put in at a byte reads on past what stood there.
-fn reads_on(alloc: Global, text: &[u8], at: usize, word: &[u8]) -> Result<bool, AllocError> {
-    let Some((front, rest)) = text.split_at_checked(at) else {
+fn reads_on(alloc: Global, reads: Reads<'_>, at: usize, word: &[u8]) -> Result<bool, AllocError> {
+    let Some((front, rest)) = reads.text.split_at_checked(at) else {
         return Ok(false);
     };
     let mut tried = Vec::from_slice(alloc, front)?;
@@ -144,7 +154,7 @@ fn reads_on(alloc: Global, text: &[u8], at: usize, word: &[u8]) -> Result<bool, 
     tried.extend_from_slice(b" ")?;
     let behind = tried.len();
     tried.extend_from_slice(rest)?;
-    let Some(tokens) = tokens_of(alloc, tried.as_slice())? else {
+    let Some(tokens) = tokens_read(alloc, tried.as_slice(), reads.lowers)? else {
         return Ok(false);
     };
     match parse(alloc, tokens.as_slice()) {
@@ -158,17 +168,17 @@ fn reads_on(alloc: Global, text: &[u8], at: usize, word: &[u8]) -> Result<bool, 
 }
 
 // What of the tried words lets the text read on.
-fn helpful(alloc: Global, text: &[u8], at: usize) -> Result<Vec<&'static [u8]>, AllocError> {
+fn helpful(alloc: Global, reads: Reads<'_>, at: usize) -> Result<Vec<&'static [u8]>, AllocError> {
     let mut found = Vec::new(alloc);
-    if text.len() > MOST_TRIED {
+    if reads.text.len() > MOST_TRIED {
         return Ok(found);
     }
     for tried in TRIED {
-        if reads_on(alloc, text, at, tried.word)? {
+        if reads_on(alloc, reads, at, tried.word)? {
             found.push(tried.called)?;
         }
     }
-    if found.is_empty() && reads_on(alloc, text, at, NAME.word)? {
+    if found.is_empty() && reads_on(alloc, reads, at, NAME.word)? {
         found.push(NAME.called)?;
     }
     Ok(found)
@@ -238,11 +248,30 @@ fn push_depth(told: &mut Told, tokens: &[Token], at: u32) -> Result<(), AllocErr
     }
 }
 
-fn tell_no_reading(alloc: Global, told: &mut Told, text: &[u8], at: u32) -> Result<(), AllocError> {
+// Whether a token is a word of algebraic types.
+fn is_algebraic(token: Option<&Token>) -> bool {
+    match token {
+        Some(token) => {
+            is_key(token, Key::Adt) || is_key(token, Key::Switch) || is_key(token, Key::Case)
+        }
+        None => false,
+    }
+}
+
+fn tell_no_reading(
+    alloc: Global,
+    told: &mut Told,
+    reads: Reads<'_>,
+    at: u32,
+) -> Result<(), AllocError> {
+    let text = reads.text;
     let tokens = some_tokens(alloc, text)?;
     let token = token_from(tokens.as_slice(), at);
     push_no_reading(told, text, token)?;
-    let found = helpful(alloc, text, at as usize)?;
+    if is_algebraic(token) && !reads.lowers {
+        return told.note(&[b"sketch lower makes a plain sketch of a text with algebraic types"]);
+    }
+    let found = helpful(alloc, reads, at as usize)?;
     if found.is_empty() {
         push_depth(told, tokens.as_slice(), at)?;
     }
@@ -277,33 +306,38 @@ fn tell_strings(alloc: Global, told: &mut Told, text: &[u8], at: u32) -> Result<
     ])
 }
 
-/// Tells why the tokens of a text read as no tree. Want of memory has an ending of its own.
-pub fn tell_parse(
+// Tells why the tokens of a text read as no tree. Want of memory has an ending of its own.
+fn tell_parse(
     alloc: Global,
     told: &mut Told,
-    text: &[u8],
+    reads: Reads<'_>,
     fault: &ParseFault,
 ) -> Result<(), AllocError> {
     match fault {
-        ParseFault::NoReading { at } => tell_no_reading(alloc, told, text, *at),
+        ParseFault::NoReading { at } => tell_no_reading(alloc, told, reads, *at),
         ParseFault::BadAlternative { at: _ } => {
             told.title(&[b"a string of the pattern reads as no expression"])?;
             told.note(&[b"a string has no call, no new, no ??(n), no ?: and no parentheses"])
         }
-        ParseFault::TooManyStrings { at } => tell_strings(alloc, told, text, *at),
+        ParseFault::TooManyStrings { at } => tell_strings(alloc, told, reads.text, *at),
         ParseFault::Memory => told.title(&[b"out of memory"]),
     }
 }
 
-/// Tells what is wrong with a text.
+/// Tells what is wrong with a text, for a line with these words.
 pub fn tell_text(
     alloc: Global,
     told: &mut Told,
+    words: &[String],
     text: &[u8],
     fault: &TextFault,
 ) -> Result<(), AllocError> {
     match fault {
         TextFault::Lex(fault) => tell_lex(told, text, fault),
-        TextFault::Parse(fault) => tell_parse(alloc, told, text, fault),
+        TextFault::Parse(fault) => {
+            let line = line_of(alloc, words)?;
+            let lowers = lowers(&line);
+            tell_parse(alloc, told, Reads { text, lowers }, fault)
+        }
     }
 }

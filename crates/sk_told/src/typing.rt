@@ -1,6 +1,6 @@
 //! Texts that break a rule of names and types.
 use crate::declared::push_declarations;
-use crate::lines::{line_of, set_of};
+use crate::lines::{line_of, lowers, set_of};
 use crate::operands::push_operands;
 use crate::pieces::{bytes_of, is_mark, is_word, some_tokens};
 use sk_base::Span;
@@ -160,6 +160,15 @@ fn tell_mismatch(
     push_declarations(alloc, told, text, tokens, span)
 }
 
+// Tells where fields of variants have their names.
+fn push_field(alloc: Global, told: &mut Told, words: &[String]) -> Result<(), AllocError> {
+    let line = line_of(alloc, words)?;
+    if lowers(&line) {
+        told.note(&[b"a field of a variant has its name as x.f, in the block of a case of x"])?;
+    }
+    Ok(())
+}
+
 /// Tells which rule a text breaks.
 pub fn tell_type(
     alloc: Global,
@@ -184,5 +193,9 @@ pub fn tell_type(
             b"what breaks the rule is a name at the top, a field, a parameter or a result",
         ])?;
     }
-    told.note(&[rule_note(fault.rule)])
+    told.note(&[rule_note(fault.rule)])?;
+    if fault.rule == Rule::UnknownName {
+        push_field(alloc, told, words)?;
+    }
+    Ok(())
 }
