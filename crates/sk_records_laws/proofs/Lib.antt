@@ -1,0 +1,5 @@
+mod Places
+mod Related
+mod Quiet
+mod Stores
+mod Making
