@@ -3,3 +3,7 @@ mod Related
 mod Quiet
 mod Stores
 mod Making
+mod Fine
+mod Forms
+mod Fields
+mod Rows

@@ -173,7 +173,7 @@ module _ (types : List Algebraic) (prog : Prog) where
       let at : x.it.at k ≡ Some v.0 = t.same.values k ∙ ap (λ b. if b then slice_get t.fields k else None) holds ∙ v.1 in
       record { it = x.it; fields = t.fields; old = v.0; there = x.there; twin = t.there; value = v.1; at = at; same = t.same; of = x.of; holds = holds; field = field; fits = t.same.fits k f v.0 field v.1 }
 
-  plain_read : (s : plain.State) (p k : ℕ) (fields : List Value) (old : Value) → slice_get s.heap p ≡ Some fields → slice_get fields k ≡ Some old → slice_index_or (heap.record_at s p) k blank ≡ old
+  pub plain_read : (s : plain.State) (p k : ℕ) (fields : List Value) (old : Value) → slice_get s.heap p ≡ Some fields → slice_get fields k ≡ Some old → slice_index_or (heap.record_at s p) k blank ≡ old
   plain_read s p k fields old e i = ap (λ fs. slice_index_or fs k blank) (get_or_from_slice_get s.heap p fields [] e) ∙ get_or_from_slice_get fields k old blank i
 
   pub read_ends : (scope : List Variable) (tests : List Test) (span : Span) (s : plain.State) (h : List Record) (v : Value) (d : StructId) (k : ℕ) (f : FieldDef) → Inv types prog scope tests s h → HasField h d k v → field_at types prog d k ≡ Some f
