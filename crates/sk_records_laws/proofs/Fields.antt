@@ -1,6 +1,6 @@
 -- What fields and tests of tags do on both sides.
-use Rattle.std.proofs.Common.{◌≡◌, ℕ, zero, suc, pos, ℤ, List, [], ◌∷◌, ◌++◌, map, length, slice_get, Option, Some, None, Bool, true, false, inl, inr, refl, sym, ap, subst, ◌∙◌, arith}
-use Rattle.std.specs.Prelude.{◌⊎◌, ◌||◌, ◌&&◌, ◌==◌, ◌^◌, ◌-◌, ◌<◌, IsTrue, nat_lt, slice_index_or, option_and_then, if◌then◌else◌}
+use Rattle.std.proofs.Common.{◌≡◌, ℕ, zero, suc, pos, ℤ, List, [], ◌∷◌, slice_get, Option, Some, None, Bool, true, false, inl, inr, refl, sym, ap, subst, ◌∙◌, arith}
+use Rattle.std.specs.Prelude.{◌||◌, ◌&&◌, ◌==◌, ◌<◌, IsTrue, slice_index_or, option_and_then}
 use Rattle.std.specs.List.{list_any}
 use Rattle.std.specs.Ordering.{int_eq}
 use Rattle.std.proofs.lemmas.Bool.{false≢true, eq-eqb, eqb-true}
@@ -9,14 +9,13 @@ use Rattle.std.proofs.lemmas.Int.{ints}
 use Rattle.std.proofs.lemmas.Option.{none-some}
 use Rattle.sk_base.specs.declared.span.Span.{Span}
 use Rattle.sk_base.specs.declared.bounds.Bounds.{Bounds}
-use Rattle.sk_base.specs.Word.{wrapped, half, IsWord}
+use Rattle.sk_base.specs.Word.{wrapped, half}
 use Rattle.sk_base.proofs.Words.{wrapped-word}
 use Rattle.sk_tree.specs.declared.expr.Expr.{Expr}
 use Rattle.sk_prog.specs.declared.ids.StructId.{StructId}
 use Rattle.sk_prog.specs.declared.ty.Elem.{Elem}
 use Rattle.sk_prog.specs.declared.ty.Elem.TheVariants as elem
 use Rattle.sk_prog.specs.declared.ty.Ty.{Ty}
-use Rattle.sk_prog.specs.declared.ty.Ty.TheVariants as ty
 use Rattle.sk_prog.specs.declared.value.Value.{Value}
 use Rattle.sk_prog.specs.declared.value.Value.TheVariants as value
 use Rattle.sk_prog.specs.declared.value.Value.TheOpen as VV
@@ -49,17 +48,17 @@ use Rattle.sk_tagged.specs.declared.role.Role.{Role}
 use Rattle.sk_tagged.specs.declared.role.Role.TheVariants as role
 use Rattle.sk_tagged.specs.declared.role.Test.{Test}
 use Rattle.sk_tagged.specs.Tags.{Part, of_one, of_two, member_part, unless, is_tested, test_for, test_of, algebraic_of, type_named, role_in, of_variant, variant_at}
-use Rattle.sk_records.specs.Steps.{Record, State, Step, Goes, Fails, Comp, and_then, or_stray, lift}
+use Rattle.sk_records.specs.Steps.{Record, Step, Goes, Comp, and_then, or_stray, lift}
 use Rattle.sk_records.specs.Heap.{has, role_of, is_variant, read_field, ask, at_root}
 use Rattle.sk_records.specs.Heap as by_variant
 use Rattle.sk_records.specs.Eval.{Calls, Does, tag_of, asking, binary, does_form}
-use Rattle.sk_records_laws.specs.Laws.{AreLowered, IsLowered}
+use Rattle.sk_records_laws.specs.Laws.{TagsAreIntegers}
 use Rattle.sk_records_laws.proofs.Places.{place_holds, holds_bit}
 use Rattle.sk_records_laws.proofs.Related.{kind_at, IsOf, Fits, found, with_heap, Passed, field_at, pairs_at, Inv, Ends, ends_then, ends_at}
 use Rattle.sk_records_laws.proofs.Quiet.{quiet_operator}
 use Rattle.sk_records_laws.proofs.Stores.{HasField, read_ends, plain_read, Rooted}
-use Rattle.sk_records_laws.proofs.Fine.{base, Stands, Here, Free, Runs, Aims, TestEnds, IsRead, IsNumber, Tagged, IsTag, IsTest, Fine, dull, context, parts, done, again, Meant, At, laid}
-use Rattle.sk_records_laws.proofs.Forms.{some_span, none_of, here_first, here_second, choose_ends, pure_ends, quiet_ends, at_base, then_value}
+use Rattle.sk_records_laws.proofs.Fine.{base, Here, Runs, Aims, TestEnds, IsRead, Tagged, IsTag, IsTest, Fine, dull, context, parts, done, again, Meant, At, laid}
+use Rattle.sk_records_laws.proofs.Forms.{some_span, here_first, here_second, choose_ends, pure_ends, quiet_ends, at_base, then_value}
 
 -- Roles
 
@@ -108,6 +107,11 @@ int_equal j n = go (int_eq (pos j) (pos n)) (j == n) refl refl
     go true false e f = let same : pos j ≡ pos n = (Decides-int_eq (pos j) (pos n)).0 e in let one : j ≡ n = cc in absurd (false≢true (sym f ∙ eq-eqb j n one))
     go false true e f = absurd (false≢true (sym e ∙ (Decides-int_eq (pos j) (pos n)).1 (ap pos (eqb-true j n f))))
 
+compared : (z : plain.State) (old number : Value) (j n : ℕ) → old ≡ value.Int (pos j) → number ≡ value.Int (pos n) → plain.Goes (truth (equal old number)) z ≡ plain.Goes (value.Bit (j == n)) z
+compared z old number j n e f =
+    let bits : equal old number ≡ (j == n) = (λ i. equal (e i) (f i)) ∙ equal_ints (pos j) (pos n) ∙ int_equal j n in
+    ap (λ b. plain.Goes (truth b) z) bits
+
 pub same_number : (bounds : Bounds) (n : ℕ) → IsTrue (in_range bounds n) → wrapped bounds.int_bits (pos n) ≡ pos n
 same_number bounds n h =
     let less : n < half bounds.int_bits = grind (arith, nat_tests, h) in
@@ -128,7 +132,7 @@ test_parts (Some x) (Some i) u e = let same : record { slot = x; variant = i } �
     the : (a b : Test) → Some a ≡ Some b → a ≡ b
     the a b is = cc
 
-module _ (types : List Algebraic) (prog : Prog) (bounds : Bounds) (lowered : AreLowered types prog) (known : List Known) (call : eval.Calls) (later : Calls) where
+module _ (types : List Algebraic) (prog : Prog) (bounds : Bounds) (tags_are : TagsAreIntegers types prog) (known : List Known) (call : eval.Calls) (later : Calls) where
   abbrev Now : PExpr → Type 0
   Now = At types prog bounds known call later
 
@@ -264,7 +268,7 @@ module _ (types : List Algebraic) (prog : Prog) (bounds : Bounds) (lowered : Are
               let type : y.0.ty ≡ reference_to d = cc in
               let named : type_named types m.6.name ≡ Some g.kin = sym (ap (option_and_then (λ (z : StructDef). type_named types z.name)) m.7) ∙ g.is in
               let first : slice_get m.6.fields 0 ≡ Some (record { name = m.1; ty = m.8 }) = ap (slice_get m.6.fields) (sym g.first) ∙ m.9.there in
-              let tag = (lowered d.index m.6 g.kin m.7 named).tag (record { name = m.1; ty = m.8 }) first in
+              let tag = tags_are d.index m.6 g.kin (record { name = m.1; ty = m.8 }) m.7 named first in
               (record { it = y.0; there = y.1; of = d; type = type; kin = g.kin; is = g.is }, m.10 ∙ ap Some tag);
         }
 
@@ -387,16 +391,19 @@ module _ (types : List Algebraic) (prog : Prog) (bounds : Bounds) (lowered : Are
           let tag = y.same.variant g.kin (ap (algebraic_of types prog.structs) f.of ∙ g.is) in
           let j : ℕ = tag.0 in
           let read : slice_index_or (heap.record_at z p) 0 blank ≡ value.Int (pos j) = plain_read types prog z p 0 y.fields (value.Int (pos j)) y.there tag.2 in
-          let bits : equal (value.Int (pos j)) (value.Int (pos n)) ≡ (j == n) = equal_ints (pos j) (pos n) ∙ int_equal j n in
-          let first : plain.Goes (truth (equal (slice_index_or (heap.record_at z p) 0 blank) (literal width b.ty n))) z ≡ plain.Goes (value.Bit (j == n)) z =
-          ap (λ w. plain.Goes (truth (equal w (literal width b.ty n))) z) read ∙ ap (λ w. plain.Goes (truth (equal (value.Int (pos j)) w)) z) (number_is scope e m) ∙ ap (λ c. plain.Goes (value.Bit c) z) bits in
+          let first : plain.Goes (truth (equal (slice_index_or (heap.record_at z p) 0 blank) (literal width b.ty n))) z ≡ plain.Goes (value.Bit (j == n)) z = compared z (slice_index_or (heap.record_at z p) 0 blank) (literal width b.ty n) j n read (number_is scope e m) in
           let second : ask span n (value.Place p) (with_heap z h) ≡ Goes (value.Bit (j == n)) (with_heap z h) =
           ap (λ o. or_stray (is_variant n (by_variant.variant_at o)) (with_heap z h)) f.there ∙ ap (λ o. or_stray (is_variant n o) (with_heap z h)) tag.1 in
           let kind : kind_at h p ≡ Some (g.of, Some j) = k.1 ∙ ap (λ c. Some (g.of, c)) (sym f.is ∙ tag.1) in
-          inl (j == n, first, second, λ yes p' e'.
-          let same : value.Place p ≡ value.Place p' = sym is ∙ e' in
-          let one : p ≡ p' = cc in
-          (g.of, ap (kind_at h) (sym one) ∙ kind ∙ ap (λ c. Some (g.of, Some c)) (eqb-true j n yes)))
+          inl (
+            j == n,
+            first,
+            second,
+            λ yes p' e'.
+                let same : value.Place p ≡ value.Place p' = sym is ∙ e' in
+                let one : p ≡ p' = cc in
+                (g.of, ap (kind_at h) (sym one) ∙ kind ∙ ap (λ c. Some (g.of, Some c)) (eqb-true j n yes)),
+          )
 
       asked_test : IsTest types prog bounds (plain_pair op.Eq) (made_pair op.Eq) (mean_pair op.Eq) asked
       asked_test = record {

@@ -1,6 +1,6 @@
 -- What an expression does on both sides, said of what its layer does.
-use Rattle.std.proofs.Common.{◌≡◌, ℕ, zero, suc, pos, List, [], ◌∷◌, ◌++◌, map, length, slice_get, Option, Some, None, Bool, true, false, inl, inr, refl, sym, ap, subst, ◌∙◌}
-use Rattle.std.specs.Prelude.{IsTrue, ◌⊎◌, ◌||◌, slice_index_or}
+use Rattle.std.proofs.Common.{◌≡◌, ℕ, List, [], slice_get, Option, Some, None, Bool, true, false, sym, subst, ◌∙◌}
+use Rattle.std.specs.Prelude.{IsTrue, ◌⊎◌, slice_index_or}
 use Rattle.std.proofs.lemmas.Option.{none-some}
 use Rattle.sk_base.specs.declared.span.Span.{Span}
 use Rattle.sk_base.specs.declared.bounds.Bounds.{Bounds}
@@ -30,11 +30,11 @@ use Rattle.sk_model.specs.Heap as heap
 use Rattle.sk_model.specs.Eval.{literal}
 use Rattle.sk_model.specs.Eval as eval
 use Rattle.sk_model.proofs.Induction.{Each}
-use Rattle.sk_model.proofs.Layers.{expr_layer, layer_field}
+use Rattle.sk_model.proofs.Layers.{expr_layer}
 use Rattle.sk_lower.specs.declared.algebraic.Algebraic.{Algebraic}
 use Rattle.sk_tagged.specs.declared.role.Test.{Test}
 use Rattle.sk_tagged.specs.Tags.{Part, part, eform_part, algebraic_of}
-use Rattle.sk_records.specs.Steps.{Record, State, Step, Goes, Fails, pure}
+use Rattle.sk_records.specs.Steps.{Record, Step, Goes, Fails, pure}
 use Rattle.sk_records.specs.Heap.{read}
 use Rattle.sk_records.specs.Eval.{Calls, Does, does, does_form}
 use Rattle.sk_records_laws.proofs.Related.{Fits, with_heap, Passed, Inv, Ends}

@@ -1,56 +1,47 @@
 -- What forms without fields, calls and tests do on both sides.
-use Rattle.std.proofs.Common.{◌≡◌, ℕ, zero, suc, pos, ℤ, List, [], ◌∷◌, ◌++◌, map, length, slice_get, Option, Some, None, Bool, true, false, inl, inr, refl, sym, ap, subst, ◌∙◌}
-use Rattle.std.specs.Prelude.{◌⊎◌, ◌||◌, ◌&&◌, ◌==◌, slice_index_or, if◌then◌else◌}
-use Rattle.std.specs.List.{list_any}
+use Rattle.std.proofs.Common.{◌≡◌, ℕ, List, [], ◌∷◌, ◌++◌, slice_get, Option, Some, None, Bool, true, false, inl, inr, refl, sym, ap, subst, ◌∙◌}
+use Rattle.std.specs.Prelude.{◌||◌, ◌==◌, slice_index_or, if◌then◌else◌}
 use Rattle.std.proofs.lemmas.Bool.{false≢true, eq-eqb}
 use Rattle.std.proofs.lemmas.Option.{none-some}
 use Rattle.sk_base.specs.declared.span.Span.{Span}
 use Rattle.sk_base.specs.declared.bounds.Bounds.{Bounds}
 use Rattle.sk_base.specs.declared.name.Name.{Name}
 use Rattle.sk_tree.specs.declared.expr.Expr.{Expr}
-use Rattle.sk_prog.specs.declared.ids.StructId.{StructId}
 use Rattle.sk_prog.specs.declared.ids.ConstId.{ConstId}
 use Rattle.sk_prog.specs.declared.ty.Elem.{Elem}
-use Rattle.sk_prog.specs.declared.ty.Elem.TheVariants as elem
 use Rattle.sk_prog.specs.declared.ty.Ty.{Ty}
 use Rattle.sk_prog.specs.declared.ty.Ty.TheVariants as ty
 use Rattle.sk_prog.specs.declared.value.Value.{Value}
 use Rattle.sk_prog.specs.declared.value.Value.TheVariants as value
 use Rattle.sk_prog.specs.declared.expr.UnOp.{UnOp}
-use Rattle.sk_prog.specs.declared.expr.BinOp.{BinOp}
-use Rattle.sk_prog.specs.declared.expr.BinOp.TheVariants as op
 use Rattle.sk_prog.specs.declared.expr.PExpr.{PExpr}
 use Rattle.sk_prog.specs.declared.expr.PEForm.TheOpen as P
 use Rattle.sk_prog.specs.declared.expr.PEForm.TheVariants as eform
 use Rattle.sk_prog.specs.declared.expr.PEForm.TheViews as V
 use Rattle.sk_prog.specs.declared.prog.Prog.{Prog}
 use Rattle.sk_types.specs.declared.scope.Variable.{Variable}
-use Rattle.sk_types.specs.declared.rules.Fit.{Fit}
 use Rattle.sk_types.specs.declared.rules.Fit.TheVariants.{Misfit, Same, Widens, Pads}
-use Rattle.sk_types.specs.Rules.{bit, base_of, element_of, array_of, elem_eq, ty_eq, widens, pads, fit_of, only_if}
+use Rattle.sk_types.specs.Rules.{base_of, element_of, array_of, ty_eq, widens, pads, fit_of}
 use Rattle.sk_types.specs.Scope.{Known}
 use Rattle.sk_types.specs.Sorts.{sliced}
-use Rattle.sk_types.specs.Types.{EachMeans, Means}
 use Rattle.sk_check.proofs.Ats.{both_true, elem_same}
 use Rattle.sk_model.specs.Step as plain
 use Rattle.sk_model.specs.Values.{padded}
 use Rattle.sk_model.specs.Heap.{Location, Variable as AtSlot, blank}
-use Rattle.sk_model.specs.Heap as heap
-use Rattle.sk_model.specs.Operators.{operator, unary_operator, to_int}
+use Rattle.sk_model.specs.Operators.{unary_operator, to_int}
 use Rattle.sk_model.specs.Eval.{literal, const_value, padded_at, indexed, unfilled}
 use Rattle.sk_model.specs.Eval as eval
 use Rattle.sk_model.proofs.Induction.{Each}
-use Rattle.sk_lower.specs.Words.{each}
 use Rattle.sk_lower.specs.declared.algebraic.Algebraic.{Algebraic}
 use Rattle.sk_tagged.specs.declared.role.Test.{Test}
-use Rattle.sk_tagged.specs.Tags.{Part, of_none, of_one, of_two, of_parts, variable_part}
-use Rattle.sk_records.specs.Steps.{Record, State, Step, Goes, Comp, and_then, pure, fail, lift}
+use Rattle.sk_tagged.specs.Tags.{Part, of_none, of_two, variable_part}
+use Rattle.sk_records.specs.Steps.{Record, Step, Goes, Comp, and_then, pure, fail, lift}
 use Rattle.sk_records.specs.Eval.{Calls, Does, choose, add_index}
-use Rattle.sk_records_laws.proofs.Places.{Holds, each_map, holds_int, holds_bit, holds_null, holds_array, holds_padded}
-use Rattle.sk_records_laws.proofs.Related.{Grows, grows_same, grows_on, IsOf, Fits, fits_by, fits_map, fits_grows, with_heap, Inv, After, Ends, ends_from, ends_map, ends_then, ends_at}
-use Rattle.sk_records_laws.proofs.Quiet.{Quiet, quiet_operator, quiet_unary, quiet_to_int, quiet_unfilled, quiet_indexed, quiet_sliced, literal_holds, const_holds, quiet_fits, lift_ends}
+use Rattle.sk_records_laws.proofs.Places.{Holds, each_map, holds_bit, holds_null, holds_padded}
+use Rattle.sk_records_laws.proofs.Related.{Grows, IsOf, Fits, fits_by, fits_map, fits_grows, with_heap, Inv, Ends, ends_then, ends_at}
+use Rattle.sk_records_laws.proofs.Quiet.{Quiet, quiet_unary, quiet_to_int, quiet_unfilled, quiet_indexed, quiet_sliced, literal_holds, const_holds, quiet_fits, lift_ends}
 use Rattle.sk_records_laws.proofs.Stores.{Unheld, Rooted, rooted_grows}
-use Rattle.sk_records_laws.proofs.Fine.{base, Stands, Here, Free, Runs, Aims, IsRead, IsNumber, IsTag, IsTest, Fine, dull, parts, done, again, Meant, At, laid}
+use Rattle.sk_records_laws.proofs.Fine.{base, Stands, Here, Free, IsRead, IsNumber, Fine, dull, parts, done, again, Meant, At, laid}
 
 -- Lists and tests
 
@@ -61,7 +52,7 @@ pub none_of : (ss ts : List Span) → ss ++ ts ≡ [] → (ss ≡ []) × (ts ≡
 none_of [] ts e = (refl, e)
 none_of (s ∷ ss) ts e = absurd (some_span s (ss ++ ts) e)
 
-or_none : (a b : Bool) → (a || b) ≡ false → (a ≡ false) × (b ≡ false)
+pub or_none : (a b : Bool) → (a || b) ≡ false → (a ≡ false) × (b ≡ false)
 or_none true b e = absurd (false≢true (sym e))
 or_none false b e = (refl, e)
 

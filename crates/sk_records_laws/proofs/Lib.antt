@@ -7,3 +7,6 @@ mod Fine
 mod Forms
 mod Fields
 mod Rows
+mod Exprs
+mod Stmts
+mod Calling

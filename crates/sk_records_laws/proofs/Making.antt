@@ -1,10 +1,8 @@
 -- Records made on both sides.
-use Rattle.std.proofs.Common.{◌≡◌, ℕ, zero, suc, pos, List, [], ◌∷◌, ◌++◌, map, length, slice_get, Option, Some, None, Bool, true, false, refl, sym, ap, subst, ◌∙◌}
+use Rattle.std.proofs.Common.{◌≡◌, ℕ, zero, suc, pos, List, [], ◌∷◌, ◌++◌, length, slice_get, Option, Some, None, true, refl, sym, ap, subst, ◌∙◌}
 use Rattle.std.specs.Prelude.{slice_set, option_and_then, option_map, if◌then◌else◌, nat_lt}
-use Rattle.std.proofs.lemmas.List.{length-set}
 use Rattle.std.proofs.lemmas.Bool.{false≢true}
 use Rattle.sk_prog.specs.declared.ids.StructId.{StructId}
-use Rattle.sk_prog.specs.declared.ty.Ty.TheVariants as ty
 use Rattle.sk_prog.specs.declared.ty.Elem.TheVariants as elem
 use Rattle.sk_prog.specs.declared.value.Value.{Value}
 use Rattle.sk_prog.specs.declared.value.Value.TheVariants as value
@@ -23,9 +21,9 @@ use Rattle.sk_tagged.specs.declared.role.Role.TheVariants as role
 use Rattle.sk_tagged.specs.declared.role.Test.{Test}
 use Rattle.sk_tagged.specs.Tags.{algebraic_of, role_in}
 use Rattle.sk_records.specs.Steps.{Record, Goes}
-use Rattle.sk_records.specs.Heap.{has, replaced_at, role_of, with_field, set_field, set_fields, fresh, numbered, variant_made, made, appended, allocate}
+use Rattle.sk_records.specs.Heap.{has, replaced_at, role_of, set_field, set_fields, fresh, variant_made, made, appended, allocate}
 use Rattle.sk_records_laws.proofs.Places.{each_map, holds_int, holds_place}
-use Rattle.sk_records_laws.proofs.Related.{kind_at, Grows, grows_same, grows_more, last_kind, IsOf, Fits, fits_by, fits_grows, with_heap, passed_grows, field_at, Same, same_grows, pairs_grow, pairs_more, pairs_length, Alike, Inv, Ends}
+use Rattle.sk_records_laws.proofs.Related.{kind_at, Grows, grows_more, last_kind, IsOf, Fits, fits_by, fits_grows, with_heap, passed_grows, field_at, Same, same_grows, pairs_grow, pairs_more, pairs_length, Inv, Ends}
 use Rattle.sk_records_laws.proofs.Stores.{zeros_at, zeros_fit, same_set, as_long}
 
 module _ (types : List Algebraic) (prog : Prog) where

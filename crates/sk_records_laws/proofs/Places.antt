@@ -1,7 +1,6 @@
 -- The places of records in a value: what operators give has none, and what is taken from arrays or put into them has no others.
-use Rattle.std.proofs.Common.{◌≡◌, ℕ, zero, suc, ◌+◌, ◌-◌, pos, negsuc, ℤ, List, [], ◌∷◌, ◌++◌, map, length, take, drop, replicate, slice_get, Option, Some, None, Bool, true, false, refl, sym, ap, subst, ◌∙◌}
-use Rattle.std.specs.Prelude.{slice_set, option_and_then, if◌then◌else◌, nat_le}
-use Rattle.sk_base.specs.declared.span.Span.{Span}
+use Rattle.std.proofs.Common.{◌≡◌, ℕ, zero, suc, ◌-◌, pos, negsuc, ℤ, List, [], ◌∷◌, ◌++◌, map, length, take, drop, replicate, slice_get, Option, Some, None, Bool, true, false, refl, sym, ap, subst, ◌∙◌}
+use Rattle.std.specs.Prelude.{slice_set, option_and_then, if◌then◌else◌}
 use Rattle.sk_prog.specs.declared.ty.Elem.{Elem}
 use Rattle.sk_prog.specs.declared.ty.Elem.TheVariants as elem
 use Rattle.sk_prog.specs.declared.ty.Ty.{Ty}
@@ -9,7 +8,7 @@ use Rattle.sk_prog.specs.declared.ty.Ty.TheVariants as ty
 use Rattle.sk_prog.specs.declared.value.Value.{Value}
 use Rattle.sk_prog.specs.declared.value.Value.TheVariants as value
 use Rattle.sk_prog.specs.declared.value.Value.TheOpen as V
-use Rattle.sk_prog.specs.declared.value.Value.TheViews.{roll-Value, out-Value, rolls-Array, out-roll-Value}
+use Rattle.sk_prog.specs.declared.value.Value.TheViews.{roll-Value, rolls-Array, out-roll-Value}
 use Rattle.sk_prog.specs.declared.value.Value.TheFolds.{map-Value, fold-Value, fold-roll-Value, ind-Value}
 use Rattle.sk_model.specs.Values.{zero_of_elem, zero_of, elements_of, elements, element, replaced, is_array, first_is_array, lengthened, padded}
 use Rattle.sk_model.proofs.Induction.{Each}

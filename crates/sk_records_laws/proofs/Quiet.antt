@@ -1,8 +1,7 @@
 -- What asks for no record: operators and the like. They leave the state as it is, and give no references but those that they were given.
-use Rattle.std.proofs.Common.{◌≡◌, ℕ, zero, suc, ◌+◌, pos, negsuc, ℤ, List, [], ◌∷◌, map, length, take, drop, Option, Some, None, Bool, true, false, inl, inr, refl, sym, ap, subst, ◌∙◌}
-use Rattle.std.specs.Prelude.{◌⊎◌, if◌then◌else◌, nat_le, slice_get}
+use Rattle.std.proofs.Common.{◌≡◌, ℕ, zero, suc, ◌+◌, pos, negsuc, ℤ, List, [], ◌∷◌, map, length, take, drop, Option, Some, None, Bool, true, false, inl, inr, refl, sym, subst}
+use Rattle.std.specs.Prelude.{◌⊎◌, if◌then◌else◌, nat_le}
 use Rattle.sk_base.specs.declared.span.Span.{Span}
-use Rattle.sk_prog.specs.declared.ids.StructId.{StructId}
 use Rattle.sk_prog.specs.declared.ty.Elem.{Elem}
 use Rattle.sk_prog.specs.declared.ty.Elem.TheVariants as elem
 use Rattle.sk_prog.specs.declared.ty.Ty.{Ty}
@@ -18,12 +17,12 @@ use Rattle.sk_prog.specs.declared.prog.Prog.{Prog}
 use Rattle.sk_types.specs.declared.scope.Variable.{Variable}
 use Rattle.sk_model.specs.Step as plain
 use Rattle.sk_model.specs.Values.{truth, elements, element, padded}
-use Rattle.sk_model.specs.Operators.{array_of, Operand, Number, OneBit, Bits, Reference, operand, divided, number_operator, bit_operator, bits_operator, shift, on_operands, operator, on_operand, unary_operator, to_int}
+use Rattle.sk_model.specs.Operators.{array_of, Operand, Number, OneBit, Bits, operand, divided, number_operator, bit_operator, bits_operator, shift, on_operands, operator, on_operand, unary_operator, to_int}
 use Rattle.sk_model.specs.Eval.{number_at, literal, const_value, or_fail, indexed, sliced, unfilled}
 use Rattle.sk_model.proofs.Induction.{Each}
 use Rattle.sk_lower.specs.declared.algebraic.Algebraic.{Algebraic}
 use Rattle.sk_tagged.specs.declared.role.Test.{Test}
-use Rattle.sk_records.specs.Steps.{Record, State, Step, lifted, bare, lift}
+use Rattle.sk_records.specs.Steps.{Record, lifted, bare, lift}
 use Rattle.sk_records_laws.proofs.Places.{Holds, places, holds_int, holds_bit, holds_null, holds_array, holds_element, holds_slice, holds_padded}
 use Rattle.sk_records_laws.proofs.Related.{IsOf, Fits, with_heap, Inv, Ends, ends_at}
 

@@ -1,9 +1,8 @@
 -- What lists of values, calls and new records do on both sides.
-use Rattle.std.proofs.Common.{◌≡◌, ℕ, zero, suc, pos, List, [], ◌∷◌, ◌++◌, map, length, slice_get, Option, Some, None, Bool, true, false, inl, inr, refl, sym, ap, subst, ◌∙◌}
-use Rattle.std.specs.Prelude.{◌⊎◌, ◌||◌, ◌&&◌, ◌==◌, nat_lt, slice_index_or, option_and_then, if◌then◌else◌}
+use Rattle.std.proofs.Common.{◌≡◌, ℕ, zero, suc, pos, List, [], ◌∷◌, map, length, slice_get, Option, Some, None, Bool, true, false, inl, refl, sym, ap, subst, ◌∙◌}
+use Rattle.std.specs.Prelude.{◌&&◌, ◌==◌, nat_lt, slice_index_or, option_and_then, if◌then◌else◌}
 use Rattle.std.specs.List.{list_any, list_all}
 use Rattle.std.proofs.lemmas.Bool.{false≢true, eqb-true}
-use Rattle.std.proofs.lemmas.Option.{none-some}
 use Rattle.sk_base.specs.declared.span.Span.{Span}
 use Rattle.sk_base.specs.declared.bounds.Bounds.{Bounds}
 use Rattle.sk_tree.specs.declared.expr.Expr.{Expr}
@@ -27,7 +26,7 @@ use Rattle.sk_prog.specs.declared.prog.ParamDef.{ParamDef}
 use Rattle.sk_prog.specs.declared.prog.Fun.{Fun}
 use Rattle.sk_prog.specs.declared.prog.Prog.{Prog}
 use Rattle.sk_types.specs.declared.scope.Variable.{Variable}
-use Rattle.sk_types.specs.Rules.{int, base_of, element_of}
+use Rattle.sk_types.specs.Rules.{int, base_of}
 use Rattle.sk_types.specs.Scope.{Known, Signature, signature_of}
 use Rattle.sk_types.specs.Types.{EFormRule, ExprRule, FieldRule, EachMeans, ArgumentsMean, FieldsMean, IsField, Means, eform_means, expr_means, field_means}
 use Rattle.sk_types.proofs.Layers.{FieldMeans, rule}
@@ -46,16 +45,16 @@ use Rattle.sk_tagged.specs.declared.role.Role.TheVariants as role
 use Rattle.sk_tagged.specs.declared.role.Test.{Test}
 use Rattle.sk_tagged.specs.Tags.{Part, of_parts, call_part, new_part, eform_part, passes_to, unless, new_fits, sets_only, made_variant, variant_numbered, is_of, role_in, algebraic_of, type_named}
 use Rattle.sk_tagged.specs.Tags as tags
-use Rattle.sk_records.specs.Steps.{Record, State, Step, Goes, Comp, and_then, pure}
+use Rattle.sk_records.specs.Steps.{Record, Step, Goes, Comp, and_then, pure}
 use Rattle.sk_records.specs.Heap.{has, role_of, allocate}
 use Rattle.sk_records.specs.Eval.{Calls, Does, in_order, fields_in_order, ref_args, copy_back, does_form}
-use Rattle.sk_records_laws.specs.Laws.{AreLowered}
-use Rattle.sk_records_laws.proofs.Places.{Holds, holds_array, holds_padded, holds_int}
-use Rattle.sk_records_laws.proofs.Related.{Grows, grows_same, grows_on, IsOf, Fits, fits_by, fits_map, fits_grows, with_heap, StepsAlike, steps_map, Passed, passed_grows, field_at, Alike, Inv, After, Ends, ends_then, ends_at}
+use Rattle.sk_records_laws.specs.Laws.{TagsAreIntegers}
+use Rattle.sk_records_laws.proofs.Places.{holds_array, holds_int}
+use Rattle.sk_records_laws.proofs.Related.{Grows, IsOf, Fits, fits_by, fits_grows, with_heap, StepsAlike, steps_map, Passed, passed_grows, field_at, Alike, Inv, After, Ends, ends_then, ends_at}
 use Rattle.sk_records_laws.proofs.Stores.{Rooted, store_ends}
 use Rattle.sk_records_laws.proofs.Making.{Settable, made_plain, made_variant as made_of_variant}
-use Rattle.sk_records_laws.proofs.Fine.{base, Stands, Here, Free, Runs, Aims, Fine, dull, context, parts, done, again, Meant, At, laid, parts_x, done_x, again_x}
-use Rattle.sk_records_laws.proofs.Forms.{none_of, each_or, then_value, pads_fit, element_base}
+use Rattle.sk_records_laws.proofs.Fine.{base, Stands, Here, Runs, Fine, dull, context, parts, done, again, Meant, At, laid, parts_x, done_x, again_x}
+use Rattle.sk_records_laws.proofs.Forms.{none_of, each_or, pads_fit, element_base}
 use Rattle.sk_records_laws.proofs.Fields.{unless_keeps, same_number}
 
 -- Calls
@@ -131,7 +130,7 @@ module _ (types : List Algebraic) (prog : Prog) where
       go None is = fits_by k (base_of r) blank (λ d. holds_int (IsOf k d) (pos 0))
       go (Some v) is = g.result r v (sym e) is
 
-module _ (types : List Algebraic) (prog : Prog) (bounds : Bounds) (lowered : AreLowered types prog) (known : List Known) (call : eval.Calls) (later : Calls) (calls : CallsAlike types prog call later) where
+module _ (types : List Algebraic) (prog : Prog) (bounds : Bounds) (tags_are : TagsAreIntegers types prog) (known : List Known) (call : eval.Calls) (later : Calls) (calls : CallsAlike types prog call later) where
   abbrev Now : PExpr → Type 0
   Now = At types prog bounds known call later
 
@@ -244,7 +243,7 @@ module _ (types : List Algebraic) (prog : Prog) (bounds : Bounds) (lowered : Are
     abbrev M : List Variable → Expr → Type 0
     M scope e = rule (context types prog bounds known call later) scope (P.Call f es) t e
 
-    call_runs : (scope : List Variable) (us : List Test) → Here (call_part prog f (map as_part es)) M scope us → Runs types prog bounds t (eval.does_form prog width call {X = Option Ty → eval.Does} (P.Call f (map fact es)) t) (does_form types prog width later {X = Option Ty → Does} (P.Call f (map fact' es)) t) scope us
+    call_runs : (scope : List Variable) (us : List Test) → Here (call_part types prog f (map as_part es)) M scope us → Runs types prog bounds t (eval.does_form prog width call {X = Option Ty → eval.Does} (P.Call f (map fact es)) t) (does_form types prog width later {X = Option Ty → Does} (P.Call f (map fact' es)) t) scope us
     call_runs scope us w span z h i =
         let m = w.means in
         let g = funs_at prog.funs f.index m.3 m.4.there in
@@ -382,7 +381,7 @@ module _ (types : List Algebraic) (prog : Prog) (bounds : Bounds) (lowered : Are
       let field : FieldDef = record { name = n.name; ty = y.0 } in
       let at_first : slice_get sd.fields 0 ≡ Some field = ap (slice_get sd.fields) (sym g.tag) ∙ y.1.there in
       let named : type_named types sd.name ≡ Some a = sym (ap (option_and_then (λ (z : StructDef). type_named types z.name)) there) ∙ is in
-      let tag : y.0 ≡ int = (lowered d.index sd a there named).tag field at_first in
+      let tag : y.0 ≡ int = tags_are d.index sd a field there named at_first in
       let number : literal width x.value.ty g.number ≡ value.Int (pos g.number) = ap (λ o. literal width o g.number) (y.3 ∙ ap Some tag) ∙ ap value.Int (same_number bounds g.number (r.small scope n.value y.2)) in
       let others = only_has d a g.number is xs (subst (λ o. sets_only a o (map keyed_part xs) ≡ true) g.is e) in
       let behind = set_ends scope us span d sd there (Some g.number) xs ns q.1 m.1 others (rest (as_part x.value) ps scope us w) z h i in

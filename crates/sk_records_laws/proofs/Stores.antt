@@ -1,9 +1,8 @@
 -- Variables and fields, read and written on both sides.
-use Rattle.std.proofs.Common.{◌≡◌, ℕ, zero, suc, pos, ℤ, List, [], ◌∷◌, ◌++◌, map, length, slice_get, Option, Some, None, Bool, true, false, inl, inr, refl, sym, ap, subst, ◌∙◌, arith}
+use Rattle.std.proofs.Common.{◌≡◌, ℕ, zero, suc, ℤ, List, [], ◌∷◌, map, length, slice_get, Option, Some, None, Bool, true, false, inl, inr, refl, sym, ap, subst, ◌∙◌, arith}
 use Rattle.std.specs.Prelude.{◌⊎◌, slice_set, slice_index_or, option_and_then, option_map, if◌then◌else◌, ◌==◌}
 use Rattle.std.proofs.lemmas.List.{length-set}
 use Rattle.std.proofs.lemmas.Bool.{false≢true, eq-eqb, eqb-true}
-use Rattle.std.proofs.lemmas.Bool.Decides.{nat_tests}
 use Rattle.std.proofs.lemmas.Option.{get_or_from_slice_get}
 use Rattle.sk_base.specs.declared.span.Span.{Span}
 use Rattle.sk_prog.specs.declared.ids.StructId.{StructId}
@@ -21,14 +20,12 @@ use Rattle.sk_model.specs.Heap.{blank, written, zeros_of, with_fields, Root, Var
 use Rattle.sk_model.specs.Heap as heap
 use Rattle.sk_model.proofs.Induction.{Each}
 use Rattle.sk_lower.specs.declared.algebraic.Algebraic.{Algebraic}
-use Rattle.sk_tagged.specs.declared.role.Role.{Role}
-use Rattle.sk_tagged.specs.declared.role.Role.TheVariants as role
 use Rattle.sk_tagged.specs.declared.role.Test.{Test}
 use Rattle.sk_tagged.specs.Tags.{algebraic_of, role_in}
-use Rattle.sk_records.specs.Steps.{Record, State, Step, Goes, Comp, and_then, or_stray}
-use Rattle.sk_records.specs.Heap.{has, value_at, role_of, read_field, write_field, replaced_at, with_field, set_field, set_fields, put, fresh, write_whole, store}
-use Rattle.sk_records_laws.proofs.Places.{Holds, each_map, holds_zero, holds_int, holds_replaced, place_holds}
-use Rattle.sk_records_laws.proofs.Related.{kind_of, kind_at, Grows, grows_same, grows_set, IsOf, Fits, fits_by, fits_map, fits_both, fits_grows, Found, found, with_heap, Passed, passed_grows, field_at, Same, same_grows, Pairs, pairs_grow, pairs_set, Twin, pairs_at, Alike, Inv, After, Ends, ends_at}
+use Rattle.sk_records.specs.Steps.{Record, Step, Goes, and_then, or_stray}
+use Rattle.sk_records.specs.Heap.{has, value_at, role_of, read_field, write_field, replaced_at, with_field, put, write_whole, store}
+use Rattle.sk_records_laws.proofs.Places.{holds_zero, holds_replaced}
+use Rattle.sk_records_laws.proofs.Related.{kind_of, kind_at, Grows, grows_same, grows_set, IsOf, Fits, fits_by, fits_both, fits_grows, found, with_heap, Passed, passed_grows, field_at, Same, same_grows, pairs_grow, pairs_set, pairs_at, Inv, Ends, ends_at}
 
 -- Lists
 
