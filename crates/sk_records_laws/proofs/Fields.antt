@@ -139,11 +139,12 @@ module _ (types : List Algebraic) (prog : Prog) (bounds : Bounds) (tags_are : Ta
   abbrev width : ℕ
   width = bounds.int_bits
 
-  abbrev fact : PExpr → eval.Does
-  fact = done types prog bounds known call later
+  -- what an expression does in a run, and with records by their variants
+  abbrev does_plainly : PExpr → eval.Does
+  does_plainly = done types prog bounds known call later
 
-  abbrev fact' : PExpr → Does
-  fact' = again types prog bounds known call later
+  abbrev does_by_variant : PExpr → Does
+  does_by_variant = again types prog bounds known call later
 
   abbrev as_part : PExpr → Part
   as_part = parts types prog bounds known call later
@@ -164,10 +165,10 @@ module _ (types : List Algebraic) (prog : Prog) (bounds : Bounds) (tags_are : Ta
   mean_member a d k t scope e = rule (context types prog bounds known call later) scope (P.Member a d k) t e
 
   abbrev plain_member : PExpr → StructId → ℕ → Option Ty → eval.Does
-  plain_member a d k t = eval.does_form prog width call {X = Option Ty → eval.Does} (P.Member (fact a) d k) t
+  plain_member a d k t = eval.does_form prog width call {X = Option Ty → eval.Does} (P.Member (does_plainly a) d k) t
 
   abbrev made_member : PExpr → StructId → ℕ → Option Ty → Role → Does
-  made_member a d k t w = record (does_form types prog width later {X = Option Ty → Does} (P.Member (fact' a) d k) t) { tag = tag_of w (fact' a) }
+  made_member a d k t w = record (does_form types prog width later {X = Option Ty → Does} (P.Member (does_by_variant a) d k) t) { tag = tag_of w (does_by_variant a) }
 
   free_field : (h : List Record) (d : StructId) (k : ℕ) (v : Value) → role_of types prog d k ≡ role.Free → Fits h (elem.Reference d) v → HasField types prog h d k v
   free_field h d k v is fit p e = let f = place_holds (IsOf h d) p (subst (Fits h (elem.Reference d)) e fit) in (f.0, f.1, ap (has f.0) is)
@@ -216,7 +217,7 @@ module _ (types : List Algebraic) (prog : Prog) (bounds : Bounds) (tags_are : Ta
 
     record Tested (scope : List Variable) (us : List Test) (z : plain.State) (h : List Record) : Type 0 where
       slot : ℕ
-      reads : IsRead types prog bounds a.ty (fact a) (fact' a) (means a) slot
+      reads : IsRead types prog bounds a.ty (does_plainly a) (does_by_variant a) (means a) slot
       has_it : HasField types prog h d k (slice_index_or z.slots slot blank)
 
     test_of_slot : (i : ℕ) → role_of types prog d k ≡ role.Of i → (scope : List Variable) (us : List Test) (e : Expr) → M scope e → (o : Option ℕ) → (as_part a).slot ≡ o → is_tested o i us ≡ true → (z : plain.State) (h : List Record) → Inv types prog scope us z h → Tested scope us z h
@@ -240,7 +241,7 @@ module _ (types : List Algebraic) (prog : Prog) (bounds : Bounds) (tags_are : Ta
         let f = there scope w.tree w.means in
         let v : Value = slice_index_or z.slots g.slot blank in
         let end = at_base types prog bounds (base_of f.0.ty) (base t) scope us h _ _ f.2 (read_ends types prog scope us span z h v d k f.0 inv g.has_it f.1) in
-        subst (λ (m : plain.Comp Value). Yields (base t) scope us h (plain.and_then (m z) (heap.read_field span k)) (and_then ((fact' a).value span (with_heap z h)) (read_field span k))) (sym (g.reads.first span))
+        subst (λ (m : plain.Comp Value). Yields (base t) scope us h (plain.and_then (m z) (heap.read_field span k)) (and_then ((does_by_variant a).value span (with_heap z h)) (read_field span k))) (sym (g.reads.first span))
         (subst (λ (n : Comp Value). Yields (base t) scope us h (heap.read_field span k v z) (and_then (n (with_heap z h)) (read_field span k))) (sym (g.reads.second span)) end)
 
     own_aims : (i : ℕ) → role_of types prog d k ≡ role.Of i → (scope : List Variable) (us : List Test) → Kept i scope us → Aims types prog bounds t (plain_member a d k t) (made_member a d k t (role.Of i)) scope us
@@ -250,7 +251,7 @@ module _ (types : List Algebraic) (prog : Prog) (bounds : Bounds) (tags_are : Ta
         let v : Value = slice_index_or z.slots g.slot blank in
         let R : Location → List Record → Type 0 = λ l j. Rooted types prog scope us (base t) j l.root in
         let end = ends_at types prog (λ (l : Location). scope) us R (aimed v) z h inv (d, f.0, f.1, f.2, g.has_it) in
-        subst (λ (m : plain.Comp Value). Ends types prog (λ (l : Location). scope) us h R (plain.and_then (m z) (λ v. heap.at_root (Field v k))) (and_then ((fact' a).value span (with_heap z h)) (λ v. at_root (Field v k)))) (sym (g.reads.first span))
+        subst (λ (m : plain.Comp Value). Ends types prog (λ (l : Location). scope) us h R (plain.and_then (m z) (λ v. heap.at_root (Field v k))) (and_then ((does_by_variant a).value span (with_heap z h)) (λ v. at_root (Field v k)))) (sym (g.reads.first span))
         (subst (λ (n : Comp Value). Ends types prog (λ (l : Location). scope) us h R (plain.Goes (aimed v) z) (and_then (n (with_heap z h)) (λ v. at_root (Field v k)))) (sym (g.reads.second span)) end)
 
     -- the tag
@@ -297,10 +298,10 @@ module _ (types : List Algebraic) (prog : Prog) (bounds : Bounds) (tags_are : Ta
     pair o = record (of_two (as_part a) (as_part b)) { test = test_of o (as_part a) (as_part b) }
 
     abbrev plain_pair : BinOp → eval.Does
-    plain_pair o = eval.does_form prog width call {X = Option Ty → eval.Does} (P.Binary o (fact a) (fact b)) t
+    plain_pair o = eval.does_form prog width call {X = Option Ty → eval.Does} (P.Binary o (does_plainly a) (does_plainly b)) t
 
     abbrev made_pair : BinOp → Does
-    made_pair o = does_form types prog width later {X = Option Ty → Does} (P.Binary o (fact' a) (fact' b)) t
+    made_pair o = does_form types prog width later {X = Option Ty → Does} (P.Binary o (does_by_variant a) (does_by_variant b)) t
 
     abbrev mean_pair : BinOp → List Variable → Expr → Type 0
     mean_pair o scope e = rule (context types prog bounds known call later) scope (P.Binary o a b) t e
@@ -315,7 +316,7 @@ module _ (types : List Algebraic) (prog : Prog) (bounds : Bounds) (tags_are : Ta
     second_here o scope us w = here_second (as_part a) (as_part b) (λ scope e. Unit {0}) (means b) scope us w.means.2 w.means.6 (record { tree = w.tree; means = tt; stands = w.stands; passes = w.passes; keeps = w.keeps })
 
     both_run : (o : BinOp) (scope : List Variable) (us : List Test) → Pair o scope us → (span : Span) (z : plain.State) (h : List Record) → Inv types prog scope us z h
-        → Yields (base t) scope us h (plain.and_then ((fact a).value span z) (λ v y. plain.and_then ((fact b).value span y) (operator width span o v))) (and_then ((fact' a).value span (with_heap z h)) (λ v y. and_then ((fact' b).value span y) (λ x. lift (operator width span o v x))))
+        → Yields (base t) scope us h (plain.and_then ((does_plainly a).value span z) (λ v y. plain.and_then ((does_plainly b).value span y) (operator width span o v))) (and_then ((does_by_variant a).value span (with_heap z h)) (λ v y. and_then ((does_by_variant b).value span y) (λ x. lift (operator width span o v x))))
     both_run o scope us w span z h i =
         then_value types prog bounds (base a.ty) (base t) scope us span z h _ _ _ _ (q.runs scope us (first_here o scope us w) span z h i)
         (λ v y j k g f. then_value types prog bounds (base b.ty) (base t) scope us span y j _ _ _ _ (r.runs scope us (second_here o scope us w) span y j k)
@@ -350,8 +351,8 @@ module _ (types : List Algebraic) (prog : Prog) (bounds : Bounds) (tags_are : Ta
     equal_runs : (scope : List Variable) (us : List Test) → Pair op.Eq scope us → Runs types prog bounds t (plain_pair op.Eq) (made_pair op.Eq) scope us
     equal_runs scope us w span z h i = go (as_part a).tag refl
       where
-        go : (o : Option ℕ) → (as_part a).tag ≡ o → Yields (base t) scope us h ((plain_pair op.Eq).value span z) (asking (fact' a).tag (fact' b).number span (binary width span op.Eq ((fact' a).value span) ((fact' b).value span)) (with_heap z h))
-        go None e = subst (λ o. Yields (base t) scope us h ((plain_pair op.Eq).value span z) (asking o (fact' b).number span (binary width span op.Eq ((fact' a).value span) ((fact' b).value span)) (with_heap z h))) (sym (q.tag ∙ e)) (both_run op.Eq scope us w span z h i)
+        go : (o : Option ℕ) → (as_part a).tag ≡ o → Yields (base t) scope us h ((plain_pair op.Eq).value span z) (asking (does_by_variant a).tag (does_by_variant b).number span (binary width span op.Eq ((does_by_variant a).value span) ((does_by_variant b).value span)) (with_heap z h))
+        go None e = subst (λ o. Yields (base t) scope us h ((plain_pair op.Eq).value span z) (asking o (does_by_variant b).number span (binary width span op.Eq ((does_by_variant a).value span) ((does_by_variant b).value span)) (with_heap z h))) (sym (q.tag ∙ e)) (both_run op.Eq scope us w span z h i)
         go (Some x) e = absurd ((q.asks x e).alone us (first_here op.Eq scope us w).keeps)
 
     module _ (x n : ℕ) (ea : (as_part a).tag ≡ Some x) (eb : (as_part b).number ≡ Some n) where
@@ -370,11 +371,11 @@ module _ (types : List Algebraic) (prog : Prog) (bounds : Bounds) (tags_are : Ta
 
       plainly : (span : Span) (z : plain.State) → (plain_pair op.Eq).value span z ≡ plain.and_then (heap.read_field span 0 (slice_index_or z.slots x blank) z) (λ v. plain.pure (truth (equal v (literal width b.ty n))))
       plainly span z =
-          ap (λ m. plain.and_then m (λ v y. plain.and_then ((fact b).value span y) (operator width span op.Eq v))) ((q.asks x ea).first span z)
+          ap (λ m. plain.and_then m (λ v y. plain.and_then ((does_plainly b).value span y) (operator width span op.Eq v))) ((q.asks x ea).first span z)
           ∙ ap (λ (g : plain.Comp Value). plain.and_then (heap.read_field span 0 (slice_index_or z.slots x blank) z) (λ v y. plain.and_then (g y) (operator width span op.Eq v))) ((r.says n eb).first span)
 
       asks_it : (span : Span) (z : plain.State) (h : List Record) → (made_pair op.Eq).value span (with_heap z h) ≡ ask span n (slice_index_or z.slots x blank) (with_heap z h)
-      asks_it span z h = λ j. asking ((q.tag ∙ ea) j) ((r.number ∙ eb) j) span (binary width span op.Eq ((fact' a).value span) ((fact' b).value span)) (with_heap z h)
+      asks_it span z h = λ j. asking ((q.tag ∙ ea) j) ((r.number ∙ eb) j) span (binary width span op.Eq ((does_by_variant a).value span) ((does_by_variant b).value span)) (with_heap z h)
 
       at_value : (scope : List Variable) (e : Expr) (us : List Test) → mean_pair op.Eq scope e → (span : Span) (z : plain.State) (h : List Record) → Inv types prog scope us z h → (v : Value) → slice_index_or z.slots x blank ≡ v
           → TestEnds asked span z h (plain.and_then (heap.read_field span 0 v z) (λ w. plain.pure (truth (equal w (literal width b.ty n))))) (ask span n v (with_heap z h))

@@ -149,11 +149,12 @@ module _ (types : List Algebraic) (prog : Prog) (bounds : Bounds) where
     abbrev width : ℕ
     width = bounds.int_bits
 
-    abbrev fact : PExpr → eval.Does
-    fact = done types prog bounds known call later
+    -- what an expression does in a run, and with records by their variants
+    abbrev does_plainly : PExpr → eval.Does
+    does_plainly = done types prog bounds known call later
 
-    abbrev fact' : PExpr → Does
-    fact' = again types prog bounds known call later
+    abbrev does_by_variant : PExpr → Does
+    does_by_variant = again types prog bounds known call later
 
     abbrev as_part : PExpr → Part
     as_part = parts types prog bounds known call later

@@ -10,3 +10,4 @@ mod Rows
 mod Exprs
 mod Stmts
 mod Calling
+mod Computed

@@ -137,11 +137,12 @@ module _ (types : List Algebraic) (prog : Prog) (bounds : Bounds) (tags_are : Ta
   abbrev width : ℕ
   width = bounds.int_bits
 
-  abbrev fact : PExpr → eval.Does
-  fact = done types prog bounds known call later
+  -- what an expression does in a run, and with records by their variants
+  abbrev does_plainly : PExpr → eval.Does
+  does_plainly = done types prog bounds known call later
 
-  abbrev fact' : PExpr → Does
-  fact' = again types prog bounds known call later
+  abbrev does_by_variant : PExpr → Does
+  does_by_variant = again types prog bounds known call later
 
   abbrev as_part : PExpr → Part
   as_part = parts types prog bounds known call later
@@ -174,7 +175,7 @@ module _ (types : List Algebraic) (prog : Prog) (bounds : Bounds) (tags_are : Ta
   -- Braces
 
   row_ends : (scope : List Variable) (us : List Test) (span : Span) (z : Ty) (es : List PExpr) (xs : List Expr) → Each Now es → EachMeans (λ y. y) (MeansHere scope) z es xs → All (map as_part es) scope us → (s : plain.State) (h : List Record) → Inv types prog scope us s h
-      → Ends types prog (λ (vs : List Value). scope) us h (λ vs k. Each (Fits k (base_of z)) vs) (eval.in_order span (map fact es) s) (in_order span (map fact' es) (with_heap s h))
+      → Ends types prog (λ (vs : List Value). scope) us h (λ vs k. Each (Fits k (base_of z)) vs) (eval.in_order span (map does_plainly es) s) (in_order span (map does_by_variant es) (with_heap s h))
   row_ends scope us span z [] xs q m w s h i = ends_at types prog (λ (vs : List Value). scope) us (λ vs k. Each (Fits k (base_of z)) vs) [] s h i tt
   row_ends scope us span z (e ∷ es) [] q m w s h i = absurd m
   row_ends scope us span z (e ∷ es) (x ∷ xs) q m w s h i =
@@ -200,7 +201,7 @@ module _ (types : List Algebraic) (prog : Prog) (bounds : Bounds) (tags_are : Ta
   -- Arguments
 
   args_ends : (scope : List Variable) (us : List Test) (span : Span) (ds : List ParamDef) (es : List PExpr) (xs : List Expr) → Each Now es → ArgumentsMean (λ y. y) (MeansHere scope) scope ds es xs → All (map as_part es) scope us → (s : plain.State) (h : List Record) → Inv types prog scope us s h
-      → Ends types prog (λ (vs : List Value). scope) us h (λ vs k. ArgsAre k ds vs) (eval.in_order span (map fact es) s) (in_order span (map fact' es) (with_heap s h))
+      → Ends types prog (λ (vs : List Value). scope) us h (λ vs k. ArgsAre k ds vs) (eval.in_order span (map does_plainly es) s) (in_order span (map does_by_variant es) (with_heap s h))
   args_ends scope us span [] [] [] q m w s h i = ends_at types prog (λ (vs : List Value). scope) us (λ vs k. ArgsAre k [] vs) [] s h i tt
   args_ends scope us span [] [] (x ∷ xs) q m w s h i = absurd m
   args_ends scope us span [] (e ∷ es) xs q m w s h i = absurd m
@@ -214,7 +215,7 @@ module _ (types : List Algebraic) (prog : Prog) (bounds : Bounds) (tags_are : Ta
   -- Values copied back
 
   abbrev Copies : List Variable → List Test → Span → List ParamDef → List PExpr → plain.State → List Record → List Value → Type 0
-  Copies scope us span ds es s h vs = Ends types prog (λ (u : Unit {0}). scope) us h (λ u k. Unit {0}) (eval.copy_back span (eval.ref_args ds (map fact es)) vs s) (copy_back span (ref_args ds (map fact' es)) vs (with_heap s h))
+  Copies scope us span ds es s h vs = Ends types prog (λ (u : Unit {0}). scope) us h (λ u k. Unit {0}) (eval.copy_back span (eval.ref_args ds (map does_plainly es)) vs s) (copy_back span (ref_args ds (map does_by_variant es)) vs (with_heap s h))
 
   nothing_copied : (scope : List Variable) (us : List Test) (s : plain.State) (h : List Record) → Inv types prog scope us s h → Ends types prog (λ (u : Unit {0}). scope) us h (λ u k. Unit {0}) (plain.Goes tt s) (Goes tt (with_heap s h))
   nothing_copied scope us s h i = ends_at types prog (λ (u : Unit {0}). scope) us (λ u k. Unit {0}) tt s h i tt
@@ -230,7 +231,7 @@ module _ (types : List Algebraic) (prog : Prog) (bounds : Bounds) (tags_are : Ta
       go d.by_ref split.0 vs f (λ rs y j k g. copy_ends scope us span ds es xs q.1 m.3 (rest (as_part e) (map as_part es) scope us w) split.1 rs y j k g)
     where
       go : (b : Bool) → Each (λ (u : Test). (b && (as_part e).may_be u.slot) ≡ false) us → (vs : List Value) → AllFit h (if b then d.ty ∷ ref_types ds else ref_types ds) vs → ((rs : List Value) (y : plain.State) (j : List Record) → Inv types prog scope us y j → AllFit j (ref_types ds) rs → Copies scope us span ds es y j rs)
-          → Ends types prog (λ (u : Unit {0}). scope) us h (λ u k. Unit {0}) (eval.copy_back span (if b then fact e ∷ eval.ref_args ds (map fact es) else eval.ref_args ds (map fact es)) vs s) (copy_back span (if b then fact' e ∷ ref_args ds (map fact' es) else ref_args ds (map fact' es)) vs (with_heap s h))
+          → Ends types prog (λ (u : Unit {0}). scope) us h (λ u k. Unit {0}) (eval.copy_back span (if b then does_plainly e ∷ eval.ref_args ds (map does_plainly es) else eval.ref_args ds (map does_plainly es)) vs s) (copy_back span (if b then does_by_variant e ∷ ref_args ds (map does_by_variant es) else ref_args ds (map does_by_variant es)) vs (with_heap s h))
       go false free vs f more = more vs s h i f
       go true free [] f more = nothing_copied scope us s h i
       go true free (v ∷ vs) f more =
@@ -243,7 +244,7 @@ module _ (types : List Algebraic) (prog : Prog) (bounds : Bounds) (tags_are : Ta
     abbrev M : List Variable → Expr → Type 0
     M scope e = rule (context types prog bounds known call later) scope (P.Call f es) t e
 
-    call_runs : (scope : List Variable) (us : List Test) → Here (call_part types prog f (map as_part es)) M scope us → Runs types prog bounds t (eval.does_form prog width call {X = Option Ty → eval.Does} (P.Call f (map fact es)) t) (does_form types prog width later {X = Option Ty → Does} (P.Call f (map fact' es)) t) scope us
+    call_runs : (scope : List Variable) (us : List Test) → Here (call_part types prog f (map as_part es)) M scope us → Runs types prog bounds t (eval.does_form prog width call {X = Option Ty → eval.Does} (P.Call f (map does_plainly es)) t) (does_form types prog width later {X = Option Ty → Does} (P.Call f (map does_by_variant es)) t) scope us
     call_runs scope us w span z h i =
         let m = w.means in
         let g = funs_at prog.funs f.index m.3 m.4.there in
@@ -257,7 +258,7 @@ module _ (types : List Algebraic) (prog : Prog) (bounds : Bounds) (tags_are : Ta
         (λ vs y j k g1 f1. ends_then types prog (λ (c : Called). scope) (λ (v : Value). scope) us j (λ c k. CallGives types prog fun c k) (λ v k. Fits k (base t) v) _ _ _ _
         (steps_map (CallEnds types prog fun y j) (λ c x o. After types prog scope us j (CallGives types prog fun c) x o) (λ c x o e. record { inv = call_inv types prog scope us fun y x j o c k e; grows = e.grows; gives = record { result = e.result; refs = e.refs } }) _ _ (calls span f.index fun vs y j g.1 k.alike (args_fit j fun.params vs f1)))
         (λ c x o n g2 f2. ends_then types prog (λ (u : Unit {0}). scope) (λ (v : Value). scope) us o (λ u k. Unit {0}) (λ v k. Fits k (base t) v) _ _ _ _
-        (subst (λ (p : Option Fun). Ends types prog (λ (u : Unit {0}). scope) us o (λ u k. Unit {0}) (eval.copy_back span (eval.ref_args (eval.params_of p) (map fact es)) c.refs x) (copy_back span (ref_args (eval.params_of p) (map fact' es)) c.refs (with_heap x o))) (sym g.1) (copy_ends scope us span fun.params es m.1 q args all kept c.refs x o n f2.refs))
+        (subst (λ (p : Option Fun). Ends types prog (λ (u : Unit {0}). scope) us o (λ u k. Unit {0}) (eval.copy_back span (eval.ref_args (eval.params_of p) (map does_plainly es)) c.refs x) (copy_back span (ref_args (eval.params_of p) (map does_by_variant es)) c.refs (with_heap x o))) (sym g.1) (copy_ends scope us span fun.params es m.1 q args all kept c.refs x o n f2.refs))
         (λ u a b l g3 f3. ends_at types prog (λ (v : Value). scope) us (λ v k. Fits k (base t) v) (result_value c.result) a b l (fits_grows o b (base t) (result_value c.result) g3 (result_fits types prog fun c o t result f2)))))
 
     pub case_call : Now (record { span = s; ty = t; form = eform.Call f es })
@@ -271,10 +272,10 @@ module _ (types : List Algebraic) (prog : Prog) (bounds : Bounds) (tags_are : Ta
   NowField x = Now x.value
 
   abbrev keyed : PField → ℕ × eval.Does
-  keyed x = (x.field, fact x.value)
+  keyed x = (x.field, does_plainly x.value)
 
   abbrev keyed' : PField → ℕ × Does
-  keyed' x = (x.field, fact' x.value)
+  keyed' x = (x.field, does_by_variant x.value)
 
   abbrev keyed_part : PField → ℕ × Part
   keyed_part x = (x.field, as_part x.value)

@@ -111,16 +111,17 @@ module _ (types : List Algebraic) (prog : Prog) where
     pub runs : (from : ℕ) (scope : List Variable) (e : Form) (us : List Test) → M from scope e → Each (Stands scope) us → Each (λ (u : Test). w.touches u.slot ≡ false) us → w.breaks us ≡ [] → (s : plain.State) (h : List Record) → Inv types prog scope us s h → Ends types prog (leaves scope (grow scope)) us h (FlowFits result) (d s) (n (with_heap s h))
 
 module _ (types : List Algebraic) (prog : Prog) (bounds : Bounds) (tags_are : TagsAreIntegers types prog) (known : List Known) (call : eval.Calls) (later : Calls) (calls : CallsAlike types prog call later) (result : Option Ty) where
-  abbrev fact : PExpr → eval.Does
-  fact = done types prog bounds known call later
+  -- what an expression does in a run, and with records by their variants
+  abbrev does_plainly : PExpr → eval.Does
+  does_plainly = done types prog bounds known call later
 
-  abbrev fact' : PExpr → Does
-  fact' = again types prog bounds known call later
+  abbrev does_by_variant : PExpr → Does
+  does_by_variant = again types prog bounds known call later
 
   abbrev as_part : PExpr → Part
   as_part = parts types prog bounds known call later
 
-  abbrev good : (e : PExpr) → Fine types prog bounds e.ty (as_part e) (fact e) (fact' e) (Meant types prog bounds known call later e)
+  abbrev good : (e : PExpr) → Fine types prog bounds e.ty (as_part e) (does_plainly e) (does_by_variant e) (Meant types prog bounds known call later e)
   good = fine types prog bounds tags_are known call later calls
 
   abbrev works : PStmt → Work
@@ -317,7 +318,7 @@ module _ (types : List Algebraic) (prog : Prog) (bounds : Bounds) (tags_are : Ta
   -- a value, and then what is done with it
   value_then : (p : PExpr) (s : Span) (scope later' : List Variable) (us : List Test) (z : plain.State) (h : List Record) (k : Value → plain.Comp Flow) (l : Value → Comp Flow) → Here (as_part p) (Meant types prog bounds known call later p) scope us → Inv types prog scope us z h
       → ((v : Value) (a : plain.State) (b : List Record) → Inv types prog scope us a b → Grows h b → Fits b (base p.ty) v → Ends types prog (leaves scope later') us b (FlowFits result) (k v a) (l v (with_heap a b)))
-      → Ends types prog (leaves scope later') us h (FlowFits result) (plain.and_then ((fact p).value s z) k) (and_then ((fact' p).value s (with_heap z h)) l)
+      → Ends types prog (leaves scope later') us h (FlowFits result) (plain.and_then ((does_plainly p).value s z) k) (and_then ((does_by_variant p).value s (with_heap z h)) l)
   value_then p s scope later' us z h k l w i f = ends_then types prog (λ (v : Value). scope) (leaves scope later') us h (λ v b. Fits b (base p.ty) v) (FlowFits result) _ _ k l ((good p).runs scope us w s z h i) f
 
   case_call : (s : Span) (p : PExpr) → Acts (record { span = s; form = form.Call p })
@@ -416,14 +417,14 @@ module _ (types : List Algebraic) (prog : Prog) (bounds : Bounds) (tags_are : Ta
 
   -- Assignments
 
-  pattern_aims : (s : Span) (span : Span) (t : Option Ty) (es : List PExpr) → ((fact (record { span = span; ty = t; form = eform.Pattern es })).target s ≡ plain.fail s) × ((fact' (record { span = span; ty = t; form = eform.Pattern es })).target s ≡ fail s)
+  pattern_aims : (s : Span) (span : Span) (t : Option Ty) (es : List PExpr) → ((does_plainly (record { span = span; ty = t; form = eform.Pattern es })).target s ≡ plain.fail s) × ((does_by_variant (record { span = span; ty = t; form = eform.Pattern es })).target s ≡ fail s)
   pattern_aims s span t es = (
     ap (λ (d : eval.Does). d.target s) (expr_layer (Option Ty → eval.Does) eval.Does (ℕ × eval.Does) (eval.does_form prog bounds.int_bits call) (λ x. x.form x.ty) (λ x. (x.field, x.value)) (P.Pattern es) (eform.Pattern es) (V.rolls-Pattern es) span t),
     ap (λ (d : Does). d.target s) (expr_layer (Option Ty → Does) Does (ℕ × Does) (does_form types prog bounds.int_bits later) (λ x. x.form x.ty) (λ x. (x.field, x.value)) (P.Pattern es) (eform.Pattern es) (V.rolls-Pattern es) span t),
   )
 
   abbrev Stored : Span → PExpr → PExpr → List Variable → List Test → plain.State → List Record → Type 0
-  Stored s p q scope us z h = Ends types prog (λ (u : Unit {0}). scope) us h (λ u k. Unit {0}) (plain.and_then ((fact p).target s z) (λ l a. plain.and_then ((fact q).value s a) (heap.store s l))) (and_then ((fact' p).target s (with_heap z h)) (λ l a. and_then ((fact' q).value s a) (store s l)))
+  Stored s p q scope us z h = Ends types prog (λ (u : Unit {0}). scope) us h (λ u k. Unit {0}) (plain.and_then ((does_plainly p).target s z) (λ l a. plain.and_then ((does_plainly q).value s a) (heap.store s l))) (and_then ((does_by_variant p).target s (with_heap z h)) (λ l a. and_then ((does_by_variant q).value s a) (store s l)))
 
   case_assign : (s : Span) (p q : PExpr) → Acts (record { span = s; form = form.Assign p q })
   case_assign s p q = built (S.Assign p q) (form.Assign p q) (W.rolls-Assign p q) s (record {
@@ -445,8 +446,8 @@ module _ (types : List Algebraic) (prog : Prog) (bounds : Bounds) (tags_are : Ta
       to_target scope us stands free keeps_p keeps_q breaks_p breaks_q t x y z h i value (inr pattern) =
           subst (λ (o : PExpr). Stored s o q scope us z h) (sym pattern.made)
           (let two = pattern_aims s x.span (Some t) pattern.parts in
-          subst (λ (c : plain.Comp Location). Ends types prog (λ (u : Unit {0}). scope) us h (λ u k. Unit {0}) (plain.and_then (c z) (λ l a. plain.and_then ((fact q).value s a) (heap.store s l))) (and_then ((fact' (record { span = x.span; ty = Some t; form = eform.Pattern pattern.parts })).target s (with_heap z h)) (λ l a. and_then ((fact' q).value s a) (store s l)))) (sym two.0)
-          (subst (λ (c : Comp Location). Ends types prog (λ (u : Unit {0}). scope) us h (λ u k. Unit {0}) (plain.Fails s) (and_then (c (with_heap z h)) (λ l a. and_then ((fact' q).value s a) (store s l)))) (sym two.1) refl))
+          subst (λ (c : plain.Comp Location). Ends types prog (λ (u : Unit {0}). scope) us h (λ u k. Unit {0}) (plain.and_then (c z) (λ l a. plain.and_then ((does_plainly q).value s a) (heap.store s l))) (and_then ((does_by_variant (record { span = x.span; ty = Some t; form = eform.Pattern pattern.parts })).target s (with_heap z h)) (λ l a. and_then ((does_by_variant q).value s a) (store s l)))) (sym two.0)
+          (subst (λ (c : Comp Location). Ends types prog (λ (u : Unit {0}). scope) us h (λ u k. Unit {0}) (plain.Fails s) (and_then (c (with_heap z h)) (λ l a. and_then ((does_by_variant q).value s a) (store s l)))) (sym two.1) refl))
 
   -- Branches
 
@@ -467,7 +468,7 @@ module _ (types : List Algebraic) (prog : Prog) (bounds : Bounds) (tags_are : Ta
     inner : w.breaks (tests_within (as_part c).test w us) ≡ []
 
   abbrev Chosen : Span → PExpr → List Variable → List Test → plain.Comp Flow → Comp Flow → plain.Comp Flow → Comp Flow → plain.State → List Record → Type 0
-  Chosen s c scope us m n m' n' z h = Ends types prog (leaves scope scope) us h (FlowFits result) (plain.and_then ((fact c).value s z) (eval.choose s m m')) (and_then ((fact' c).value s (with_heap z h)) (choose s n n'))
+  Chosen s c scope us m n m' n' z h = Ends types prog (leaves scope scope) us h (FlowFits result) (plain.and_then ((does_plainly c).value s z) (eval.choose s m m')) (and_then ((does_by_variant c).value s (with_heap z h)) (choose s n n'))
 
   branch_ends : (s : Span) (c : PExpr) (w : Work) (scope : List Variable) (us : List Test) (m : plain.Comp Flow) (n : Comp Flow) (m' : plain.Comp Flow) (n' : Comp Flow) → Branching c w scope us → First scope w m n → Flows scope us m' n' → (z : plain.State) (h : List Record) → Inv types prog scope us z h → Chosen s c scope us m n m' n' z h
   branch_ends s c w scope us m n m' n' g first second z h i = go (as_part c).test refl g.breaks g.inner
@@ -480,12 +481,12 @@ module _ (types : List Algebraic) (prog : Prog) (bounds : Bounds) (tags_are : Ta
       decided u true p st k = within u (w.touches u.slot) refl k st (p refl)
       decided u false p st k = second z h i
 
-      asked : (u : Test) → IsTest types prog bounds (fact c) (fact' c) (Meant types prog bounds known call later c) u → w.breaks (if w.touches u.slot then us else u ∷ us) ≡ [] → TestEnds u s z h ((fact c).value s z) ((fact' c).value s (with_heap z h)) → Chosen s c scope us m n m' n' z h
+      asked : (u : Test) → IsTest types prog bounds (does_plainly c) (does_by_variant c) (Meant types prog bounds known call later c) u → w.breaks (if w.touches u.slot then us else u ∷ us) ≡ [] → TestEnds u s z h ((does_plainly c).value s z) ((does_by_variant c).value s (with_heap z h)) → Chosen s c scope us m n m' n' z h
       asked u t k (inl r) =
-          subst (λ o. Ends types prog (leaves scope scope) us h (FlowFits result) (plain.and_then o (eval.choose s m m')) (and_then ((fact' c).value s (with_heap z h)) (choose s n n'))) (sym r.1)
+          subst (λ o. Ends types prog (leaves scope scope) us h (FlowFits result) (plain.and_then o (eval.choose s m m')) (and_then ((does_by_variant c).value s (with_heap z h)) (choose s n n'))) (sym r.1)
           (subst (λ o. Ends types prog (leaves scope scope) us h (FlowFits result) (eval.choose s m m' (value.Bit r.0) z) (and_then o (choose s n n'))) (sym r.2) (decided u r.0 r.3 (t.stands scope g.tree g.means) k))
       asked u t k (inr r) =
-          subst (λ o. Ends types prog (leaves scope scope) us h (FlowFits result) (plain.and_then o (eval.choose s m m')) (and_then ((fact' c).value s (with_heap z h)) (choose s n n'))) (sym r.0)
+          subst (λ o. Ends types prog (leaves scope scope) us h (FlowFits result) (plain.and_then o (eval.choose s m m')) (and_then ((does_by_variant c).value s (with_heap z h)) (choose s n n'))) (sym r.0)
           (subst (λ o. Ends types prog (leaves scope scope) us h (FlowFits result) (plain.Fails s) (and_then o (choose s n n'))) (sym r.1) refl)
 
       go : (o : Option Test) → (as_part c).test ≡ o → condition_breaks o (as_part c) us ≡ [] → w.breaks (tests_within o w us) ≡ [] → Chosen s c scope us m n m' n' z h
@@ -527,11 +528,11 @@ module _ (types : List Algebraic) (prog : Prog) (bounds : Bounds) (tags_are : Ta
 
   -- Loops
 
-  turns_end : (left : ℕ) (s : Span) (c : PExpr) (scope : List Variable) (us : List Test) (m : plain.Comp Flow) (n : Comp Flow) → Here (as_part c) (Meant types prog bounds known call later c) scope us → Flows scope us m n → Flows scope us (exec.turns left s (fact c) m) (turns left s (fact' c) n)
+  turns_end : (left : ℕ) (s : Span) (c : PExpr) (scope : List Variable) (us : List Test) (m : plain.Comp Flow) (n : Comp Flow) → Here (as_part c) (Meant types prog bounds known call later c) scope us → Flows scope us m n → Flows scope us (exec.turns left s (does_plainly c) m) (turns left s (does_by_variant c) n)
   turns_end zero s c scope us m n w f z h i = value_then c s scope scope us z h _ _ w i (λ v a b j g x. choose_ends types prog bounds (leaves scope scope) us b (FlowFits result) s v a b _ _ _ _ refl (onward_ends scope scope us a b j))
   turns_end (suc left) s c scope us m n w f z h i = value_then c s scope scope us z h _ _ w i (λ v a b j g x. choose_ends types prog bounds (leaves scope scope) us b (FlowFits result) s v a b _ _ _ _
-      (ends_then types prog (leaves scope scope) (leaves scope scope) us b (FlowFits result) (FlowFits result) _ _ (exec.unless_returned (exec.turns left s (fact c) m)) (unless_returned (turns left s (fact' c) n)) (f a b j)
-      (λ o d k l y p. go_on scope scope scope us (exec.turns left s (fact c) m) (turns left s (fact' c) n) (λ k x i. i) (turns_end left s c scope us m n w f) o d k l p))
+      (ends_then types prog (leaves scope scope) (leaves scope scope) us b (FlowFits result) (FlowFits result) _ _ (exec.unless_returned (exec.turns left s (does_plainly c) m)) (unless_returned (turns left s (does_by_variant c) n)) (f a b j)
+      (λ o d k l y p. go_on scope scope scope us (exec.turns left s (does_plainly c) m) (turns left s (does_by_variant c) n) (λ k x i. i) (turns_end left s c scope us m n w f) o d k l p))
       (onward_ends scope scope us a b j))
 
   case_while : (s : Span) (c : PExpr) (a : PStmt) → Acts a → Acts (record { span = s; form = form.While c a })
