@@ -48,13 +48,13 @@ use Rattle.sk_tagged.specs.declared.role.Role.{Role}
 use Rattle.sk_tagged.specs.declared.role.Role.TheVariants as role
 use Rattle.sk_tagged.specs.declared.role.Test.{Test}
 use Rattle.sk_tagged.specs.Tags.{Part, of_one, of_two, member_part, unless, is_tested, test_for, test_of, algebraic_of, type_named, role_in, of_variant, variant_at}
-use Rattle.sk_records.specs.Steps.{Record, Step, Goes, Comp, and_then, or_stray, lift}
+use Rattle.sk_records.specs.Steps.{Record, Step, Comp, and_then, or_stray, lift}
 use Rattle.sk_records.specs.Heap.{has, role_of, is_variant, read_field, ask, at_root}
 use Rattle.sk_records.specs.Heap as by_variant
 use Rattle.sk_records.specs.Eval.{Calls, Does, tag_of, asking, binary, does_form}
 use Rattle.sk_records_laws.specs.Laws.{TagsAreIntegers}
 use Rattle.sk_records_laws.proofs.Places.{place_holds, holds_bit}
-use Rattle.sk_records_laws.proofs.Related.{kind_at, IsOf, Fits, found, with_heap, Passed, field_at, pairs_at, Inv, Ends, ends_then, ends_at}
+use Rattle.sk_records_laws.proofs.Related.{kind_at, IsOf, Fits, Found, found, with_heap, Passed, field_at, Twin, pairs_at, Inv, Ends, ends_then, ends_at}
 use Rattle.sk_records_laws.proofs.Quiet.{quiet_operator}
 use Rattle.sk_records_laws.proofs.Stores.{HasField, read_ends, plain_read, Rooted}
 use Rattle.sk_records_laws.proofs.Fine.{base, Here, Runs, Aims, TestEnds, IsRead, Tagged, IsTag, IsTest, Fine, dull, context, parts, done, again, Meant, At, laid}
@@ -377,6 +377,30 @@ module _ (types : List Algebraic) (prog : Prog) (bounds : Bounds) (tags_are : Ta
       asks_it : (span : Span) (z : plain.State) (h : List Record) → (made_pair op.Eq).value span (with_heap z h) ≡ ask span n (slice_index_or z.slots x blank) (with_heap z h)
       asks_it span z h = λ j. asking ((q.tag ∙ ea) j) ((r.number ∙ eb) j) span (binary width span op.Eq ((does_by_variant a).value span) ((does_by_variant b).value span)) (with_heap z h)
 
+      -- at a record of this struct and variant
+      at_place : (span : Span) (z : plain.State) (h : List Record) (p j : ℕ) (d : StructId) (r : Record) (fs : List Value) → slice_get h p ≡ Some r → slice_get z.heap p ≡ Some fs → slice_get fs 0 ≡ Some (value.Int (pos j)) → r.variant ≡ Some j → kind_at h p ≡ Some (d, Some j) → slice_index_or z.slots x blank ≡ value.Place p → literal width b.ty n ≡ value.Int (pos n)
+          → TestEnds asked span z h (plain.and_then (heap.read_field span 0 (value.Place p) z) (λ w. plain.pure (truth (equal w (literal width b.ty n))))) (ask span n (value.Place p) (with_heap z h))
+      at_place span z h p j d r fs there twin tag variant kind is number =
+          let first = compared z (slice_index_or (heap.record_at z p) 0 blank) (literal width b.ty n) j n (plain_read types prog z p 0 fs (value.Int (pos j)) twin tag) number in
+          let asks = ap (λ o. or_stray (is_variant n (by_variant.variant_at o)) (with_heap z h)) there in
+          let answers = ap (λ o. or_stray (is_variant n o) (with_heap z h)) variant in
+          inl (
+            j == n,
+            first,
+            asks ∙ answers,
+            λ yes p' e'.
+                let same : value.Place p ≡ value.Place p' = sym is ∙ e' in
+                let one : p ≡ p' = cc in
+                (d, ap (kind_at h) (sym one) ∙ kind ∙ ap (λ c. Some (d, Some c)) (eqb-true j n yes)),
+          )
+
+      -- at a record that is found there, of an algebraic struct
+      at_found : (scope : List Variable) (us : List Test) (span : Span) (z : plain.State) (h : List Record) (p : ℕ) (d : StructId) (a : Algebraic) (v : Option ℕ) → Inv types prog scope us z h → algebraic_of types prog.structs d ≡ Some a → kind_at h p ≡ Some (d, v) → (f : Found h p d v) → Twin types prog h z.heap p f.it → slice_index_or z.slots x blank ≡ value.Place p → literal width b.ty n ≡ value.Int (pos n)
+          → TestEnds asked span z h (plain.and_then (heap.read_field span 0 (value.Place p) z) (λ w. plain.pure (truth (equal w (literal width b.ty n))))) (ask span n (value.Place p) (with_heap z h))
+      at_found scope us span z h p d a v i is kind f y at number =
+          let tag = y.same.variant a (ap (algebraic_of types prog.structs) f.of ∙ is) in
+          at_place span z h p tag.0 d f.it y.fields f.there y.there tag.2 tag.1 (kind ∙ ap (λ c. Some (d, c)) (sym f.is ∙ tag.1)) at number
+
       at_value : (scope : List Variable) (e : Expr) (us : List Test) → mean_pair op.Eq scope e → (span : Span) (z : plain.State) (h : List Record) → Inv types prog scope us z h → (v : Value) → slice_index_or z.slots x blank ≡ v
           → TestEnds asked span z h (plain.and_then (heap.read_field span 0 v z) (λ w. plain.pure (truth (equal w (literal width b.ty n))))) (ask span n v (with_heap z h))
       at_value scope e us m span z h i (value.Int y) is = inr (refl, refl)
@@ -388,23 +412,7 @@ module _ (types : List Algebraic) (prog : Prog) (bounds : Bounds) (tags_are : Ta
           let fit : Fits h (elem.Reference g.of) (value.Place p) = subst (Fits h (elem.Reference g.of)) is (typed_slot scope us z h x g.it g.of i g.there g.type) in
           let k = place_holds (IsOf h g.of) p fit in
           let f = found h p g.of k.0 k.1 in
-          let y = pairs_at types prog h z.heap h p f.it i.alike f.there in
-          let tag = y.same.variant g.kin (ap (algebraic_of types prog.structs) f.of ∙ g.is) in
-          let j : ℕ = tag.0 in
-          let read : slice_index_or (heap.record_at z p) 0 blank ≡ value.Int (pos j) = plain_read types prog z p 0 y.fields (value.Int (pos j)) y.there tag.2 in
-          let first : plain.Goes (truth (equal (slice_index_or (heap.record_at z p) 0 blank) (literal width b.ty n))) z ≡ plain.Goes (value.Bit (j == n)) z = compared z (slice_index_or (heap.record_at z p) 0 blank) (literal width b.ty n) j n read (number_is scope e m) in
-          let second : ask span n (value.Place p) (with_heap z h) ≡ Goes (value.Bit (j == n)) (with_heap z h) =
-          ap (λ o. or_stray (is_variant n (by_variant.variant_at o)) (with_heap z h)) f.there ∙ ap (λ o. or_stray (is_variant n o) (with_heap z h)) tag.1 in
-          let kind : kind_at h p ≡ Some (g.of, Some j) = k.1 ∙ ap (λ c. Some (g.of, c)) (sym f.is ∙ tag.1) in
-          inl (
-            j == n,
-            first,
-            second,
-            λ yes p' e'.
-                let same : value.Place p ≡ value.Place p' = sym is ∙ e' in
-                let one : p ≡ p' = cc in
-                (g.of, ap (kind_at h) (sym one) ∙ kind ∙ ap (λ c. Some (g.of, Some c)) (eqb-true j n yes)),
-          )
+          at_found scope us span z h p g.of g.kin k.0 i g.is k.1 f (pairs_at types prog h z.heap h p f.it i.alike f.there) is (number_is scope e m)
 
       asked_test : IsTest types prog bounds (plain_pair op.Eq) (made_pair op.Eq) (mean_pair op.Eq) asked
       asked_test = record {
