@@ -1,0 +1,5 @@
+pub mod Steps
+pub mod Heap
+pub mod Eval
+pub mod Exec
+pub mod Run

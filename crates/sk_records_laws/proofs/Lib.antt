@@ -1,0 +1,13 @@
+mod Places
+mod Related
+mod Quiet
+mod Stores
+mod Making
+mod Fine
+mod Forms
+mod Fields
+mod Rows
+mod Exprs
+mod Stmts
+mod Calling
+mod Computed
