@@ -4,6 +4,7 @@ pub mod CancelLemmas
 pub mod InsideLemmas
 pub mod KnownLemmas
 pub mod LessonLemmas
+pub mod MarkLemmas
 pub mod NumberLemmas
 pub mod PropagateLemmas
 pub mod RepeatLemmas

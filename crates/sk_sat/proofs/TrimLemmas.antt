@@ -1,8 +1,8 @@
 -- Why literals that the others force may be left out, and how marks are taken.
 use Rattle.std.proofs.Common.{◌≡◌, ◌≢◌, ◌⊎◌, inl, inr, Bool, true, false, ℕ, zero, suc, ◌+◌, ◌-◌, ◌<◌, ◌≤◌, ◌++◌, List, [], ◌∷◌, length, get_or, set, take, replicate, refl, sym, ◌∙◌, ap, arith, subst, Option}
 use Rattle.std.specs.Prelude.{Contains}
-use Rattle.std.proofs.lemmas.List.{take_more, take_all, length-replicate, get_or-set_same, get_or-set_other, length-set, get_or_past}
-use Rattle.std.proofs.lemmas.List.Elements.{Contains-push_cases, Contains-push, Contains-append_left, Contains-get_or}
+use Rattle.std.proofs.lemmas.List.{append-nil, take_more, take_all, length-replicate, get_or-set_same, get_or-set_other, length-set, get_or_past}
+use Rattle.std.proofs.lemmas.List.Elements.{Contains-push_cases, Contains-append_cases, Contains-get_or}
 use Rattle.std.proofs.lemmas.Bool.{cases_eq, cases_lt}
 use Rattle.sk_clause.specs.declared.lit.Lit.{Lit}
 use Rattle.sk_clause.specs.Meaning.{negated, Closure, forced, Falsifies}
@@ -12,24 +12,6 @@ use Rattle.sk_clause.proofs.ValueLemmas.{negated_holds, same_var_fails, not_fail
 use Rattle.sk_sat.specs.Trail.{lit_at, IsReason, IsTrailOf}
 use Rattle.sk_sat.specs.Analysis.{level_at, is_open, IsOnly, IsKept, IsClean, AreCovered, IsImplied, IsTurn}
 use Rattle.sk_sat.proofs.ResolveLemmas.{place, place_in_front, others_fail, zero_closure}
-
--- the first literals of a clause are covered
-pub covers_none : (level : List ℕ) (kept : List Bool) (c : List Lit) (l : Lit) → AreCovered level kept (take 0 c) l
-covers_none level kept c l = record { each = λ m h. absurd (Contains-none m h) }
-
-pub covers_more : (level : List ℕ) (kept : List Bool) (c : List Lit) (l : Lit) (i : ℕ) (d : Lit) → i < length c → AreCovered level kept (take i c) l
-    → ((get_or c i d).var ≢ l.var → (level_at level (get_or c i d) ≡ 0) ⊎ (is_open kept (get_or c i d) ≡ true)) → AreCovered level kept (take (i + 1) c) l
-covers_more level kept c l i d less h now = record {
-  each = λ m w. elim (Contains-push_cases (take i c) (get_or c i d) m (subst (λ x. Contains x m) (take_more c i d less) w)) [
-    | inl before ↦ h.each m before
-    | inr same ↦ subst (λ x. x.var ≢ l.var → (level_at level x ≡ 0) ⊎ (is_open kept x ≡ true)) same now
-  ];
-}
-
-pub covers_all : (level : List ℕ) (kept : List Bool) (c : List Lit) (l : Lit) (i : ℕ) → length c ≤ i → AreCovered level kept (take i c) l → AreCovered level kept c l
-covers_all level kept c l i h w = subst (λ x. AreCovered level kept x l) (take_all i c h) w
-
-pub ruleset covers = (covers_none, covers_all)
 
 module _ (known : List (List Lit)) (vs : List (Option Bool)) (lv rs : List ℕ) (ls : List Lit) (lims : List ℕ) (t : IsTrailOf known vs lv rs ls lims) where
   -- a literal that is not its level's first has a reason
@@ -56,11 +38,15 @@ module _ (known : List (List Lit)) (vs : List (Option Bool)) (lv rs : List ℕ) 
           let d : level_at lv l - 1 ≡ j = omega arith in
           other (ap (λ (x : Lit). x.var) (ap (lit_at ls) (ap (λ x. get_or lims x 0) d ∙ b)) ∙ v)
 
-  module _ (kept : List Bool) (out slim : List Lit) (u : Lit) (turn : IsTurn known vs lv (length lims) out u) (k : IsKept vs kept out)
+  module _ (kept : List Bool) (out slim : List Lit) (u : Lit) (turn : IsTurn known vs lv (length lims) out u)
+      (k : (m : Lit) → Fails vs m → is_open kept m ≡ true → Contains out m ⊎ IsImplied known rs lv ls kept m)
       (each : (m : Lit) → Contains out m → Contains slim m ⊎ IsImplied known rs lv ls kept m) where
-    closes : (c : List Lit) → ((m : Lit) → Contains slim m → Closure known c (negated m)) → (n i : ℕ) → i < n → i < length ls → (m : Lit) → Contains out m → lit_at ls i ≡ negated m → Closure known c (negated m)
-    closes c start zero i less h m w e = absurd (omega arith)
-    closes c start (suc n) i less h m w e = elim (each m w) [
+    stays : (m : Lit) → Contains out m ⊎ IsImplied known rs lv ls kept m → Contains slim m ⊎ IsImplied known rs lv ls kept m
+    stays m w = elim w [ inl put ↦ each m put | inr imp ↦ inr imp ]
+
+    closes : (c : List Lit) → ((m : Lit) → Contains slim m → Closure known c (negated m)) → (n i : ℕ) → i < n → i < length ls → (m : Lit) → Fails vs m → Contains slim m ⊎ IsImplied known rs lv ls kept m → lit_at ls i ≡ negated m → Closure known c (negated m)
+    closes c start zero i less h m a w e = absurd (omega arith)
+    closes c start (suc n) i less h m a w e = elim w [
       | inl there ↦ start m there
       | inr imp ↦
           let r = get_or rs m.var 0 in
@@ -70,11 +56,11 @@ module _ (known : List (List Lit)) (vs : List (Option Bool)) (lv rs : List ℕ) 
           (let f = others_fail known vs lv rs ls lims t r i (lit_at ls i) (omega arith) why d within different in
           let p = place_in_front ls i (negated d) (omega arith) (why.others d within different) in
           elim (cases_eq d.var m.var) [
-            | inl same ↦ (let s : m ≡ d = same_var_fails vs m d (turn.outs m w).0 f same in
-                subst (λ x. Closure known c (negated x)) s (closes c start n p.0 (omega (arith, p.1)) p.2 m w (p.3 ∙ ap negated (sym s))))
+            | inl same ↦ (let s : m ≡ d = same_var_fails vs m d a f same in
+                subst (λ x. Closure known c (negated x)) s (closes c start n p.0 (omega (arith, p.1)) p.2 m a w (p.3 ∙ ap negated (sym s))))
             | inr apart ↦ elim (imp.covered.each d within apart) [
               | inl low ↦ zero_closure known vs lv rs ls lims t c d f low
-              | inr marked ↦ closes c start n p.0 (omega (arith, p.1)) p.2 d (k.there d f marked) p.3
+              | inr marked ↦ closes c start n p.0 (omega (arith, p.1)) p.2 d f (stays d (k d f marked)) p.3
             ]
           ])))
     ]
@@ -84,47 +70,9 @@ module _ (known : List (List Lit)) (vs : List (Option Bool)) (lv rs : List ℕ) 
       holds = turn.holds;
       deep = turn.deep;
       implied = λ c there all. turn.implied c there (λ m w.
-          (let p = place ls (negated m) (t.agrees.covers (negated m) (negated_holds vs m (turn.outs m w).0)) in closes c all (suc p.0) p.0 (omega arith) p.1 m w p.2));
+          (let p = place ls (negated m) (t.agrees.covers (negated m) (negated_holds vs m (turn.outs m w).0)) in closes c all (suc p.0) p.0 (omega arith) p.1 m (turn.outs m w).0 (each m w) p.2));
       outs = λ m w. turn.outs m (part m w);
     }
-
--- the first literals were kept, or may be left out
-pub record Trims (known : List (List Lit)) (rs lv : List ℕ) (ls : List Lit) (kept : List Bool) (out : List Lit) (i : ℕ) (slim : List Lit) : Type 0 where
-  pub each : (m : Lit) → Contains (take i out) m → Contains slim m ⊎ IsImplied known rs lv ls kept m
-  pub part : (m : Lit) → Contains slim m → Contains out m
-
-module _ (known : List (List Lit)) (rs lv : List ℕ) (ls : List Lit) (kept : List Bool) (out : List Lit) where
-  pub trims_begin : (slim : List Lit) → slim ≡ [] → Trims known rs lv ls kept out 0 slim
-  trims_begin slim e = record { each = λ m h. absurd (Contains-none m h); part = λ m h. absurd (Contains-none m (subst (λ x. Contains x m) e h)) }
-
-  module _ (i : ℕ) (d : Lit) (slim : List Lit) (less : i < length out) (h : Trims known rs lv ls kept out i slim) where
-    pub trims_drop : IsImplied known rs lv ls kept (get_or out i d) → Trims known rs lv ls kept out (i + 1) slim
-    trims_drop imp = record {
-      each = λ m w. elim (Contains-push_cases (take i out) (get_or out i d) m (subst (λ x. Contains x m) (take_more out i d less) w)) [
-        | inl before ↦ h.each m before
-        | inr same ↦ inr (subst (IsImplied known rs lv ls kept) same imp)
-      ];
-      part = h.part;
-    }
-
-    pub trims_keep : Trims known rs lv ls kept out (i + 1) (slim ++ get_or out i d ∷ [])
-    trims_keep = record {
-      each = λ m w. elim (Contains-push_cases (take i out) (get_or out i d) m (subst (λ x. Contains x m) (take_more out i d less) w)) [
-        | inl before ↦ elim (h.each m before) [ inl there ↦ inl (Contains-append_left slim (get_or out i d ∷ []) m there) | inr imp ↦ inr imp ]
-        | inr same ↦ inl (subst (Contains (slim ++ get_or out i d ∷ [])) same (Contains-push slim (get_or out i d)))
-      ];
-      part = λ m w. elim (Contains-push_cases slim (get_or out i d) m w) [
-        | inl before ↦ h.part m before
-        | inr same ↦ subst (Contains out) same (Contains-get_or out i d less)
-      ];
-    }
-
-pub trims_end : (known : List (List Lit)) (vs : List (Option Bool)) (lv rs : List ℕ) (ls : List Lit) (lims : List ℕ) (kept : List Bool) (out : List Lit) (i : ℕ) (slim : List Lit) (u : Lit)
-    → IsTrailOf known vs lv rs ls lims → IsTurn known vs lv (length lims) out u → IsKept vs kept out → length out ≤ i → Trims known rs lv ls kept out i slim → IsTurn known vs lv (length lims) slim u
-trims_end known vs lv rs ls lims kept out i slim u t turn k l h =
-    turn_trimmed known vs lv rs ls lims t kept out slim u turn k (λ m w. h.each m (subst (λ x. Contains x m) (sym (take_all i out l)) w)) h.part
-
-pub ruleset trims = (trims_begin, trims_drop, trims_keep, trims_end)
 
 -- what is still marked was marked, and is of none of the first literals
 pub record Releases (old new : List Bool) (out : List Lit) (i : ℕ) : Type 0 where
@@ -166,12 +114,23 @@ releases_past old new out i d less past h = record {
   ];
 }
 
-pub releases_end : (old new : List Bool) (out : List Lit) (i : ℕ) → IsOnly old out → length out ≤ i → Releases old new out i → IsClean new
-releases_end old new out i only l h = record {
-  none = λ v k. (let r = only.each v (h.before v k) in h.apart v k r.0 (subst (λ x. Contains x r.0) (sym (take_all i out l)) r.1) r.2);
+pub releases_end : (old new : List Bool) (out : List Lit) (i : ℕ) → length out ≤ i → Releases old new out i → (more : List Lit) → IsOnly old (out ++ more) → IsOnly new more
+releases_end old new out i l h more only = record {
+  each = λ v k. (let r = only.each v (h.before v k) in elim (Contains-append_cases out more r.0 r.1) [
+    | inl put ↦ absurd (h.apart v k r.0 (subst (λ x. Contains x r.0) (sym (take_all i out l)) put) r.2)
+    | inr rest ↦ (r.0, rest, r.2)
+  ]);
 }
 
 pub ruleset releases = (releases_begin, releases_more, releases_past, releases_end)
+
+pub clean_from : (kept : List Bool) → IsOnly kept [] → IsClean kept
+clean_from kept only = record { none = λ v k. (let r = only.each v k in Contains-none r.0 r.1) }
+
+pub only_nil : (kept : List Bool) (out : List Lit) → IsOnly kept out → IsOnly kept (out ++ [])
+only_nil kept out h = subst (IsOnly kept) (sym (append-nil out)) h
+
+pub ruleset cleans = (clean_from, only_nil)
 
 -- the first ones are not marked
 pub record Wipes (marks : List Bool) (i : ℕ) : Type 0 where

@@ -1,6 +1,7 @@
 pub mod Analysis
 pub mod Answer
 pub mod Known
+pub mod Marks
 pub mod Round
 pub mod Scan
 pub mod Search

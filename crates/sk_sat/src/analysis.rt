@@ -9,6 +9,7 @@ ghost use Rattle.sk_sat.specs.Analysis.{Absorbs, IsKept, marked_count, Pending, 
 
 use crate::activity::Activity;
 use crate::known::Known;
+use crate::minimize::{Tried, trim};
 use crate::trail::Trail;
 use crate::values::value;
 use sk_clause::Lit;
@@ -170,93 +171,26 @@ pub fn deepest(level: &[usize], clause: &[Lit]) -> usize
     deepest
 }
 
-// Whether each other literal of a clause is false at level 0, or kept.
-#[tactic(auto, using(crate::proofs::TrimLemmas::covers))]
-fn is_covered(level: &[usize], kept: &[bool], clause: &[Lit], l: Lit) -> bool
-    requires { length kept.now ≡ length level.now }
-    ensures { result ≡ true → AreCovered level.now kept.now clause.now l }
-{
-    for m in clause {
-        if m.var != l.var {
-            if m.var >= level.len() || (level[m.var] != 0 && !kept[m.var]) {
-                return false;
-            }
-        }
-    }
-    true
-}
-
-// Whether the other literals that were put out, and those of level 0, force the negation of one that was put out.
-fn is_implied(
-    values: &[Option<bool>],
-    level: &[usize],
-    reason: &[usize],
-    lits: &[Lit],
-    lims: &[usize],
-    known: &Known,
-    kept: &[bool],
-    l: Lit,
-) -> bool
-    requires trail { IsTrailOf known.now values.now level.now reason.now lits.now lims.now }
-    requires fails { Fails values.now l }
-    requires kept { length kept.now ≡ length values.now }
-    ensures { result ≡ true → IsImplied known.now reason.now level.now lits.now kept.now l }
-{
-    if l.var >= level.len() || l.var >= reason.len() {
-        return false;
-    }
-    let at = level[l.var];
-    if at == 0 || at > lims.len() {
-        return false;
-    }
-    let begin = lims[at - 1];
-    let id = reason[l.var];
-    if begin >= lits.len() || lits[begin].var == l.var || id >= known.len() {
-        return false;
-    }
-    is_covered(level, kept, known.get(id), l)
-}
-
-// The literals put out but for those that the others force.
-#[tactic(auto, using(crate::proofs::TrimLemmas::trims))]
-fn trim(
-    values: &[Option<bool>],
-    level: &[usize],
-    reason: &[usize],
-    lits: &[Lit],
-    lims: &[usize],
-    known: &Known,
-    kept: &[bool],
-    out: &[Lit],
-    slim: &mut Vec<Lit>,
-    turn: Lit,
-) -> Result<(), AllocError>
-    requires trail { IsTrailOf known.now values.now level.now reason.now lits.now lims.now }
-    requires kept { IsKept values.now kept.now out.now }
-    requires long { length kept.now ≡ length values.now }
-    requires turn { IsTurn known.now values.now level.now (length lims.now) out.now turn }
-    ensures { OnOk result (IsTurn known.now values.now level.now (length lims.now) slim.new.items turn) }
-{
-    slim.clear();
-    for l in out {
-        if !is_implied(values, level, reason, lits, lims, known, kept, *l) {
-            slim.push(*l)?;
-        }
-    }
-    Ok(())
-}
-
 // Takes the marks of the literals that were put out.
 #[tactic(auto, using(crate::proofs::TrimLemmas::releases))]
 fn release(kept: &mut [bool], out: &[Lit])
-    requires { IsOnly kept.old out.now }
-    ensures { IsClean kept.new }
+    ensures { (more : List Lit) → IsOnly kept.old (out.now ++ more) → IsOnly kept.new more }
 {
     for l in out {
         if l.var < kept.len() {
             kept[l.var] = false;
         }
     }
+}
+
+// Takes the marks of the literals that were put out, and of others that these force.
+#[tactic(auto, using(crate::proofs::TrimLemmas::cleans))]
+fn release_all(kept: &mut [bool], out: &[Lit], extra: &[Lit])
+    requires { IsOnly kept.old (out.now ++ extra.now) }
+    ensures { IsClean kept.new }
+{
+    release(kept, out);
+    release(kept, extra);
 }
 
 // Takes all marks.
@@ -286,6 +220,8 @@ pub struct Lessons {
     marks: Vec<bool>,
     kept: Vec<bool>,
     out: Vec<Lit>,
+    extra: Vec<Lit>,
+    tried: Tried,
     clause: Vec<Lit>,
 }
 
@@ -306,11 +242,14 @@ impl Lessons {
     pub fn new(alloc: Global, vars: usize) -> Result<Lessons, AllocError> {
         let marks = no_marks(alloc, vars)?;
         let kept = no_marks(alloc, vars)?;
+        let tried = Tried::new(alloc, vars)?;
         Ok(Lessons {
             alloc,
             marks,
             kept,
             out: Vec::new(alloc),
+            extra: Vec::new(alloc),
+            tried,
             clause: Vec::new(alloc),
         })
     }
@@ -353,6 +292,8 @@ impl Lessons {
             &mut self.marks,
             &mut self.kept,
             &mut self.out,
+            &mut self.extra,
+            &mut self.tried,
             &mut self.clause,
             activity,
         );
@@ -380,6 +321,8 @@ fn lesson_of(
     marks: &mut [bool],
     kept: &mut [bool],
     out: &mut Vec<Lit>,
+    extra: &mut Vec<Lit>,
+    tried: &mut Tried,
     slim: &mut Vec<Lit>,
     activity: &mut Activity,
 ) -> Result<(Lit, usize), AllocError>
@@ -400,9 +343,9 @@ fn lesson_of(
         values, level, reason, lits, lims, known, conflict, marks, kept, out, activity,
     )?;
     trim(
-        values, level, reason, lits, lims, known, kept, out, slim, turn,
+        values, level, reason, lits, lims, known, kept, out, extra, tried, slim, turn,
     )?;
-    release(kept, out);
+    release_all(kept, out, extra);
     let back = deepest(level, slim);
     let turn = turn.negate();
     slim.push(turn)?;

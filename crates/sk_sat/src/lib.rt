@@ -7,6 +7,7 @@ mod analysis;
 mod codes;
 mod known;
 mod lists;
+mod minimize;
 mod propagate;
 mod restarts;
 mod round;
