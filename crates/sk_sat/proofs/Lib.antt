@@ -12,6 +12,7 @@ pub mod ResolveLemmas
 pub mod RoundLemmas
 pub mod SearchLemmas
 pub mod SettleLemmas
+pub mod ShortenLemmas
 pub mod SolverLemmas
 pub mod TrailLemmas
 pub mod TrimLemmas

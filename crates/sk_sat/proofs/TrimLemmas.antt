@@ -1,16 +1,16 @@
 -- Why literals that the others force may be left out, and how marks are taken.
-use Rattle.std.proofs.Common.{◌≡◌, ◌≢◌, ◌⊎◌, inl, inr, Bool, true, false, ℕ, zero, suc, ◌+◌, ◌-◌, ◌<◌, ◌≤◌, ◌++◌, List, [], ◌∷◌, length, get_or, set, take, replicate, refl, sym, ◌∙◌, ap, arith, subst, Option}
+use Rattle.std.proofs.Common.{◌≡◌, ◌≢◌, ◌⊎◌, inl, inr, Bool, true, false, ℕ, zero, suc, ◌+◌, ◌-◌, ◌<◌, ◌≤◌, ◌++◌, List, [], length, get_or, set, take, replicate, sym, ◌∙◌, ap, arith, subst, Option}
 use Rattle.std.specs.Prelude.{Contains}
 use Rattle.std.proofs.lemmas.List.{append-nil, take_more, take_all, length-replicate, get_or-set_same, get_or-set_other, length-set, get_or_past}
 use Rattle.std.proofs.lemmas.List.Elements.{Contains-push_cases, Contains-append_cases, Contains-get_or}
 use Rattle.std.proofs.lemmas.Bool.{cases_eq, cases_lt}
 use Rattle.sk_clause.specs.declared.lit.Lit.{Lit}
-use Rattle.sk_clause.specs.Meaning.{negated, Closure, forced, Falsifies}
+use Rattle.sk_clause.specs.Meaning.{negated, Closure, forced}
 use Rattle.sk_clause.proofs.MeaningLemmas.{Contains-none}
-use Rattle.sk_clause.specs.Values.{Holds, Fails}
-use Rattle.sk_clause.proofs.ValueLemmas.{negated_holds, same_var_fails, not_fails_holds}
+use Rattle.sk_clause.specs.Values.{Fails}
+use Rattle.sk_clause.proofs.ValueLemmas.{negated_holds, same_var_fails}
 use Rattle.sk_sat.specs.Trail.{lit_at, IsReason, IsTrailOf}
-use Rattle.sk_sat.specs.Analysis.{level_at, is_open, IsOnly, IsKept, IsClean, AreCovered, IsImplied, IsTurn}
+use Rattle.sk_sat.specs.Analysis.{level_at, is_open, IsOnly, IsClean, AreCovered, IsImplied, IsTurn}
 use Rattle.sk_sat.proofs.ResolveLemmas.{place, place_in_front, others_fail, zero_closure}
 
 module _ (known : List (List Lit)) (vs : List (Option Bool)) (lv rs : List ℕ) (ls : List Lit) (lims : List ℕ) (t : IsTrailOf known vs lv rs ls lims) where
@@ -57,7 +57,7 @@ module _ (known : List (List Lit)) (vs : List (Option Bool)) (lv rs : List ℕ) 
           let p = place_in_front ls i (negated d) (omega arith) (why.others d within different) in
           elim (cases_eq d.var m.var) [
             | inl same ↦ (let s : m ≡ d = same_var_fails vs m d a f same in
-                subst (λ x. Closure known c (negated x)) s (closes c start n p.0 (omega (arith, p.1)) p.2 m a w (p.3 ∙ ap negated (sym s))))
+                subst (λ x. Closure known c (negated x)) s (closes c start n p.0 (omega (arith, p.1)) p.2 m a (inr imp) (p.3 ∙ ap negated (sym s))))
             | inr apart ↦ elim (imp.covered.each d within apart) [
               | inl low ↦ zero_closure known vs lv rs ls lims t c d f low
               | inr marked ↦ closes c start n p.0 (omega (arith, p.1)) p.2 d f (stays d (k d f marked)) p.3

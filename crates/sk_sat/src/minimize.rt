@@ -223,7 +223,7 @@ fn is_forced(
 }
 
 /// The literals put out but for those that the others force. Marks literals that are forced, which `extra` gets.
-#[tactic(auto, using(crate::proofs::MarkLemmas::trims))]
+#[tactic(auto, using(crate::proofs::ShortenLemmas::trims))]
 pub fn trim(
     values: &[Option<bool>],
     level: &[usize],

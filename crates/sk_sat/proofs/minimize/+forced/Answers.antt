@@ -1,4 +1,4 @@
-use Rattle.std.proofs.Common.{◌≡◌, ◌<◌, ◌≤◌, ◌∙◌, length, arith}
+use Rattle.std.proofs.Common.{◌<◌, ◌≤◌, ◌∙◌, length, arith}
 use Rattle.sk_sat.proofs.MarkLemmas.{covers_all, covers_more, marks_then}
 use Rattle.sk_sat.proofs.minimize.+forced.Goals as goal
 

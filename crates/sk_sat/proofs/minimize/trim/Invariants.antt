@@ -1,5 +1,5 @@
 use Rattle.std.proofs.Common.{◌≡◌, length}
-use Rattle.sk_sat.proofs.MarkLemmas.{Trims}
+use Rattle.sk_sat.proofs.ShortenLemmas.{Trims}
 use Rattle.sk_sat.proofs.minimize.trim.Given as goal
 
 abbrev pub invariant-loop-l : goal.invariant-loop-l
