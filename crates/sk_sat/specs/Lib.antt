@@ -1,5 +1,6 @@
 pub mod Analysis
 pub mod Answer
+pub mod Engine
 pub mod Known
 pub mod Round
 pub mod Scan
