@@ -46,6 +46,13 @@ same_rest known added learnt n s =
 pub within_wider : (n m : ℕ) (cs : List (List Lit)) → n ≤ m → AreWithin n cs → AreWithin m cs
 within_wider n m cs l h = All-weaker (IsWithin n) (IsWithin m) (λ c w. All-weaker (λ x. x.var < n) (λ x. x.var < m) (λ x k. omega arith) c w) cs h
 
+-- one added clause more
+pub catch_step : (known added all : List (List Lit)) (i : ℕ) → i < length added → known ++ drop i added ≡ all → (known ++ get_or added i [] ∷ []) ++ drop (i + 1) added ≡ all
+catch_step known added all i h e = append_assoc known (get_or added i [] ∷ []) (drop (i + 1) added) ∙ ap (λ x. known ++ x) (sym (drop_more added i [] h)) ∙ e
+
+pub catch_end : (known added all : List (List Lit)) (i : ℕ) → length added ≤ i → known ++ drop i added ≡ all → known ≡ all
+catch_end known added all i h e = sym (ap (λ x. known ++ x) (drop_all i added h) ∙ append-nil known) ∙ e
+
 pub serves_new : (vars : ℕ) (added learnt : List (List Lit)) (e : Engine) → IsReady e → length e.trail.values.items ≡ vars → e.known ≡ learnt → e.taken ≡ 0 → Serves vars added learnt e
 serves_new vars added learnt e r v k t = record {
   ready = r;

@@ -142,7 +142,10 @@ fn begun(
 {
     match held {
         Some(engine) => Ok(engine),
-        None => Ok(Engine::new(alloc, vars, learnt)?),
+        None => {
+            let engine = Engine::new(alloc, vars, learnt)?;
+            Ok(engine)
+        }
     }
 }
 

@@ -36,6 +36,7 @@ impl Trail {
     pub fn new(alloc: Global, vars: usize) -> Result<Trail, AllocError>
         ensures trail { IfOk result (λ t. (known : List (List Lit)) → IsTrail known t) }
         ensures long { IfOk result (λ t. length t.values.items ≡ vars) }
+        ensures lims { IfOk result (λ t. t.lims.items ≡ []) }
     {
         Ok(Trail {
             values: nones(alloc, vars)?,
