@@ -13,7 +13,6 @@ use Rattle.sk_sat.specs.Engine.{IsReady, HasSame, Serves, IsCurrent}
 pub same_lists : (cs ds : List (List Lit)) → cs ≡ ds → HasSame cs ds
 same_lists cs ds e = record { into = λ c h. subst (λ x. Contains x c) e h; back = λ c h. subst (λ x. Contains x c) (sym e) h }
 
-
 pub same_append : (cs ds more : List (List Lit)) → HasSame cs ds → HasSame (cs ++ more) (ds ++ more)
 same_append cs ds more s = record {
   into = λ c h. elim (Contains-append_cases cs more c h) [ inl a ↦ Contains-append_left ds more c (s.into c a) | inr b ↦ Contains-append_right ds more c b ];

@@ -147,7 +147,7 @@ module _ (vars : ℕ) (added learnt : List (List Lit)) (old new : Engine) (fresh
   pub answer_unsat : (all log : List (List Lit)) → all ≡ learnt ++ fresh → log ≡ all ++ [] ∷ [] → Falsifies (old.known ++ fresh) [] → Refutes added log
   answer_unsat all log a l f =
       refutes_by added learnt fresh all log a (grows_whole all a).sound.each
-          (falsifies_more (old.known ++ fresh) ((added ++ learnt) ++ fresh) [] (same_append old.known (added ++ learnt) fresh s.current.same).into f) l
+      (falsifies_more (old.known ++ fresh) ((added ++ learnt) ++ fresh) [] (same_append old.known (added ++ learnt) fresh s.current.same).into f) l
 
   pub answer_spent : NoneIncludes old.known fresh → NoneIncludes (added ++ learnt) fresh
   answer_spent h = λ i l d w k. h i l d ((same_append old.known (added ++ learnt) (take i fresh) s.current.same).back d w) k

@@ -69,27 +69,27 @@ rounds-preserved-in-Moved c =
 pub returns-then-left-eq1-clause-grown : goal.returns-then-left-eq1-clause-grown
 returns-then-left-eq1-clause-grown c =
     let r = rw c.in-Learnt.is at c.in_ok-round_of.ensures in
-    grown_added _ _ _ _ _ c.rounds.trail _ c.rounds.invariant _ _ _ r.0.1 (λ p. r.0.2 (c.is_limited-strict.ensures p))
+    grown_added c.args.known.now (length c.args.trail.now.values.items) c.args.budget c.rounds.known c.rounds.fresh c.rounds.trail c.rounds.left c.rounds.invariant c.round_of.new.known c.round_of.new.fresh r.0.0 r.0.1 (λ p. r.0.2 (c.is_limited-strict.ensures p))
 
 pub returns-then-left-eq1-clause-each : goal.returns-then-left-eq1-clause-each
 returns-then-left-eq1-clause-each c =
     let r = rw c.in-Learnt.is at c.in_ok-round_of.ensures in
-    each_added _ _ _ _ _ c.rounds.trail _ c.rounds.invariant _ _ _ r.0.1 (λ p. r.0.2 (c.is_limited-strict.ensures p))
+    each_added c.args.known.now (length c.args.trail.now.values.items) c.args.budget c.rounds.known c.rounds.fresh c.rounds.trail c.rounds.left c.rounds.invariant c.round_of.new.known c.round_of.new.fresh r.0.0 r.0.1 (λ p. r.0.2 (c.is_limited-strict.ensures p))
 
 pub returns-then-left-eq1-clause-consistent : goal.returns-then-left-eq1-clause-consistent
 returns-then-left-eq1-clause-consistent c =
     let r = rw c.in-Learnt.is at c.in_ok-round_of.ensures in
-    consistent_added _ _ _ _ _ c.rounds.trail _ c.rounds.invariant _ _ _ r.0.1 (λ p. r.0.2 (c.is_limited-strict.ensures p))
+    consistent_added c.args.known.now (length c.args.trail.now.values.items) c.args.budget c.rounds.known c.rounds.fresh c.rounds.trail c.rounds.left c.rounds.invariant c.round_of.new.known c.round_of.new.fresh r.0.0 r.0.1 (λ p. r.0.2 (c.is_limited-strict.ensures p))
 
 pub returns-then-left-eq1-clause-within : goal.returns-then-left-eq1-clause-within
 returns-then-left-eq1-clause-within c =
     let r = rw c.in-Learnt.is at c.in_ok-round_of.ensures in
-    within_added _ _ _ _ _ c.rounds.trail _ c.rounds.invariant _ _ _ r.0.1 (λ p. r.0.2 (c.is_limited-strict.ensures p))
+    within_added c.args.known.now (length c.args.trail.now.values.items) c.args.budget c.rounds.known c.rounds.fresh c.rounds.trail c.rounds.left c.rounds.invariant c.round_of.new.known c.round_of.new.fresh r.0.0 r.0.1 (λ p. r.0.2 (c.is_limited-strict.ensures p))
 
 pub returns-then-left-eq1-clause-outcome : goal.returns-then-left-eq1-clause-outcome
 returns-then-left-eq1-clause-outcome c =
     let r = rw c.in-Learnt.is at c.in_ok-round_of.ensures in
-    spent_added _ _ _ _ _ c.rounds.trail _ c.rounds.invariant _ _ _ r.0.1 (λ p. r.0.2 (c.is_limited-strict.ensures p)) c.if-left-eq1.true
+    spent_added c.args.known.now (length c.args.trail.now.values.items) c.args.budget c.rounds.known c.rounds.fresh c.rounds.trail c.rounds.left c.rounds.invariant c.round_of.new.known c.round_of.new.fresh r.0.0 r.0.1 (λ p. r.0.2 (c.is_limited-strict.ensures p)) c.if-left-eq1.true
 
 pub returns-then-left-eq1-clause-stands : goal.returns-then-left-eq1-clause-stands
 returns-then-left-eq1-clause-stands c =
