@@ -1,6 +1,8 @@
 pub mod AnalysisLemmas
 pub mod BeginLemmas
 pub mod CancelLemmas
+pub mod EngineLemmas
+pub mod GrowLemmas
 pub mod InsideLemmas
 pub mod KnownLemmas
 pub mod LessonLemmas

@@ -15,7 +15,7 @@ use Rattle.sk_sat.specs.declared.settle.Step.{Step}
 use Rattle.sk_sat.specs.declared.settle.Step.TheVariants.{Learnt as Teaches, Forced, Refuted as Ends, Again}
 use Rattle.sk_sat.specs.Trail.{IsTrailOf, IsTrail, IsBack, Extends, number, progress}
 use Rattle.sk_sat.specs.Analysis.{level_at, IsFalsified}
-use Rattle.sk_sat.specs.Round.{Adds, IsDeep, StepsBack, Learns, IsCut, FallsBack, StepsOn, IsStep, IsMet, GoesOn, IsRound, IsConflictDepth, IsUnlike}
+use Rattle.sk_sat.specs.Round.{Adds, IsDeep, StepsBack, Learns, IsCut, FallsBack, StepsOn, IsStep, IsMet, Stands, GoesOn, IsRound, IsConflictDepth, IsUnlike}
 use Rattle.sk_sat.proofs.ResolveLemmas.{zero_closure, fails_most}
 use Rattle.sk_sat.proofs.NumberLemmas.{Rises, rises_from, rises_long, number_back, number_grows, number_decide}
 
@@ -94,7 +94,7 @@ step_cut strict known known' fresh fresh' t u new Teaches c h = record {
   steps = steps_cut t u new c h.steps;
 }
 step_cut strict known known' fresh fresh' t u new Forced c h = (h.0, h.1, record { trail = h.2.trail; steps = steps_cut t u new c h.2.steps })
-step_cut strict known known' fresh fresh' t u new Ends c h = h
+step_cut strict known known' fresh fresh' t u new Ends c h = (h.0, h.1, h.2, record { trail = h.3.trail; long = h.3.long ∙ c.long })
 step_cut strict known known' fresh fresh' t u new (Again j) c h = (
   h.0,
   h.1,
@@ -173,7 +173,7 @@ decided_goes_on known t u new e h long lits lims = record {
 pub round_after : (strict : Bool) (known known' fresh fresh' : List (List Lit)) (t u new : Trail) (r : Round) → Extends t u → IsRound strict known known' fresh fresh' u new r → IsRound strict known known' fresh fresh' t new r
 round_after strict known known' fresh fresh' t u new Learnt e h = ((h.0.0, subst (λ n. Adds known known' fresh fresh' n h.0.0) e.long h.0.1, h.0.2), record { trail = h.1.trail; long = h.1.long ∙ e.long; more = omega (arith, extends_number t u e, h.1.more) })
 round_after strict known known' fresh fresh' t u new Moved e h = (h.0, h.1, record { trail = h.2.trail; long = h.2.long ∙ e.long; more = omega (arith, extends_number t u e, h.2.more) })
-round_after strict known known' fresh fresh' t u new Full e h = (h.0, h.1, h.2, h.3 ∙ e.long)
-round_after strict known known' fresh fresh' t u new Refuted e h = h
+round_after strict known known' fresh fresh' t u new Full e h = (h.0, h.1, h.2, record { trail = h.3.trail; long = h.3.long ∙ e.long })
+round_after strict known known' fresh fresh' t u new Refuted e h = (h.0, h.1, h.2, record { trail = h.3.trail; long = h.3.long ∙ e.long })
 
 pub ruleset rounds = (decided_goes_on, round_after)

@@ -3,7 +3,7 @@ use Rattle.std.specs.Prelude.{◌≡◌, ℕ, ◌<◌, ◌++◌, List, [], ◌�
 use Rattle.sk_clause.specs.declared.lit.Lit.{Lit}
 use Rattle.sk_clause.specs.Meaning.{valuation, Meets, Refutes, IsConsistent, NoneIncludes}
 use Rattle.sk_sat.specs.Search.{IsUnspent}
-use Rattle.sk_sat.specs.Solver.{State, IsSound, Gains, gained}
+use Rattle.sk_sat.specs.Solver.{State, gained}
 use Rattle.sk_sat.specs.declared.solver.Answer.{Answer}
 use Rattle.sk_sat.specs.declared.solver.Answer.TheVariants.{Sat, Unsat, Spent}
 
@@ -14,9 +14,3 @@ abbrev pub IsAnswer : State → State → ℕ → Answer → Type 0
 IsAnswer old new budget (Sat values) = (length values ≡ old.vars) × Meets (valuation values) old.added × IsUnspent budget (gained old new)
 IsAnswer old new budget (Unsat log) = (log ≡ new.learnt ++ [] ∷ []) × Refutes old.added log × IsUnspent budget (gained old new)
 IsAnswer old new budget (Spent log) = (log ≡ gained old new) × (0 < budget) × (length log ≡ budget) × All IsConsistent log × NoneIncludes (old.added ++ old.learnt) log
-
--- an answer, and all that was learnt
-pub record IsSolved (vars : ℕ) (added learnt : List (List Lit)) (budget : ℕ) (answer : Answer) (all : List (List Lit)) : Type 0 where
-  pub sound : IsSound vars added all
-  pub gains : Gains (record { vars = vars; added = added; learnt = learnt }) (record { vars = vars; added = added; learnt = all })
-  pub is_answer : IsAnswer (record { vars = vars; added = added; learnt = learnt }) (record { vars = vars; added = added; learnt = all }) budget answer

@@ -69,11 +69,16 @@ pub record StepsOn (known : List (List Lit)) (old new : Trail) : Type 0 where
   pub trail : IsTrail known new
   pub steps : StepsBack old new
 
+-- the trail is right, over as many variables as before
+pub record Stands (known : List (List Lit)) (old new : Trail) : Type 0 where
+  pub trail : IsTrail known new
+  pub long : length new.values.items ≡ length old.values.items
+
 -- what dealing with one conflict comes to
 abbrev pub IsStep : Bool → List (List Lit) → List (List Lit) → List (List Lit) → List (List Lit) → Trail → Trail → Step → Type 0
 IsStep strict known known' fresh fresh' old new Teaches = Learns strict known known' fresh fresh' old new
 IsStep strict known known' fresh fresh' old new Forced = (known' ≡ known) × (fresh' ≡ fresh) × StepsOn known old new
-IsStep strict known known' fresh fresh' old new Ends = (known' ≡ known) × (fresh' ≡ fresh) × Falsifies known []
+IsStep strict known known' fresh fresh' old new Ends = (known' ≡ known) × (fresh' ≡ fresh) × Falsifies known [] × Stands known' old new
 IsStep strict known known' fresh fresh' old new (Again j) = (known' ≡ known) × (fresh' ≡ fresh) × FallsBack known j old new
 
 -- each clause has a true literal
@@ -88,8 +93,8 @@ pub record GoesOn (known : List (List Lit)) (old new : Trail) : Type 0 where
 abbrev pub IsRound : Bool → List (List Lit) → List (List Lit) → List (List Lit) → List (List Lit) → Trail → Trail → Round → Type 0
 IsRound strict known known' fresh fresh' old new Learnt = ((c : List Lit) × Adds known known' fresh fresh' (length old.values.items) c × (strict ≡ true → IsUnlike known c)) × GoesOn known' old new
 IsRound strict known known' fresh fresh' old new Moved = (known' ≡ known) × (fresh' ≡ fresh) × GoesOn known' old new
-IsRound strict known known' fresh fresh' old new Full = (known' ≡ known) × (fresh' ≡ fresh) × IsMet known new.values.items × (length new.values.items ≡ length old.values.items)
-IsRound strict known known' fresh fresh' old new Refuted = (known' ≡ known) × (fresh' ≡ fresh) × Falsifies known []
+IsRound strict known known' fresh fresh' old new Full = (known' ≡ known) × (fresh' ≡ fresh) × IsMet known new.values.items × Stands known' old new
+IsRound strict known known' fresh fresh' old new Refuted = (known' ≡ known) × (fresh' ≡ fresh) × Falsifies known [] × Stands known' old new
 
 -- the deepest level of the literals of clause i
 pub record IsConflictDepth (known : List (List Lit)) (t : Trail) (i depth : ℕ) : Type 0 where

@@ -28,3 +28,8 @@ pub record Gains (old new : State) : Type 0 where
   pub added : new.added ≡ old.added
   pub learnt : new.learnt ≡ old.learnt ++ gained old new
   pub each : EachFollows (old.added ++ old.learnt) (gained old new)
+
+-- All that was learnt is sound, and is what was learnt before with more behind it, in a state with nothing else changed.
+pub record Grows (vars : ℕ) (added learnt all : List (List Lit)) : Type 0 where
+  pub sound : IsSound vars added all
+  pub gains : Gains (record { vars = vars; added = added; learnt = learnt }) (record { vars = vars; added = added; learnt = all })

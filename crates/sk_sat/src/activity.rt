@@ -44,23 +44,30 @@ fn is_free(values: &[Option<bool>], v: usize) -> bool
 }
 
 impl Activity {
-    /// No weights, and all variables in the heap.
-    pub fn new(alloc: Global, vars: usize) -> Result<Activity, AllocError> {
-        let weights = vec![in alloc; 0; vars]?;
-        let negative = vec![in alloc; true; vars]?;
-        let places = vec![in alloc; NONE; vars]?;
-        let heap = Vec::with_capacity(alloc, vars)?;
-        let mut activity = Activity {
-            weights,
-            negative,
+    /// No variables. It takes no memory.
+    pub fn new(alloc: Global) -> Activity {
+        Activity {
+            weights: Vec::new(alloc),
+            negative: Vec::new(alloc),
             step: FIRST_STEP,
-            heap,
-            places,
-        };
-        for v in 0..vars {
-            activity.put(v);
+            heap: Vec::new(alloc),
+            places: Vec::new(alloc),
         }
-        Ok(activity)
+    }
+
+    /// Makes the number of variables at least n. The new ones have no weight, and are in the heap.
+    pub fn grow(&mut self, n: usize) -> Result<(), AllocError> {
+        let first = self.weights.len();
+        for _ in first..n {
+            self.weights.push(0)?;
+            self.negative.push(true)?;
+            self.places.push(NONE)?;
+        }
+        self.heap.reserve(n.saturating_sub(self.heap.len()))?;
+        for v in first..n {
+            self.put(v);
+        }
+        Ok(())
     }
 
     /// The weight of a variable.

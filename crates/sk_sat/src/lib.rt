@@ -5,6 +5,7 @@
 mod activity;
 mod analysis;
 mod codes;
+mod engine;
 mod known;
 mod lists;
 mod minimize;

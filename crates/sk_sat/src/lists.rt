@@ -69,21 +69,32 @@ pub struct Lists {
     watches: Vec<Watch>,
 }
 
-impl Lists {
-    /// No watches, of so many variables.
-    pub fn new(alloc: Global, vars: usize) -> Result<Lists, AllocError> {
-        let none = Block {
+impl Block {
+    // No watches.
+    fn none() -> Block {
+        Block {
             start: 0,
             len: 0,
             room: 0,
-        };
-        let mut blocks = vec![in alloc; none; vars]?;
-        let negative = vec![in alloc; none; vars]?;
-        blocks.extend_from_slice(&negative)?;
-        Ok(Lists {
-            blocks,
+        }
+    }
+}
+
+impl Lists {
+    /// No watches, of no variables. It takes no memory.
+    pub fn new(alloc: Global) -> Lists {
+        Lists {
+            blocks: Vec::new(alloc),
             watches: Vec::new(alloc),
-        })
+        }
+    }
+
+    /// Makes the number of variables at least n. The new ones have no watches.
+    pub fn grow(&mut self, n: usize) -> Result<(), AllocError> {
+        for _ in self.blocks.len()..n.saturating_mul(2) {
+            self.blocks.push(Block::none())?;
+        }
+        Ok(())
     }
 
     /// The places where the watches of a literal begin and end.

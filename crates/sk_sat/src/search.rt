@@ -3,6 +3,8 @@ ghost use Rattle.std.specs.Prelude.{◌≡◌, ℕ, ◌+◌, ◌<◌, ◌≤◌,
 ghost use Rattle.sk_clause.specs.declared.lit.Lit.{Lit};
 ghost use Rattle.sk_clause.specs.Problem.{AreWithin};
 ghost use Rattle.sk_clause.specs.Meaning.{EachFollows, IsConsistent};
+ghost use Rattle.sk_sat.specs.Trail.{IsTrail};
+ghost use Rattle.sk_sat.specs.Round.{Stands};
 ghost use Rattle.sk_sat.specs.Search.{IsOutcome};
 
 use crate::activity::Activity;
@@ -56,51 +58,44 @@ fn learn_last(
     Ok(0)
 }
 
-/// Searches for values with which the known clauses are true, and adds each clause that it learns to both lists.
-/// With budget 0 it ends only with an answer.
+/// Searches on from a trail for values with which the known clauses are true, and adds each clause that it learns to
+/// both lists. With budget 0 it ends only with an answer.
 #[tactic(auto, using(crate::proofs::SearchLemmas::searches))]
 pub fn search(
     alloc: Global,
-    vars: usize,
+    trail: &mut Trail,
     known: &mut Known,
     fresh: &mut ClauseList,
+    watches: &mut Watches,
+    lessons: &mut Lessons,
+    activity: &mut Activity,
     budget: u64,
 ) -> Result<Outcome, AllocError>
-    requires within { AreWithin vars known.old }
+    requires trail { IsTrail known.old trail.old }
+    requires within { AreWithin (length trail.old.values.items) known.old }
     requires fresh { fresh.old ≡ [] }
     ensures grown { OnOk result (known.new ≡ known.old ++ fresh.new) }
     ensures each { OnOk result (EachFollows known.old fresh.new) }
     ensures consistent { OnOk result (All IsConsistent fresh.new) }
-    ensures within { OnOk result (AreWithin vars known.new) }
-    ensures outcome { IfOk result (IsOutcome vars known.old fresh.new budget) }
+    ensures within { OnOk result (AreWithin (length trail.old.values.items) known.new) }
+    ensures stands { OnOk result (Stands known.new trail.old trail.new) }
+    ensures outcome { IfOk result (IsOutcome (length trail.old.values.items) known.old fresh.new budget) }
 {
-    let mut trail = Trail::new(alloc, vars)?;
-    let mut watches = Watches::new(alloc, vars)?;
-    let mut activity = Activity::new(alloc, vars)?;
-    let mut lessons = Lessons::new(alloc, vars)?;
     let mut restarts = Restarts::new();
     let strict = is_limited(budget);
     let mut left = budget;
     'rounds: loop {
-        match round_of(
-            &mut trail,
-            known,
-            fresh,
-            &mut watches,
-            &mut lessons,
-            &mut activity,
-            strict,
-        )? {
+        match round_of(trail, known, fresh, watches, lessons, activity, strict)? {
             Round::Refuted => return Ok(Outcome::Unsat),
             Round::Full => return Ok(Outcome::Sat(bits(alloc, &trail.values)?)),
             Round::Moved => continue,
             Round::Learnt => {
+                let glue = learn_last(watches, activity, known, &trail.level)?;
                 if left == 1 {
                     return Ok(Outcome::Spent);
                 }
                 left = left.saturating_sub(1);
-                let glue = learn_last(&mut watches, &mut activity, known, &trail.level)?;
-                begin_anew(&mut trail, &mut activity, &mut restarts, glue);
+                begin_anew(trail, activity, &mut restarts, glue);
             }
         }
     }

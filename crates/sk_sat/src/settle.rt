@@ -157,9 +157,9 @@ fn depth_of(trail: &Trail, known: &Known, i: usize) -> usize
     deepest(&trail.level, known.get(i))
 }
 
-// Goes back to a level, which may be the last one.
+/// Goes back to a level, which may be the last one.
 #[tactic(auto, using(crate::proofs::SettleLemmas::backs))]
-fn back_to(trail: &mut Trail, known: &Known, activity: &mut Activity, depth: usize)
+pub fn back_to(trail: &mut Trail, known: &Known, activity: &mut Activity, depth: usize)
     requires trail { IsTrail known.now trail.old }
     requires depth { depth ≤ length trail.old.lims.items }
     ensures trail { IsTrail known.now trail.new }

@@ -1,13 +1,14 @@
 // The solver that callers use.
-ghost use Rattle.std.specs.Prelude.{◌≡◌, ℕ, ◌+◌, ◌<◌, ◌≤◌, ◌++◌, ◌∷◌, [], List, length, max, IfOk, OnOk, OnErr, slice_index_or};
+ghost use Rattle.std.specs.Prelude.{◌≡◌, ℕ, ◌+◌, ◌<◌, ◌≤◌, ◌++◌, ◌∷◌, [], List, length, take, max, IfOk, OnOk, OnErr, IfSome, slice_index_or};
 ghost use Rattle.sk_clause.specs.declared.lit.Lit.{Lit};
 ghost use Rattle.sk_clause.specs.Meaning.{EachFollows};
 ghost use Rattle.sk_clause.specs.Problem.{IsWithin};
-ghost use Rattle.sk_sat.specs.Solver.{IsSound};
-ghost use Rattle.sk_sat.specs.Answer.{IsSolved};
+ghost use Rattle.sk_sat.specs.Solver.{IsSound, Grows};
+ghost use Rattle.sk_sat.specs.Engine.{Serves};
+ghost use Rattle.sk_sat.specs.Answer.{IsAnswer};
 
-use crate::known::Known;
-use crate::search::{Outcome, search};
+use crate::engine::{Engine, current};
+use crate::search::Outcome;
 use sk_base::List;
 use sk_clause::{Assignment, ClauseList, Lit, Log};
 use std::alloc::{AllocError, Global};
@@ -31,16 +32,20 @@ pub struct Solver {
     vars: usize,
     added: ClauseList,
     learnt: ClauseList,
+    /// What the last call kept for the next one.
+    engine: Option<Engine>,
 }
 
 impl Model for Solver {
+    ghost use Rattle.std.specs.Prelude.{IfSome};
     ghost use Rattle.sk_sat.specs.Solver.{State, IsSound};
+    ghost use Rattle.sk_sat.specs.Engine.{Serves};
 
     ghost Value = { State };
 
     ghost view = { λ a. record { vars = a.vars; added = a.added; learnt = a.learnt } };
 
-    ghost invariant = { λ a. IsSound a.vars a.added a.learnt };
+    ghost invariant = { λ a. IsSound a.vars a.added a.learnt × IfSome a.engine (Serves a.vars a.added a.learnt) };
 }
 
 #[tactic(auto, using(crate::proofs::SolverLemmas::solvers))]
@@ -59,6 +64,7 @@ impl Solver {
             vars: 0,
             added: ClauseList::new(alloc),
             learnt: ClauseList::new(alloc),
+            engine: None,
         }
     }
 
@@ -91,14 +97,16 @@ impl Solver {
         ensures answer { IfOk result (IsAnswer self.old self.new budget) }
         ensures gains { Gains self.old self.new }
     {
-        let (answer, learnt) = solve_parts(
+        let held = self.engine.take();
+        let (answer, engine) = solve_parts(
             self.alloc,
             self.vars,
             &self.added,
-            &self.learnt,
+            &mut self.learnt,
+            held,
             budget,
         )?;
-        self.learnt = learnt;
+        self.engine = engine;
         Ok(answer)
     }
 
@@ -120,68 +128,54 @@ impl Solver {
     }
 }
 
-// One list behind another.
+// Puts the clauses of a list behind those of another. For want of memory only some of them, from the first on.
 #[tactic(auto, using(crate::proofs::SolverLemmas::joins))]
-fn joined(alloc: Global, a: &ClauseList, b: &ClauseList) -> Result<ClauseList, AllocError>
-    ensures { IfOk result (λ list. list ≡ a.now ++ b.now) }
+fn extend(list: &mut ClauseList, more: &ClauseList) -> Result<(), AllocError>
+    ensures part { (k : ℕ) × (list.new ≡ list.old ++ take k more.now) }
+    ensures whole { OnOk result (list.new ≡ list.old ++ more.now) }
 {
-    let mut list = ClauseList::new(alloc);
-    for i in 0..a.len() {
-        list.push(a.get(i))?;
+    for i in 0..more.len() {
+        list.push(more.get(i))?;
     }
-    for k in 0..b.len() {
-        list.push(b.get(k))?;
-    }
-    Ok(list)
-}
-
-// The clauses of one list behind those of another, as known ones.
-#[tactic(auto, using(crate::proofs::SolverLemmas::joins))]
-fn known_of(alloc: Global, a: &ClauseList, b: &ClauseList) -> Result<Known, AllocError>
-    ensures { IfOk result (λ list. list ≡ a.now ++ b.now) }
-{
-    let mut list = Known::new(alloc);
-    for i in 0..a.len() {
-        list.push(a.get(i))?;
-    }
-    for k in 0..b.len() {
-        list.push(b.get(k))?;
-    }
-    Ok(list)
+    Ok(())
 }
 
 // The log of a refutation: the clauses, and the empty one behind them.
 fn closed(alloc: Global, clauses: &ClauseList) -> Result<Log, AllocError>
     ensures { IfOk result (λ log. log ≡ clauses.now ++ [] ∷ []) }
 {
-    let none = ClauseList::new(alloc);
-    let mut log = joined(alloc, clauses, &none)?;
+    let mut log = ClauseList::new(alloc);
+    extend(&mut log, clauses)?;
     log.push(&[])?;
     Ok(log)
 }
 
-// The answer, and all that was learnt.
+// The answer, and what to keep for the next call. What was learnt is put behind what is there.
 #[tactic(auto, using(crate::proofs::SolverLemmas::parts))]
 fn solve_parts(
     alloc: Global,
     vars: usize,
     added: &ClauseList,
-    learnt: &ClauseList,
+    learnt: &mut ClauseList,
+    held: Option<Engine>,
     budget: u64,
-) -> Result<(Answer, ClauseList), AllocError>
-    requires { IsSound vars added.now learnt.now }
-    ensures { IfOk result (λ r. IsSolved vars added.now learnt.now budget r.0 r.1) }
+) -> Result<(Answer, Option<Engine>), AllocError>
+    requires sound { IsSound vars added.now learnt.old }
+    requires held { IfSome held (Serves vars added.now learnt.old) }
+    ensures grows { Grows vars added.now learnt.old learnt.new }
+    ensures answer { IfOk result (λ r. IsAnswer (record { vars = vars; added = added.now; learnt = learnt.old }) (record { vars = vars; added = added.now; learnt = learnt.new }) budget r.0) }
+    ensures engine { IfOk result (λ r. IfSome r.1 (Serves vars added.now learnt.new)) }
 {
-    let mut known = known_of(alloc, added, learnt)?;
+    let mut engine = current(alloc, vars, added, learnt, held)?;
     let mut fresh = ClauseList::new(alloc);
-    let outcome = search(alloc, vars, &mut known, &mut fresh, budget)?;
-    let all = joined(alloc, learnt, &fresh)?;
+    let outcome = engine.search(&mut fresh, budget)?;
+    extend(learnt, &fresh)?;
     match outcome {
-        Outcome::Sat(bits) => Ok((Answer::Sat(List::from_vec(bits)), all)),
+        Outcome::Sat(bits) => Ok((Answer::Sat(List::from_vec(bits)), Some(engine))),
         Outcome::Unsat => {
-            let log = closed(alloc, &all)?;
-            Ok((Answer::Unsat(log), all))
+            let log = closed(alloc, learnt)?;
+            Ok((Answer::Unsat(log), None))
         }
-        Outcome::Spent => Ok((Answer::Spent(fresh), all)),
+        Outcome::Spent => Ok((Answer::Spent(fresh), Some(engine))),
     }
 }

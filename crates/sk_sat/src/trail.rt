@@ -1,5 +1,5 @@
 // The literals that are true so far.
-ghost use Rattle.std.specs.Prelude.{◌≡◌, ◌↔◌, ℕ, ◌+◌, ◌<◌, ◌≤◌, ◌++◌, ◌∷◌, [], List, take, length, All, Contains, IsTrue, IfOk, OnOk, OnErr, slice_index, replicate, None};
+ghost use Rattle.std.specs.Prelude.{◌≡◌, ◌↔◌, ℕ, ◌+◌, ◌<◌, ◌≤◌, ◌++◌, ◌∷◌, [], List, take, length, max, All, Contains, IsTrue, IfOk, OnOk, OnErr, slice_index, replicate, None};
 ghost use Rattle.sk_clause.specs.declared.lit.Lit.{Lit};
 ghost use Rattle.sk_clause.specs.Values.{Holds, Fails, IsOpen, assigned};
 ghost use Rattle.sk_sat.specs.Trail.{IsTrail, IsReason, Agrees, IsBack};
@@ -36,6 +36,7 @@ impl Trail {
     pub fn new(alloc: Global, vars: usize) -> Result<Trail, AllocError>
         ensures trail { IfOk result (λ t. (known : List (List Lit)) → IsTrail known t) }
         ensures long { IfOk result (λ t. length t.values.items ≡ vars) }
+        ensures lims { IfOk result (λ t. t.lims.items ≡ []) }
     {
         Ok(Trail {
             values: nones(alloc, vars)?,
@@ -44,6 +45,21 @@ impl Trail {
             lits: Vec::new(alloc),
             lims: Vec::new(alloc),
         })
+    }
+
+    /// Makes the number of variables at least n. The new ones have no value.
+    #[tactic(auto, using(crate::proofs::GrowLemmas::grows))]
+    pub fn grow(&mut self, n: usize) -> Result<(), AllocError>
+        ensures trail { OnOk result ((known : List (List Lit)) → IsTrail known self.old → IsTrail known self.new) }
+        ensures long { OnOk result (length self.new.values.items ≡ max (length self.old.values.items) n) }
+        ensures lims { self.new.lims.items ≡ self.old.lims.items }
+    {
+        'vars: while self.values.len() < n {
+            self.values.push(None)?;
+            self.level.push(0)?;
+            self.reason.push(0)?;
+        }
+        Ok(())
     }
 
     /// Makes a literal true that a clause forces.

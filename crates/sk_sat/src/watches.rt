@@ -156,19 +156,34 @@ fn deepest_of(level: &[usize], clause: &[Lit], other: Lit) -> Lit {
 }
 
 impl Watches {
-    /// Lists for so many variables, and no watches.
-    pub fn new(alloc: Global, vars: usize) -> Result<Watches, AllocError> {
-        let lists = Lists::new(alloc, vars)?;
-        let stamps = vec![in alloc; 0; vars]?;
-        Ok(Watches {
-            lists,
+    /// No variables, and no watches. It takes no memory.
+    pub fn new(alloc: Global) -> Watches {
+        Watches {
+            lists: Lists::new(alloc),
             codes: Vec::new(alloc),
             rows: Vec::new(alloc),
             learnt: 0,
             done: 0,
-            stamps,
+            stamps: Vec::new(alloc),
             counted: 0,
-        })
+        }
+    }
+
+    /// Makes the number of variables at least n.
+    pub fn grow(&mut self, n: usize) -> Result<(), AllocError> {
+        self.lists.grow(n)?;
+        for _ in self.stamps.len()..n {
+            self.stamps.push(0)?;
+        }
+        Ok(())
+    }
+
+    /// The trail was cut to so many literals, of which the last may not have been followed up.
+    pub fn go_back(&mut self, len: usize) {
+        let last = len.saturating_sub(1);
+        if self.done > last {
+            self.done = last;
+        }
     }
 
     // The number of clauses that have watches.

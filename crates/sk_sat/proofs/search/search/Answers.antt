@@ -1,10 +1,10 @@
-use Rattle.std.proofs.Common.{◌≡◌, ◌∙◌, ap, length, subst, arith}
+use Rattle.std.proofs.Common.{◌≡◌, ◌∙◌, ap, length, refl, subst, arith}
 use Rattle.std.proofs.lemmas.List.{length-map}
 use Rattle.sk_sat.proofs.SearchLemmas.{searches_begin, searches_decided, searches_learnt, grown_added, each_added, consistent_added, within_added, spent_added, unspent, met_all, work_falls, effort_falls, searches_anew}
 use Rattle.sk_sat.proofs.search.search.Goals as goal
 
 pub rounds-init : goal.rounds-init
-rounds-init c = searches_begin _ _ _ _ c.in_ok-trail.trail c.requires.fresh c.requires.within (c.in_ok-trail.ensures.trail c.args.known.now) c.in_ok-trail.ensures.long
+rounds-init c = searches_begin c.args.known.now c.args.fresh.now (length c.args.trail.now.values.items) c.args.budget c.args.trail.now c.requires.fresh c.requires.within c.requires.trail refl
 
 pub returns-in-Refuted-clause-grown : goal.returns-in-Refuted-clause-grown
 returns-in-Refuted-clause-grown c =
@@ -32,6 +32,11 @@ returns-in-Refuted-clause-outcome c =
     let f = rw c.rounds.invariant.grown at r.2 in
     (rw r.1 f, unspent _ _ _ _ _ _ _ c.rounds.invariant c.round_of.new.known c.round_of.new.fresh r.1)
 
+pub returns-in-Refuted-clause-stands : goal.returns-in-Refuted-clause-stands
+returns-in-Refuted-clause-stands c =
+    let r = rw c.in-Refuted.is at c.in_ok-round_of.ensures in
+    record { trail = r.3.trail; long = r.3.long ∙ c.rounds.invariant.long }
+
 pub returns-in-Full-clause-each : goal.returns-in-Full-clause-each
 returns-in-Full-clause-each c =
     let r = rw c.in-Full.is at c.in_ok-round_of.ensures in
@@ -41,10 +46,15 @@ pub returns-in-Full-clause-outcome : goal.returns-in-Full-clause-outcome
 returns-in-Full-clause-outcome c =
     let r = rw c.in-Full.is at c.in_ok-round_of.ensures in
     let b = rw c.deref.ensures.value at c.in_ok-bits-in-Full.ensures in (
-      ap length b ∙ length-map c.round_of.new.trail.values.items _ ∙ r.3 ∙ c.rounds.invariant.long,
+      ap length b ∙ length-map c.round_of.new.trail.values.items _ ∙ r.3.long ∙ c.rounds.invariant.long,
       met_all c.args.known.now c.rounds.known c.rounds.fresh c.round_of.new.trail.values.items c.in_ok-bits-in-Full.field-0.items c.rounds.invariant.grown r.2 b,
       unspent _ _ _ _ _ _ _ c.rounds.invariant c.round_of.new.known c.round_of.new.fresh r.1,
     )
+
+pub returns-in-Full-clause-stands : goal.returns-in-Full-clause-stands
+returns-in-Full-clause-stands c =
+    let r = rw c.in-Full.is at c.in_ok-round_of.ensures in
+    record { trail = r.3.trail; long = r.3.long ∙ c.rounds.invariant.long }
 
 pub rounds-smaller-in-Moved : goal.rounds-smaller-in-Moved
 rounds-smaller-in-Moved c =
@@ -59,27 +69,32 @@ rounds-preserved-in-Moved c =
 pub returns-then-left-eq1-clause-grown : goal.returns-then-left-eq1-clause-grown
 returns-then-left-eq1-clause-grown c =
     let r = rw c.in-Learnt.is at c.in_ok-round_of.ensures in
-    grown_added _ _ _ _ _ c.rounds.trail _ c.rounds.invariant _ _ _ r.0.1 (λ p. r.0.2 (c.is_limited-strict.ensures p))
+    grown_added c.args.known.now (length c.args.trail.now.values.items) c.args.budget c.rounds.known c.rounds.fresh c.rounds.trail c.rounds.left c.rounds.invariant c.round_of.new.known c.round_of.new.fresh r.0.0 r.0.1 (λ p. r.0.2 (c.is_limited-strict.ensures p))
 
 pub returns-then-left-eq1-clause-each : goal.returns-then-left-eq1-clause-each
 returns-then-left-eq1-clause-each c =
     let r = rw c.in-Learnt.is at c.in_ok-round_of.ensures in
-    each_added _ _ _ _ _ c.rounds.trail _ c.rounds.invariant _ _ _ r.0.1 (λ p. r.0.2 (c.is_limited-strict.ensures p))
+    each_added c.args.known.now (length c.args.trail.now.values.items) c.args.budget c.rounds.known c.rounds.fresh c.rounds.trail c.rounds.left c.rounds.invariant c.round_of.new.known c.round_of.new.fresh r.0.0 r.0.1 (λ p. r.0.2 (c.is_limited-strict.ensures p))
 
 pub returns-then-left-eq1-clause-consistent : goal.returns-then-left-eq1-clause-consistent
 returns-then-left-eq1-clause-consistent c =
     let r = rw c.in-Learnt.is at c.in_ok-round_of.ensures in
-    consistent_added _ _ _ _ _ c.rounds.trail _ c.rounds.invariant _ _ _ r.0.1 (λ p. r.0.2 (c.is_limited-strict.ensures p))
+    consistent_added c.args.known.now (length c.args.trail.now.values.items) c.args.budget c.rounds.known c.rounds.fresh c.rounds.trail c.rounds.left c.rounds.invariant c.round_of.new.known c.round_of.new.fresh r.0.0 r.0.1 (λ p. r.0.2 (c.is_limited-strict.ensures p))
 
 pub returns-then-left-eq1-clause-within : goal.returns-then-left-eq1-clause-within
 returns-then-left-eq1-clause-within c =
     let r = rw c.in-Learnt.is at c.in_ok-round_of.ensures in
-    within_added _ _ _ _ _ c.rounds.trail _ c.rounds.invariant _ _ _ r.0.1 (λ p. r.0.2 (c.is_limited-strict.ensures p))
+    within_added c.args.known.now (length c.args.trail.now.values.items) c.args.budget c.rounds.known c.rounds.fresh c.rounds.trail c.rounds.left c.rounds.invariant c.round_of.new.known c.round_of.new.fresh r.0.0 r.0.1 (λ p. r.0.2 (c.is_limited-strict.ensures p))
 
 pub returns-then-left-eq1-clause-outcome : goal.returns-then-left-eq1-clause-outcome
 returns-then-left-eq1-clause-outcome c =
     let r = rw c.in-Learnt.is at c.in_ok-round_of.ensures in
-    spent_added _ _ _ _ _ c.rounds.trail _ c.rounds.invariant _ _ _ r.0.1 (λ p. r.0.2 (c.is_limited-strict.ensures p)) c.if-left-eq1.true
+    spent_added c.args.known.now (length c.args.trail.now.values.items) c.args.budget c.rounds.known c.rounds.fresh c.rounds.trail c.rounds.left c.rounds.invariant c.round_of.new.known c.round_of.new.fresh r.0.0 r.0.1 (λ p. r.0.2 (c.is_limited-strict.ensures p)) c.if-left-eq1.true
+
+pub returns-then-left-eq1-clause-stands : goal.returns-then-left-eq1-clause-stands
+returns-then-left-eq1-clause-stands c =
+    let r = rw c.in-Learnt.is at c.in_ok-round_of.ensures in
+    record { trail = r.1.trail; long = r.1.long ∙ c.rounds.invariant.long }
 
 pub rounds-smaller : goal.rounds-smaller
 rounds-smaller c =

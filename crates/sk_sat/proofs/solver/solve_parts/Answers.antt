@@ -1,41 +1,152 @@
-use Rattle.std.proofs.Common.{◌≡◌, ◌∙◌, ◌+◌, sym, ap, subst, length, ◌++◌}
-use Rattle.std.specs.Prelude.{All}
-use Rattle.sk_clause.specs.Meaning.{valuation, NoneIncludes}
+use Rattle.std.proofs.Common.{subst, sym}
 use Rattle.sk_sat.specs.Search.{IsUnspent}
-use Rattle.sk_sat.proofs.SolverLemmas.{solved_sound, gained_is, gains_by, refutes_by, meets_front}
+use Rattle.sk_sat.proofs.SolverLemmas.{Searched, gained_is, grows_part, grows_whole, serves_after, answer_sat, answer_unsat, answer_spent}
 use Rattle.sk_sat.proofs.solver.solve_parts.Goals as goal
 
-pub returns-in-Sat : goal.returns-in-Sat
-returns-in-Sat c =
+pub returns-in_err-extend-clause-grows : goal.returns-in_err-extend-clause-grows
+returns-in_err-extend-clause-grows c =
+    let s : Searched c.args.vars c.args.added.now c.args.learnt.now c.in_ok-engine.engine c.search.new.self c.search.new.fresh = record {
+      sound = c.requires.sound;
+      current = c.in_ok-engine.ensures;
+      ready = c.in_ok-outcome.ensures.ready;
+      long = c.in_ok-outcome.ensures.vars;
+      taken = c.in_ok-outcome.ensures.taken;
+      grown = c.in_ok-outcome.ensures.grown;
+      each = c.in_ok-outcome.ensures.each;
+      consistent = c.in_ok-outcome.ensures.consistent;
+    } in
+    grows_part c.args.vars c.args.added.now c.args.learnt.now c.in_ok-engine.engine c.search.new.self c.search.new.fresh s c.extend.new.list c.extend.ensures.part.0 c.extend.ensures.part.1
+
+pub returns-in_err-log-in-Unsat-clause-grows : goal.returns-in_err-log-in-Unsat-clause-grows
+returns-in_err-log-in-Unsat-clause-grows c =
+    let s : Searched c.args.vars c.args.added.now c.args.learnt.now c.in_ok-engine.engine c.search.new.self c.search.new.fresh = record {
+      sound = c.requires.sound;
+      current = c.in_ok-engine.ensures;
+      ready = c.in_ok-outcome.ensures.ready;
+      long = c.in_ok-outcome.ensures.vars;
+      taken = c.in_ok-outcome.ensures.taken;
+      grown = c.in_ok-outcome.ensures.grown;
+      each = c.in_ok-outcome.ensures.each;
+      consistent = c.in_ok-outcome.ensures.consistent;
+    } in
+    grows_whole c.args.vars c.args.added.now c.args.learnt.now c.in_ok-engine.engine c.search.new.self c.search.new.fresh s c.extend.new.list c.in_ok-extend.ensures.whole
+
+pub returns-in_ok-log-in-Unsat-clause-grows : goal.returns-in_ok-log-in-Unsat-clause-grows
+returns-in_ok-log-in-Unsat-clause-grows c =
+    let s : Searched c.args.vars c.args.added.now c.args.learnt.now c.in_ok-engine.engine c.search.new.self c.search.new.fresh = record {
+      sound = c.requires.sound;
+      current = c.in_ok-engine.ensures;
+      ready = c.in_ok-outcome.ensures.ready;
+      long = c.in_ok-outcome.ensures.vars;
+      taken = c.in_ok-outcome.ensures.taken;
+      grown = c.in_ok-outcome.ensures.grown;
+      each = c.in_ok-outcome.ensures.each;
+      consistent = c.in_ok-outcome.ensures.consistent;
+    } in
+    grows_whole c.args.vars c.args.added.now c.args.learnt.now c.in_ok-engine.engine c.search.new.self c.search.new.fresh s c.extend.new.list c.in_ok-extend.ensures.whole
+
+pub returns-in-Sat-clause-grows : goal.returns-in-Sat-clause-grows
+returns-in-Sat-clause-grows c =
+    let s : Searched c.args.vars c.args.added.now c.args.learnt.now c.in_ok-engine.engine c.search.new.self c.search.new.fresh = record {
+      sound = c.requires.sound;
+      current = c.in_ok-engine.ensures;
+      ready = c.in_ok-outcome.ensures.ready;
+      long = c.in_ok-outcome.ensures.vars;
+      taken = c.in_ok-outcome.ensures.taken;
+      grown = c.in_ok-outcome.ensures.grown;
+      each = c.in_ok-outcome.ensures.each;
+      consistent = c.in_ok-outcome.ensures.consistent;
+    } in
+    grows_whole c.args.vars c.args.added.now c.args.learnt.now c.in_ok-engine.engine c.search.new.self c.search.new.fresh s c.extend.new.list c.in_ok-extend.ensures.whole
+
+pub returns-in-Spent-clause-grows : goal.returns-in-Spent-clause-grows
+returns-in-Spent-clause-grows c =
+    let s : Searched c.args.vars c.args.added.now c.args.learnt.now c.in_ok-engine.engine c.search.new.self c.search.new.fresh = record {
+      sound = c.requires.sound;
+      current = c.in_ok-engine.ensures;
+      ready = c.in_ok-outcome.ensures.ready;
+      long = c.in_ok-outcome.ensures.vars;
+      taken = c.in_ok-outcome.ensures.taken;
+      grown = c.in_ok-outcome.ensures.grown;
+      each = c.in_ok-outcome.ensures.each;
+      consistent = c.in_ok-outcome.ensures.consistent;
+    } in
+    grows_whole c.args.vars c.args.added.now c.args.learnt.now c.in_ok-engine.engine c.search.new.self c.search.new.fresh s c.extend.new.list c.in_ok-extend.ensures.whole
+
+pub returns-in-Sat-clause-engine : goal.returns-in-Sat-clause-engine
+returns-in-Sat-clause-engine c =
+    let s : Searched c.args.vars c.args.added.now c.args.learnt.now c.in_ok-engine.engine c.search.new.self c.search.new.fresh = record {
+      sound = c.requires.sound;
+      current = c.in_ok-engine.ensures;
+      ready = c.in_ok-outcome.ensures.ready;
+      long = c.in_ok-outcome.ensures.vars;
+      taken = c.in_ok-outcome.ensures.taken;
+      grown = c.in_ok-outcome.ensures.grown;
+      each = c.in_ok-outcome.ensures.each;
+      consistent = c.in_ok-outcome.ensures.consistent;
+    } in
+    serves_after c.args.vars c.args.added.now c.args.learnt.now c.in_ok-engine.engine c.search.new.self c.search.new.fresh s c.extend.new.list c.in_ok-extend.ensures.whole
+
+pub returns-in-Spent-clause-engine : goal.returns-in-Spent-clause-engine
+returns-in-Spent-clause-engine c =
+    let s : Searched c.args.vars c.args.added.now c.args.learnt.now c.in_ok-engine.engine c.search.new.self c.search.new.fresh = record {
+      sound = c.requires.sound;
+      current = c.in_ok-engine.ensures;
+      ready = c.in_ok-outcome.ensures.ready;
+      long = c.in_ok-outcome.ensures.vars;
+      taken = c.in_ok-outcome.ensures.taken;
+      grown = c.in_ok-outcome.ensures.grown;
+      each = c.in_ok-outcome.ensures.each;
+      consistent = c.in_ok-outcome.ensures.consistent;
+    } in
+    serves_after c.args.vars c.args.added.now c.args.learnt.now c.in_ok-engine.engine c.search.new.self c.search.new.fresh s c.extend.new.list c.in_ok-extend.ensures.whole
+
+pub returns-in-Sat-clause-answer : goal.returns-in-Sat-clause-answer
+returns-in-Sat-clause-answer c =
+    let s : Searched c.args.vars c.args.added.now c.args.learnt.now c.in_ok-engine.engine c.search.new.self c.search.new.fresh = record {
+      sound = c.requires.sound;
+      current = c.in_ok-engine.ensures;
+      ready = c.in_ok-outcome.ensures.ready;
+      long = c.in_ok-outcome.ensures.vars;
+      taken = c.in_ok-outcome.ensures.taken;
+      grown = c.in_ok-outcome.ensures.grown;
+      each = c.in_ok-outcome.ensures.each;
+      consistent = c.in_ok-outcome.ensures.consistent;
+    } in
     let o = rw c.in-Sat.is at c.in_ok-outcome.ensures.outcome in
-    let g = gained_is c.args.vars c.args.added.now c.args.learnt.now c.search.new.fresh c.in_ok-all.all c.in_ok-all.ensures in
-    record {
-      sound = solved_sound _ _ _ _ _ _ _ c.requires c.in_ok-known.ensures c.in_ok-outcome.ensures.each c.in_ok-outcome.ensures.consistent c.in_ok-outcome.ensures.within c.in_ok-outcome.ensures.grown c.in_ok-all.ensures;
-      gains = gains_by c.args.vars _ _ _ _ _ c.in_ok-known.ensures c.in_ok-outcome.ensures.each c.in_ok-all.ensures;
-      is_answer = rw c.from_vec.ensures (o.0, meets_front (valuation c.in-Sat.bits.items) _ _ _ c.in_ok-known.ensures o.1, subst (IsUnspent c.args.budget) (sym g) o.2);
-    }
+    rw c.from_vec.ensures (answer_sat c.args.vars c.args.added.now c.args.learnt.now c.in_ok-engine.engine c.search.new.self c.search.new.fresh s c.extend.new.list c.args.budget c.in-Sat.bits.items c.in_ok-extend.ensures.whole o.0 o.1 o.2)
 
-pub returns-in-Unsat : goal.returns-in-Unsat
-returns-in-Unsat c =
-    let o = rw c.in-Unsat.is at c.in_ok-outcome.ensures.outcome in
-    let g = gained_is c.args.vars c.args.added.now c.args.learnt.now c.search.new.fresh c.in_ok-all.all c.in_ok-all.ensures in
-    let sound = solved_sound _ _ _ _ _ _ _ c.requires c.in_ok-known.ensures c.in_ok-outcome.ensures.each c.in_ok-outcome.ensures.consistent c.in_ok-outcome.ensures.within c.in_ok-outcome.ensures.grown c.in_ok-all.ensures in
-    record {
-      sound = sound;
-      gains = gains_by c.args.vars _ _ _ _ _ c.in_ok-known.ensures c.in_ok-outcome.ensures.each c.in_ok-all.ensures;
-      is_answer = (
-        c.in_ok-log-in-Unsat.ensures,
-        refutes_by _ _ _ _ _ _ c.in_ok-known.ensures c.in_ok-all.ensures sound.each o.0 c.in_ok-log-in-Unsat.ensures,
-        subst (IsUnspent c.args.budget) (sym g) o.1,
-      );
-    }
+pub returns-in_ok-log-in-Unsat-clause-answer : goal.returns-in_ok-log-in-Unsat-clause-answer
+returns-in_ok-log-in-Unsat-clause-answer c =
+    let s : Searched c.args.vars c.args.added.now c.args.learnt.now c.in_ok-engine.engine c.search.new.self c.search.new.fresh = record {
+      sound = c.requires.sound;
+      current = c.in_ok-engine.ensures;
+      ready = c.in_ok-outcome.ensures.ready;
+      long = c.in_ok-outcome.ensures.vars;
+      taken = c.in_ok-outcome.ensures.taken;
+      grown = c.in_ok-outcome.ensures.grown;
+      each = c.in_ok-outcome.ensures.each;
+      consistent = c.in_ok-outcome.ensures.consistent;
+    } in
+    let g = gained_is c.args.vars c.args.added.now c.args.learnt.now c.search.new.fresh c.extend.new.list c.in_ok-extend.ensures.whole in
+    let o = rw c.in-Unsat.is at c.in_ok-outcome.ensures.outcome in (
+      c.in_ok-log-in-Unsat.ensures,
+      answer_unsat c.args.vars c.args.added.now c.args.learnt.now c.in_ok-engine.engine c.search.new.self c.search.new.fresh s c.extend.new.list _ c.in_ok-extend.ensures.whole c.in_ok-log-in-Unsat.ensures o.0,
+      subst (IsUnspent c.args.budget) (sym g) o.1,
+    )
 
-pub returns : goal.returns
-returns c =
+pub returns-in-Spent-clause-answer : goal.returns-in-Spent-clause-answer
+returns-in-Spent-clause-answer c =
+    let s : Searched c.args.vars c.args.added.now c.args.learnt.now c.in_ok-engine.engine c.search.new.self c.search.new.fresh = record {
+      sound = c.requires.sound;
+      current = c.in_ok-engine.ensures;
+      ready = c.in_ok-outcome.ensures.ready;
+      long = c.in_ok-outcome.ensures.vars;
+      taken = c.in_ok-outcome.ensures.taken;
+      grown = c.in_ok-outcome.ensures.grown;
+      each = c.in_ok-outcome.ensures.each;
+      consistent = c.in_ok-outcome.ensures.consistent;
+    } in
+    let g = gained_is c.args.vars c.args.added.now c.args.learnt.now c.search.new.fresh c.extend.new.list c.in_ok-extend.ensures.whole in
     let o = rw c.in-Spent.is at c.in_ok-outcome.ensures.outcome in
-    let g = gained_is c.args.vars c.args.added.now c.args.learnt.now c.search.new.fresh c.in_ok-all.all c.in_ok-all.ensures in
-    record {
-      sound = solved_sound _ _ _ _ _ _ _ c.requires c.in_ok-known.ensures c.in_ok-outcome.ensures.each c.in_ok-outcome.ensures.consistent c.in_ok-outcome.ensures.within c.in_ok-outcome.ensures.grown c.in_ok-all.ensures;
-      gains = gains_by c.args.vars _ _ _ _ _ c.in_ok-known.ensures c.in_ok-outcome.ensures.each c.in_ok-all.ensures;
-      is_answer = (sym g, o.0, o.1, c.in_ok-outcome.ensures.consistent, subst (λ x. NoneIncludes x c.search.new.fresh) c.in_ok-known.ensures o.2);
-    }
+    (sym g, o.0, o.1, c.in_ok-outcome.ensures.consistent, answer_spent c.args.vars c.args.added.now c.args.learnt.now c.in_ok-engine.engine c.search.new.self c.search.new.fresh s o.2)
