@@ -1,4 +1,4 @@
-// How much each variable was met in conflicts, and its last sign.
+// How much each variable was met in conflicts, and its signs.
 ghost use Rattle.std.specs.Prelude.{◌≡◌, ◌<◌, length, None, true, IfSome, slice_index_or};
 
 use sk_clause::Lit;
@@ -16,12 +16,17 @@ const SCALE: u32 = 32;
 /// The step before the first conflict.
 const FIRST_STEP: u64 = 1 << 20;
 
-/// Weights and last signs of the variables, and a heap of variables with the heaviest first. No contract speaks of
+/// Weights and signs of the variables, and a heap of variables with the heaviest first. No contract speaks of
 /// them: they only order the decisions. A variable that is not in the heap is found by looking at all.
 #[derive(Drop)]
 pub struct Activity {
     weights: Vec<u64>,
     negative: Vec<bool>,
+    /// The signs in the longest trail without a conflict since they were last taken over, and its length.
+    target: Vec<Option<bool>>,
+    longest: usize,
+    /// Whether decisions take these signs where there are some.
+    aims: bool,
     step: u64,
     heap: Vec<u32>,
     /// Of each variable its place in the heap, or `NONE`.
@@ -49,6 +54,9 @@ impl Activity {
         Activity {
             weights: Vec::new(alloc),
             negative: Vec::new(alloc),
+            target: Vec::new(alloc),
+            longest: 0,
+            aims: false,
             step: FIRST_STEP,
             heap: Vec::new(alloc),
             places: Vec::new(alloc),
@@ -61,6 +69,7 @@ impl Activity {
         for _ in first..n {
             self.weights.push(0)?;
             self.negative.push(true)?;
+            self.target.push(None)?;
             self.places.push(NONE)?;
         }
         self.heap.reserve(n.saturating_sub(self.heap.len()))?;
@@ -81,6 +90,11 @@ impl Activity {
 
     /// Whether a decision makes the variable false.
     pub fn is_negative(&self, v: usize) -> bool {
+        if self.aims && v < self.target.len() {
+            if let Some(neg) = self.target[v] {
+                return neg;
+            }
+        }
         if v < self.negative.len() {
             self.negative[v]
         } else {
@@ -229,9 +243,48 @@ impl Activity {
         level
     }
 
+    // Takes over the signs of the longest trail as those of later decisions, and begins to look for a longer one anew.
+    fn take_over(&mut self) {
+        self.longest = 0;
+        for v in 0..self.target.len() {
+            if let Some(neg) = self.target[v] {
+                if v < self.negative.len() {
+                    self.negative[v] = neg;
+                }
+                self.target[v] = None;
+            }
+        }
+    }
+
+    /// Has decisions take the signs of the longest trail, or the last ones. Where this changes, or where it is wanted,
+    /// those of the longest trail become the last ones, and none is the longest.
+    pub fn aim(&mut self, aims: bool, anew: bool) {
+        if anew || self.aims != aims {
+            self.take_over();
+        }
+        self.aims = aims;
+    }
+
+    // The first so many literals were true with no conflict: their signs are kept where there were never more.
+    fn note(&mut self, lits: &[Lit], len: usize) {
+        if len <= self.longest || len > lits.len() {
+            return;
+        }
+        self.longest = len;
+        for i in 0..len {
+            let l = lits[i];
+            if l.var < self.target.len() {
+                self.target[l.var] = Some(l.neg);
+            }
+        }
+    }
+
     /// The literals from a place on lose their values: their signs are kept for later decisions, and their variables
-    /// are in the heap again.
-    pub fn release(&mut self, lits: &[Lit], begin: usize) {
+    /// are in the heap again. There may be a conflict at the last level, but not before.
+    pub fn release(&mut self, lits: &[Lit], lims: &[usize], begin: usize) {
+        if let [.., last] = lims {
+            self.note(lits, *last);
+        }
         for i in begin..lits.len() {
             let l = lits[i];
             if l.var < self.negative.len() {

@@ -19,13 +19,16 @@ const LEAST: u64 = 2;
 const PARTS: u64 = 1 << 20;
 
 /// So many conflicts count for the mean of the last ones.
-const LAST: u64 = 32;
+const LAST: u64 = 50;
 
 /// So many conflicts count for the mean of all.
 const MANY: u64 = 8192;
 
 /// So many conflicts stand before the first steady time.
 const FIRST_TURN: u64 = 1000;
+
+/// After so many conflicts the signs of the longest trail are taken over.
+const AIM: u64 = 1000;
 
 /// When the search begins anew. The glue of a learnt clause is the number of levels that its literals had. At times a
 /// restart comes when the glue of the last clauses is a tenth more than that of all; in between are steady times, where
@@ -121,6 +124,11 @@ impl Restarts {
         self.passed >= LEAST && self.last > self.all.saturating_add(self.all / 10)
     }
 
+    // Has decisions take the signs of the longest trail in a steady time, and the last ones in the other.
+    fn aim(&self, activity: &mut Activity) {
+        activity.aim(self.steady, self.conflicts % AIM == 0);
+    }
+
     /// Counts a conflict whose clause has this glue. Whether the search is to begin anew.
     pub fn count(&mut self, glue: u32) -> bool
         ensures due { result ≡ true → self.new.left + 1 ≡ self.old.left }
@@ -157,7 +165,9 @@ pub fn begin_anew(trail: &mut Trail, activity: &mut Activity, restarts: &mut Res
     ensures long { length trail.new.values.items ≡ length trail.old.values.items }
     ensures less { effort restarts.new.left trail.new ≤ effort restarts.old.left trail.old }
 {
-    if restarts.count(glue) {
+    let due = restarts.count(glue);
+    restarts.aim(activity);
+    if due {
         to_start(trail, activity);
     }
 }

@@ -116,7 +116,7 @@ impl Trail {
         ensures lims { self.new.lims.items ≡ take level self.old.lims.items }
     {
         let begin = self.lims[level];
-        activity.release(&self.lits, begin);
+        activity.release(&self.lits, &self.lims, begin);
         self.lims.truncate(level);
         clear(&mut self.values, &mut self.lits, begin);
     }
