@@ -1,14 +1,13 @@
 -- Why literals that the others force may be left out, and how marks are taken.
-use Rattle.std.proofs.Common.{◌≡◌, ◌≢◌, ◌⊎◌, inl, inr, Bool, true, false, ℕ, zero, suc, ◌+◌, ◌-◌, ◌<◌, ◌≤◌, ◌++◌, List, [], ◌∷◌, length, get_or, set, take, replicate, refl, sym, ◌∙◌, ap, arith, subst, Option}
+use Rattle.std.proofs.Common.{◌≡◌, ◌≢◌, ◌⊎◌, inl, inr, Bool, true, false, ℕ, zero, suc, ◌+◌, ◌-◌, ◌<◌, ◌≤◌, ◌++◌, List, [], ◌∷◌, length, get_or, set, take, replicate, sym, ◌∙◌, ap, arith, subst, Option}
 use Rattle.std.specs.Prelude.{Contains}
 use Rattle.std.proofs.lemmas.List.{take_more, take_all, length-replicate, get_or-set_same, get_or-set_other, length-set, get_or_past}
 use Rattle.std.proofs.lemmas.List.Elements.{Contains-push_cases, Contains-push, Contains-append_left, Contains-get_or}
 use Rattle.std.proofs.lemmas.Bool.{cases_eq, cases_lt}
 use Rattle.sk_clause.specs.declared.lit.Lit.{Lit}
-use Rattle.sk_clause.specs.Meaning.{negated, Closure, forced, Falsifies}
+use Rattle.sk_clause.specs.Meaning.{negated, Closure, forced}
 use Rattle.sk_clause.proofs.MeaningLemmas.{Contains-none}
-use Rattle.sk_clause.specs.Values.{Holds, Fails}
-use Rattle.sk_clause.proofs.ValueLemmas.{negated_holds, same_var_fails, not_fails_holds}
+use Rattle.sk_clause.proofs.ValueLemmas.{negated_holds, same_var_fails}
 use Rattle.sk_sat.specs.Trail.{lit_at, IsReason, IsTrailOf}
 use Rattle.sk_sat.specs.Analysis.{level_at, is_open, IsOnly, IsKept, IsClean, AreCovered, IsImplied, IsTurn}
 use Rattle.sk_sat.proofs.ResolveLemmas.{place, place_in_front, others_fail, zero_closure}
