@@ -1,5 +1,5 @@
 -- A trail with no literals.
-use Rattle.std.proofs.Common.{◌≡◌, ℕ, zero, suc, ◌+◌, ◌<◌, List, [], length, replicate, refl, sym, ◌∙◌, arith, Option, Some, None, Bool}
+use Rattle.std.proofs.Common.{◌≡◌, ℕ, zero, suc, List, [], length, replicate, refl, sym, ◌∙◌, arith, Option, None, Bool}
 use Rattle.std.proofs.lemmas.List.{length-replicate}
 use Rattle.sk_clause.specs.declared.lit.Lit.{Lit}
 use Rattle.sk_clause.specs.Values.{open_count}

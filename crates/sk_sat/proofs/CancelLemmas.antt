@@ -1,16 +1,16 @@
 -- How the trail goes back.
 use Rattle.std.proofs.Common.{◌≡◌, ◌≢◌, ◌⊎◌, inl, inr, Bool, true, false, not, ℕ, zero, suc, ◌+◌, ◌-◌, ◌<◌, ◌≤◌, ◌++◌, List, [], ◌∷◌, length, get_or, set, take, refl, sym, ◌∙◌, ap, arith, subst, Option, Some, None}
 use Rattle.std.specs.Prelude.{Contains}
-use Rattle.std.proofs.lemmas.List.{take_at, length_push, get_or-set_same, get_or-set_other, length-set, length-take-le, get_or-take, take-take, take-append-le, get_or_append_left, get_or_push}
+use Rattle.std.proofs.lemmas.List.{take_at, length_push, length-set, length-take-le, get_or-take, take-take, get_or_append_left, get_or_push}
 use Rattle.std.proofs.lemmas.List.Elements.{Contains-push_cases}
 use Rattle.std.proofs.lemmas.Bool.{cases_eq, cases_lt}
 use Rattle.sk_clause.specs.declared.lit.Lit.{Lit}
-use Rattle.sk_clause.specs.Values.{Holds, Fails, IsOpen, open_count}
+use Rattle.sk_clause.specs.Values.{Holds, Fails, IsOpen}
 use Rattle.sk_clause.proofs.ValueLemmas.{Holds-cleared_other, Holds-cleared_same, Holds-within, open_count-cleared, negated_holds, fails_from_negated, open_unless}
 use Rattle.sk_clause.specs.Meaning.{negated}
 use Rattle.sk_sat.specs.Analysis.{level_at, IsLesson}
 use Rattle.sk_sat.proofs.ResolveLemmas.{place, place_in_front}
-use Rattle.sk_sat.specs.Trail.{lit_at, Agrees, IsLeveled, IsReason, AreReasoned, IsTrailOf}
+use Rattle.sk_sat.specs.Trail.{lit_at, Agrees, IsReason, IsTrailOf}
 use Rattle.sk_sat.proofs.TrailLemmas.{lit_left, lit_last, reason_same}
 
 pub agrees_pop : (vs : List (Option Bool)) (ls : List Lit) (l : Lit) → Agrees vs (ls ++ l ∷ []) → Agrees (set vs l.var None) ls

@@ -1,13 +1,11 @@
 -- What an engine has, and how it keeps up.
-use Rattle.std.proofs.Common.{◌≡◌, ◌⊎◌, inl, inr, ℕ, zero, suc, ◌+◌, ◌<◌, ◌≤◌, ◌++◌, List, [], ◌∷◌, length, get_or, take, drop, refl, sym, ◌∙◌, ap, arith, subst, Option, Some, None}
-use Rattle.std.specs.Prelude.{All, Contains, IfSome}
+use Rattle.std.proofs.Common.{◌≡◌, inl, inr, ℕ, ◌+◌, ◌<◌, ◌≤◌, ◌++◌, List, [], ◌∷◌, length, get_or, take, drop, sym, ◌∙◌, ap, arith, subst, Option, Some, None}
+use Rattle.std.specs.Prelude.{Contains, IfSome}
 use Rattle.std.proofs.lemmas.List.{append-nil, append_assoc, take_all, drop_all, drop_more, take-append-le, take-append-drop, length_push}
-use Rattle.std.proofs.lemmas.List.Elements.{All-push, All-weaker, Contains-append_left, Contains-append_right, Contains-append_cases}
+use Rattle.std.proofs.lemmas.List.Elements.{All-weaker, Contains-append_left, Contains-append_right, Contains-append_cases}
 use Rattle.sk_clause.specs.declared.lit.Lit.{Lit}
 use Rattle.sk_clause.specs.Problem.{IsWithin, AreWithin}
-use Rattle.sk_sat.specs.declared.trail.Trail.{Trail}
 use Rattle.sk_sat.specs.declared.engine.Engine.{Engine}
-use Rattle.sk_sat.specs.Trail.{IsTrail}
 use Rattle.sk_sat.specs.Engine.{IsReady, HasSame, Serves, IsCurrent}
 
 pub same_lists : (cs ds : List (List Lit)) → cs ≡ ds → HasSame cs ds

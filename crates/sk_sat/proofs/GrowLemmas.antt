@@ -1,9 +1,9 @@
 -- A variable more.
-use Rattle.std.proofs.Common.{◌≡◌, ◌≢◌, Bool, true, ℕ, zero, suc, ◌+◌, ◌<◌, ◌≤◌, ◌++◌, List, [], ◌∷◌, length, get_or, take, refl, sym, ◌∙◌, ap, arith, subst, Option, Some, None}
+use Rattle.std.proofs.Common.{◌≡◌, Bool, true, ℕ, zero, suc, ◌+◌, ◌≤◌, ◌++◌, List, [], ◌∷◌, length, get_or, take, refl, sym, arith, subst, Option, Some, None}
 use Rattle.std.proofs.lemmas.List.{length_push}
 use Rattle.sk_clause.specs.declared.lit.Lit.{Lit}
-use Rattle.sk_clause.specs.Values.{signed, Holds, open_count}
-use Rattle.sk_sat.specs.Trail.{lit_at, Agrees, IsLeveled, IsReason, AreReasoned, IsTrailOf}
+use Rattle.sk_clause.specs.Values.{signed, open_count}
+use Rattle.sk_sat.specs.Trail.{lit_at, Agrees, IsLeveled, IsReason, IsTrailOf}
 
 -- past its end a list has the default
 pub get_or-push_default : {X : Type 0} (xs : List X) (d : X) (i : ℕ) → get_or (xs ++ d ∷ []) i d ≡ get_or xs i d

@@ -1,13 +1,12 @@
 -- The chains of the known clauses.
-use Rattle.std.proofs.Common.{◌≡◌, ◌≢◌, ◌⊎◌, inl, inr, Bool, true, false, ℕ, zero, suc, ◌+◌, ◌-◌, ◌<◌, ◌≤◌, ◌++◌, List, [], ◌∷◌, length, get_or, set, take, refl, sym, ◌∙◌, ap, arith, subst, Option, Some, None}
+use Rattle.std.proofs.Common.{◌≡◌, ◌≢◌, inl, inr, Bool, true, false, ℕ, ◌+◌, ◌<◌, ◌≤◌, ◌++◌, List, [], ◌∷◌, length, get_or, set, take, refl, sym, ◌∙◌, ap, arith, subst, Some, None}
 use Rattle.std.specs.Prelude.{Contains}
 use Rattle.std.proofs.lemmas.List.{take_all, length_push, get_or_append_left, get_or_push, get_or-set_same, get_or-set_other, get_or_past}
-use Rattle.std.proofs.lemmas.List.Elements.{Contains-get_or}
 use Rattle.std.proofs.lemmas.Bool.{cases_eq, cases_lt}
 use Rattle.sk_clause.specs.declared.lit.Lit.{Lit}
 use Rattle.sk_clause.specs.Meaning.{Includes}
 use Rattle.sk_clause.proofs.MeaningLemmas.{Contains-here, Contains-none}
-use Rattle.sk_sat.specs.Round.{IsUnlike, IsInside}
+use Rattle.sk_sat.specs.Round.{IsUnlike}
 use Rattle.sk_sat.specs.Known.{first_var, IsIndexed, IsApart}
 use Rattle.sk_sat.proofs.InsideLemmas.{more_cases, is_inside}
 use Rattle.sk_sat.proofs.TrailLemmas.{each_push}

@@ -1,16 +1,14 @@
 -- From a conflict to a lesson.
-use Rattle.std.proofs.Common.{◌≡◌, ◌≢◌, ◌⊎◌, inl, inr, Bool, true, false, not, ℕ, zero, suc, ◌+◌, ◌-◌, ◌<◌, ◌≤◌, ◌++◌, List, [], ◌∷◌, length, get_or, set, take, replicate, max, refl, sym, ◌∙◌, ap, arith, subst, Option, Some, None}
-use Rattle.std.specs.Prelude.{All, Contains}
+use Rattle.std.proofs.Common.{◌≡◌, inl, inr, Bool, true, false, ℕ, suc, ◌+◌, ◌<◌, ◌≤◌, ◌++◌, List, [], ◌∷◌, length, get_or, take, max, refl, sym, ap, arith, subst, Option}
+use Rattle.std.specs.Prelude.{Contains}
 use Rattle.std.proofs.lemmas.List.{take_more, take_all}
 use Rattle.std.proofs.lemmas.List.Elements.{Contains-push_cases, Contains-push, Contains-append_left}
 use Rattle.sk_clause.specs.declared.lit.Lit.{Lit}
-use Rattle.sk_clause.specs.Meaning.{negated, Falsifies, denied}
+use Rattle.sk_clause.specs.Meaning.{negated, denied}
 use Rattle.sk_clause.proofs.MeaningLemmas.{Contains-none}
-use Rattle.sk_clause.specs.Values.{Holds, Fails}
 use Rattle.sk_clause.proofs.ValueLemmas.{negated_holds, fails_from_negated, negated-negated, negated_fails}
-use Rattle.sk_sat.specs.Trail.{lit_at, Agrees, IsTrailOf}
-use Rattle.sk_sat.specs.Analysis.{level_at, is_open, marked_count, IsCovered, IsFalseIn, Absorbs, IsKept, IsFalsified, Pending, IsTurn, IsLesson, IsClean}
-use Rattle.sk_sat.proofs.AnalysisLemmas.{marked_count-clear, marked_count-set}
+use Rattle.sk_sat.specs.Analysis.{level_at, marked_count, Absorbs, IsKept, IsFalsified, IsTurn, IsLesson, IsClean}
+use Rattle.sk_sat.proofs.AnalysisLemmas.{marked_count-clear}
 use Rattle.sk_sat.proofs.ResolveLemmas.{pending_begins}
 
 -- the deepest level so far

@@ -1,14 +1,14 @@
 -- What one look at a clause, and several, leave.
-use Rattle.std.proofs.Common.{◌≡◌, ◌≢◌, ◌⊎◌, inl, inr, Bool, true, false, not, ℕ, zero, suc, ◌+◌, ◌-◌, ◌<◌, ◌≤◌, ◌++◌, List, [], ◌∷◌, length, get_or, set, take, refl, sym, ◌∙◌, ap, arith, subst, Option, Some, None}
-use Rattle.std.specs.Prelude.{All, Contains}
+use Rattle.std.proofs.Common.{Bool, ℕ, ◌<◌, List, [], length, get_or, refl, sym, ◌∙◌, arith, subst, Option}
+use Rattle.std.specs.Prelude.{All}
 use Rattle.std.proofs.lemmas.List.Elements.{All-contains}
 use Rattle.sk_clause.specs.declared.lit.Lit.{Lit}
 use Rattle.sk_clause.specs.Meaning.{negated}
 use Rattle.sk_clause.specs.Problem.{AreWithin}
-use Rattle.sk_clause.specs.Values.{Holds, Fails, IsOpen, LeavesOne}
+use Rattle.sk_clause.specs.Values.{Fails, LeavesOne}
 use Rattle.sk_clause.proofs.ValueLemmas.{negated_holds, LeavesOne_var}
 use Rattle.sk_sat.specs.declared.trail.Trail.{Trail}
-use Rattle.sk_sat.specs.Trail.{lit_at, Agrees, IsReason, IsTrailOf, IsTrail, Extends}
+use Rattle.sk_sat.specs.Trail.{IsReason, IsTrailOf, Extends}
 use Rattle.sk_sat.specs.Analysis.{IsFalsified}
 
 pub unit_reason : (known : List (List Lit)) (vs : List (Option Bool)) (lv rs : List ℕ) (ls : List Lit) (lims : List ℕ) (i : ℕ) (l : Lit) → IsTrailOf known vs lv rs ls lims → i < length known → LeavesOne vs (get_or known i []) l → IsReason known i ls l

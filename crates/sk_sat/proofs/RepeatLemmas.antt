@@ -1,15 +1,15 @@
 -- What a known clause that stands within a lesson does where the lesson would force its literal.
-use Rattle.std.proofs.Common.{◌≡◌, ◌≢◌, ◌⊎◌, inl, inr, ℕ, ◌+◌, ◌<◌, ◌≤◌, List, [], ◌∷◌, length, get_or, take, refl, sym, ◌∙◌, ap, arith, subst, Option, Bool}
+use Rattle.std.proofs.Common.{◌≢◌, ℕ, List, [], length, get_or, ap, arith, subst}
 use Rattle.std.specs.Prelude.{Contains}
 use Rattle.std.proofs.lemmas.List.{length-take-le}
 use Rattle.sk_clause.specs.declared.lit.Lit.{Lit}
 use Rattle.sk_clause.specs.Meaning.{negated}
-use Rattle.sk_clause.specs.Values.{Holds, Fails}
+use Rattle.sk_clause.specs.Values.{Fails}
 use Rattle.sk_clause.proofs.ValueLemmas.{negated_holds}
 use Rattle.sk_sat.specs.declared.trail.Trail.{Trail}
-use Rattle.sk_sat.specs.Trail.{IsTrail, IsReason, Agrees, IsBack}
-use Rattle.sk_sat.specs.Analysis.{level_at, IsLesson, IsFalsified}
-use Rattle.sk_sat.specs.Round.{IsInside, IsCut, FallsBack}
+use Rattle.sk_sat.specs.Trail.{IsTrail, IsReason, IsBack}
+use Rattle.sk_sat.specs.Analysis.{IsLesson}
+use Rattle.sk_sat.specs.Round.{IsInside, FallsBack}
 
 -- each of its literals but the one that the lesson forces is still false
 inside_fails : (known : List (List Lit)) (c : List Lit) (turn : Lit) (back j : ℕ) (t u : Trail) → IsLesson known t.values.items t.level.items (length t.lims.items) c turn back → IsInside known c j → IsBack back t u

@@ -1,16 +1,16 @@
 -- Why what a conflict teaches follows.
-use Rattle.std.proofs.Common.{◌≡◌, ◌≢◌, ◌⊎◌, inl, inr, Bool, true, false, not, ℕ, zero, suc, ◌+◌, ◌-◌, ◌<◌, ◌≤◌, ◌++◌, List, [], ◌∷◌, length, get_or, set, take, refl, sym, ◌∙◌, ap, arith, subst, Option, Some, None, below_more}
-use Rattle.std.specs.Prelude.{All, Contains}
+use Rattle.std.proofs.Common.{◌≡◌, ◌≢◌, inl, inr, Bool, true, false, ℕ, zero, suc, ◌<◌, ◌≤◌, List, [], length, get_or, set, take, sym, ◌∙◌, ap, arith, subst, Option}
+use Rattle.std.specs.Prelude.{Contains}
 use Rattle.std.proofs.lemmas.List.{get_or-set_same, get_or-set_other, length-take-le, get_or-take, get_or_default}
 use Rattle.std.proofs.lemmas.List.Elements.{Contains-get_or}
 use Rattle.std.proofs.lemmas.Bool.{cases_eq}
 use Rattle.sk_clause.specs.declared.lit.Lit.{Lit}
-use Rattle.sk_clause.specs.Meaning.{negated, Closure, denied, forced, Falsifies}
+use Rattle.sk_clause.specs.Meaning.{negated, Closure, denied, forced}
 use Rattle.sk_clause.proofs.MeaningLemmas.{Contains-none}
-use Rattle.sk_clause.specs.Values.{Holds, Fails, IsOpen, assigned}
-use Rattle.sk_clause.proofs.ValueLemmas.{negated_holds, fails_from_negated, same_var_holds, negated-negated, not_fails_holds}
-use Rattle.sk_sat.specs.Trail.{lit_at, Agrees, IsLeveled, IsReason, IsTrailOf}
-use Rattle.sk_sat.specs.Analysis.{level_at, is_open, marked_count, IsCovered, IsFalseIn, Absorbs, IsKept, IsFalsified, Pending, IsTurn, IsClean}
+use Rattle.sk_clause.specs.Values.{Holds, Fails}
+use Rattle.sk_clause.proofs.ValueLemmas.{negated_holds, fails_from_negated, same_var_holds, not_fails_holds}
+use Rattle.sk_sat.specs.Trail.{lit_at, IsReason, IsTrailOf}
+use Rattle.sk_sat.specs.Analysis.{level_at, marked_count, IsCovered, Absorbs, IsFalsified, Pending, IsTurn, IsClean}
 use Rattle.sk_sat.proofs.AnalysisLemmas.{marked_count-clear, marked_one, marked_none}
 
 -- where a literal stands in a front of the trail

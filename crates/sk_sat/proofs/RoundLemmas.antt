@@ -1,17 +1,15 @@
 -- The steps of a round.
-use Rattle.std.proofs.Common.{◌≡◌, ◌≢◌, ◌⊎◌, inl, inr, Bool, true, false, not, ℕ, zero, suc, ◌+◌, ◌-◌, ◌<◌, ◌≤◌, ◌++◌, List, [], ◌∷◌, length, get_or, set, take, refl, sym, ◌∙◌, ap, arith, subst, Option, Some, None, below_more}
-use Rattle.std.specs.Prelude.{All, Contains}
-use Rattle.std.proofs.lemmas.List.{take_all, take_more, length_push}
+use Rattle.std.proofs.Common.{◌≡◌, ◌≢◌, ◌⊎◌, inl, inr, Bool, ℕ, ◌+◌, ◌<◌, ◌≤◌, List, [], length, get_or, take, refl, sym, arith, subst, Option, Some, None, below_more}
+use Rattle.std.specs.Prelude.{Contains}
+use Rattle.std.proofs.lemmas.List.{take_all, take_more}
 use Rattle.std.proofs.lemmas.List.Elements.{Contains-push_cases, All-contains, Contains-get_or}
 use Rattle.sk_clause.specs.declared.lit.Lit.{Lit}
-use Rattle.sk_clause.specs.Meaning.{negated, Falsifies}
+use Rattle.sk_clause.specs.Meaning.{negated}
 use Rattle.sk_clause.specs.Problem.{IsWithin, AreWithin}
 use Rattle.sk_clause.proofs.MeaningLemmas.{Contains-none}
 use Rattle.sk_clause.specs.Values.{signed, Holds, Fails, IsOpen, IsSettled, LeavesOne}
 use Rattle.sk_clause.proofs.ValueLemmas.{negated_holds, fails_from_negated, negated-negated, Holds-within, LeavesOne_var, not_fails_holds, same_var_holds}
-use Rattle.sk_sat.specs.declared.trail.Trail.{Trail}
-use Rattle.sk_sat.specs.Trail.{lit_at, Agrees, IsTrailOf, IsTrail}
-use Rattle.sk_sat.specs.Analysis.{level_at, IsFalsified, IsLesson}
+use Rattle.sk_sat.specs.Analysis.{IsLesson}
 use Rattle.sk_sat.specs.Round.{IsMet, IsFree}
 use Rattle.sk_clause.specs.Meaning.{IsConsistent}
 use Rattle.sk_sat.proofs.PropagateLemmas.{falsified_by}

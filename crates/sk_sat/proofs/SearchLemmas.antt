@@ -1,17 +1,16 @@
 -- The steps of the search.
-use Rattle.std.proofs.Common.{◌≡◌, ◌≢◌, ◌⊎◌, inl, inr, Bool, true, false, not, ℕ, zero, suc, ◌+◌, ◌-◌, ◌*◌, ◌^◌, ◌<◌, ◌≤◌, ◌++◌, List, [], ◌∷◌, length, get_or, take, replicate, map, refl, sym, ◌∙◌, ap, arith, subst, Option, Some, None}
+use Rattle.std.proofs.Common.{◌≡◌, ◌≢◌, inl, inr, Bool, true, false, not, ℕ, zero, suc, ◌+◌, ◌-◌, ◌*◌, ◌^◌, ◌<◌, ◌≤◌, ◌++◌, List, [], ◌∷◌, length, get_or, take, map, refl, sym, ◌∙◌, ap, arith, subst, Option, Some, None}
 use Rattle.std.proofs.Math.Nat.{suc-mul}
 use Rattle.std.specs.Prelude.{All, Contains, unwrap_or, if◌then◌else◌}
-use Rattle.std.proofs.lemmas.List.{length-replicate, append-nil, append_assoc, take-append-le, take_at, get_or_append_left, get_or_push, length_push, length-map}
+use Rattle.std.proofs.lemmas.List.{append-nil, append_assoc, take-append-le, take_at, get_or_append_left, get_or_push, length_push}
 use Rattle.std.proofs.lemmas.List.Elements.{All-push, All-nil, Contains-append_left}
 use Rattle.sk_clause.specs.declared.lit.Lit.{Lit}
-use Rattle.sk_clause.specs.Meaning.{negated, Falsifies, Follows, EachFollows, Meets, lit_true, clause_true, valuation}
+use Rattle.sk_clause.specs.Meaning.{Falsifies, Follows, EachFollows, Meets, lit_true, clause_true, valuation}
 use Rattle.sk_clause.specs.Problem.{IsWithin, AreWithin}
-use Rattle.sk_clause.proofs.MeaningLemmas.{Contains-none, true_by}
-use Rattle.sk_clause.specs.Values.{signed, Holds, Fails, open_count}
-use Rattle.sk_clause.proofs.ValueLemmas.{none_holds}
+use Rattle.sk_clause.proofs.MeaningLemmas.{true_by}
+use Rattle.sk_clause.specs.Values.{signed, Holds}
 use Rattle.sk_sat.specs.declared.trail.Trail.{Trail}
-use Rattle.sk_sat.specs.Trail.{IsTrailOf, IsTrail, Agrees, IsLeveled, number, progress, work, effort}
+use Rattle.sk_sat.specs.Trail.{IsTrail, progress, work, effort}
 use Rattle.sk_sat.specs.Round.{Adds, IsUnlike, IsMet, GoesOn}
 use Rattle.sk_sat.specs.Search.{IsUnspent}
 use Rattle.sk_clause.specs.Meaning.{IsConsistent, Includes, NoneIncludes}

@@ -1,21 +1,19 @@
 -- From a conflict to a round.
-use Rattle.std.proofs.Common.{◌≡◌, ◌≢◌, ◌⊎◌, inl, inr, Bool, true, ℕ, zero, suc, ◌+◌, ◌-◌, ◌^◌, ◌<◌, ◌≤◌, ◌++◌, List, [], ◌∷◌, length, get_or, take, refl, sym, ◌∙◌, ap, arith, subst, Option, Some, None}
-use Rattle.std.specs.Prelude.{All, Contains}
+use Rattle.std.proofs.Common.{◌≡◌, inl, inr, Bool, true, ℕ, ◌+◌, ◌<◌, ◌≤◌, ◌++◌, List, [], ◌∷◌, length, get_or, take, refl, sym, ◌∙◌, ap, arith, subst}
+use Rattle.std.specs.Prelude.{Contains}
 use Rattle.std.proofs.lemmas.List.{length-take-le, get_or-take, take-take, take_all}
 use Rattle.std.proofs.lemmas.List.Elements.{Contains-get_or}
 use Rattle.sk_clause.specs.declared.lit.Lit.{Lit}
-use Rattle.sk_clause.specs.Meaning.{negated, Falsifies}
-use Rattle.sk_clause.specs.Problem.{IsWithin, AreWithin}
-use Rattle.sk_clause.proofs.MeaningLemmas.{Contains-none}
-use Rattle.sk_clause.specs.Values.{Holds, Fails}
+use Rattle.sk_clause.specs.Meaning.{Falsifies}
+use Rattle.sk_clause.specs.Problem.{AreWithin}
 use Rattle.sk_sat.specs.declared.trail.Trail.{Trail}
 use Rattle.sk_sat.specs.declared.round.Round.{Round}
 use Rattle.sk_sat.specs.declared.round.Round.TheVariants.{Learnt, Moved, Full, Refuted}
 use Rattle.sk_sat.specs.declared.settle.Step.{Step}
 use Rattle.sk_sat.specs.declared.settle.Step.TheVariants.{Learnt as Teaches, Forced, Refuted as Ends, Again}
-use Rattle.sk_sat.specs.Trail.{IsTrailOf, IsTrail, IsBack, Extends, number, progress}
+use Rattle.sk_sat.specs.Trail.{IsTrail, IsBack, Extends, progress}
 use Rattle.sk_sat.specs.Analysis.{level_at, IsFalsified}
-use Rattle.sk_sat.specs.Round.{Adds, IsDeep, StepsBack, Learns, IsCut, FallsBack, StepsOn, IsStep, IsMet, Stands, GoesOn, IsRound, IsConflictDepth, IsUnlike}
+use Rattle.sk_sat.specs.Round.{Adds, IsDeep, StepsBack, Learns, IsCut, IsStep, GoesOn, IsRound, IsConflictDepth, IsUnlike}
 use Rattle.sk_sat.proofs.ResolveLemmas.{zero_closure, fails_most}
 use Rattle.sk_sat.proofs.NumberLemmas.{Rises, rises_from, rises_long, number_back, number_grows, number_decide}
 

@@ -1,5 +1,5 @@
 -- What keeps a solver sound.
-use Rattle.std.proofs.Common.{◌≡◌, ◌≢◌, ◌⊎◌, inl, inr, Bool, ℕ, zero, suc, ◌+◌, ◌-◌, ◌<◌, ◌≤◌, ◌++◌, List, [], ◌∷◌, length, get_or, take, drop, max, min, refl, sym, ◌∙◌, ap, arith, subst}
+use Rattle.std.proofs.Common.{◌≡◌, inl, inr, Bool, ℕ, ◌+◌, ◌-◌, ◌<◌, ◌≤◌, ◌++◌, List, [], ◌∷◌, length, get_or, take, drop, min, refl, sym, ◌∙◌, ap, arith, subst}
 use Rattle.std.specs.Prelude.{All, Contains}
 use Rattle.std.proofs.lemmas.List.{append_assoc, append-nil, drop_at, drop_all, take-append-le, take-take, get_or-take, get_or_append_left, get_or-append_right, get_or-append-add, length-append, length-take}
 use Rattle.std.proofs.lemmas.List.Elements.{All-nil, All-push, All-append, All-take, Contains-append_left, Contains-append_right, Contains-append_cases}

@@ -1,14 +1,12 @@
 -- How the trail changes.
-use Rattle.std.proofs.Common.{◌≡◌, ◌≢◌, ◌⊎◌, inl, inr, Bool, true, false, not, ℕ, zero, suc, ◌+◌, ◌-◌, ◌<◌, ◌≤◌, ◌++◌, List, [], ◌∷◌, length, get_or, set, take, refl, sym, ◌∙◌, ap, arith, subst, Option, Some, None, below_more}
-use Rattle.std.specs.Prelude.{All, Contains}
-use Rattle.std.proofs.lemmas.List.{get_or_append_left, get_or_push, take-append-le, take_at, length_push, get_or-set_same, get_or-set_other, length-set, length-take-le, get_or-take}
-use Rattle.std.proofs.lemmas.List.Elements.{Contains-push, Contains-append_left, Contains-get_or}
-use Rattle.std.proofs.lemmas.Bool.{cases_eq}
+use Rattle.std.proofs.Common.{◌≡◌, ◌≢◌, inl, inr, Bool, ℕ, ◌+◌, ◌<◌, ◌≤◌, ◌++◌, List, [], ◌∷◌, length, get_or, set, take, refl, sym, ◌∙◌, ap, arith, subst, Option, below_more}
+use Rattle.std.specs.Prelude.{Contains}
+use Rattle.std.proofs.lemmas.List.{get_or_append_left, get_or_push, take-append-le, take_at, length_push, get_or-set_same, get_or-set_other, length-set}
+use Rattle.std.proofs.lemmas.List.Elements.{Contains-push, Contains-append_left}
 use Rattle.sk_clause.specs.declared.lit.Lit.{Lit}
-use Rattle.sk_clause.specs.Meaning.{negated}
-use Rattle.sk_clause.specs.Values.{Holds, Fails, IsOpen, assigned}
+use Rattle.sk_clause.specs.Values.{Holds, IsOpen, assigned}
 use Rattle.sk_clause.proofs.ValueLemmas.{Holds-assigned_cases, Holds-assigned_kept, Holds-assigned_own, length-assigned, open_var_other, open_count-assigned_one}
-use Rattle.sk_sat.specs.Trail.{lit_at, Agrees, IsLeveled, IsReason, AreReasoned, IsTrailOf}
+use Rattle.sk_sat.specs.Trail.{lit_at, Agrees, IsLeveled, IsReason, IsTrailOf}
 
 pub lit_left : (ls : List Lit) (l : Lit) (i : ℕ) → i < length ls → lit_at (ls ++ l ∷ []) i ≡ lit_at ls i
 lit_left ls l i h = get_or_append_left ls (l ∷ []) _ i h

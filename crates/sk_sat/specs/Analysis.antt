@@ -1,11 +1,11 @@
 -- What the analysis of a conflict has covered so far.
-use Rattle.std.specs.Prelude.{◌≡◌, ◌≢◌, ℕ, ◌+◌, ◌<◌, ◌≤◌, Bool, true, false, Option, List, [], ◌∷◌, Contains, All, length, take}
+use Rattle.std.specs.Prelude.{◌≡◌, ◌≢◌, ℕ, ◌+◌, ◌<◌, ◌≤◌, Bool, true, false, Option, List, [], ◌∷◌, Contains, length, take}
 use Rattle.std.specs.List.{slice_index_or}
 use Rattle.std.proofs.Common.{◌⊎◌}
 use Rattle.sk_clause.specs.declared.lit.Lit.{Lit}
 use Rattle.sk_clause.specs.Meaning.{negated, Closure, Falsifies}
 use Rattle.sk_sat.specs.Trail.{lit_at, IsReason}
-use Rattle.sk_clause.specs.Values.{Holds, Fails, IsOpen}
+use Rattle.sk_clause.specs.Values.{Holds, Fails}
 
 abbrev pub level_at : List ℕ → Lit → ℕ
 level_at level l = slice_index_or level l.var 0

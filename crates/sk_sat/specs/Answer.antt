@@ -1,6 +1,5 @@
 -- What an answer says.
-use Rattle.std.specs.Prelude.{◌≡◌, ℕ, ◌<◌, ◌++◌, List, [], ◌∷◌, All, length}
-use Rattle.sk_clause.specs.declared.lit.Lit.{Lit}
+use Rattle.std.specs.Prelude.{◌≡◌, ℕ, ◌<◌, ◌++◌, [], ◌∷◌, All, length}
 use Rattle.sk_clause.specs.Meaning.{valuation, Meets, Refutes, IsConsistent, NoneIncludes}
 use Rattle.sk_sat.specs.Search.{IsUnspent}
 use Rattle.sk_sat.specs.Solver.{State, gained}

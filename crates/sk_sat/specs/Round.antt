@@ -1,10 +1,10 @@
 -- What a round of the search does.
-use Rattle.std.specs.Prelude.{◌≡◌, ◌≢◌, ℕ, ◌+◌, ◌<◌, ◌≤◌, ◌++◌, Bool, true, Option, None, List, [], ◌∷◌, Contains, All, length, take}
+use Rattle.std.specs.Prelude.{◌≡◌, ℕ, ◌+◌, ◌<◌, ◌≤◌, ◌++◌, Bool, true, Option, List, [], ◌∷◌, Contains, length, take}
 use Rattle.std.specs.List.{slice_index_or}
 use Rattle.sk_clause.specs.declared.lit.Lit.{Lit}
-use Rattle.sk_clause.specs.Meaning.{negated, Falsifies, IsConsistent, Includes}
+use Rattle.sk_clause.specs.Meaning.{Falsifies, IsConsistent, Includes}
 use Rattle.sk_clause.specs.Problem.{IsWithin}
-use Rattle.sk_clause.specs.Values.{Holds, Fails, IsOpen, IsSettled}
+use Rattle.sk_clause.specs.Values.{Holds, IsOpen}
 use Rattle.sk_sat.specs.declared.trail.Trail.{Trail}
 use Rattle.sk_sat.specs.declared.settle.Step.{Step}
 use Rattle.sk_sat.specs.declared.settle.Step.TheVariants.{Learnt as Teaches, Forced, Refuted as Ends, Again}

@@ -1,5 +1,5 @@
 -- What a search comes to.
-use Rattle.std.specs.Prelude.{◌≡◌, ℕ, ◌<◌, ◌++◌, Bool, List, [], length}
+use Rattle.std.specs.Prelude.{◌≡◌, ℕ, ◌<◌, ◌++◌, List, [], length}
 use Rattle.sk_clause.specs.declared.lit.Lit.{Lit}
 use Rattle.sk_clause.specs.Meaning.{valuation, Meets, Falsifies, NoneIncludes}
 use Rattle.sk_sat.specs.declared.search.Outcome.{Outcome}

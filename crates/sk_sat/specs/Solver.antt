@@ -1,9 +1,8 @@
 -- What a solver has, and what its answers say.
-use Rattle.std.specs.Prelude.{◌≡◌, ℕ, ◌+◌, ◌<◌, ◌++◌, List, [], ◌∷◌, All, length, drop}
+use Rattle.std.specs.Prelude.{◌≡◌, ℕ, ◌++◌, List, All, length, drop}
 use Rattle.sk_clause.specs.declared.lit.Lit.{Lit}
-use Rattle.sk_clause.specs.Meaning.{valuation, Meets, EachFollows, Refutes, IsConsistent, NoneIncludes}
+use Rattle.sk_clause.specs.Meaning.{EachFollows, IsConsistent}
 use Rattle.sk_clause.specs.Problem.{AreWithin}
-use Rattle.sk_sat.specs.Search.{IsUnspent}
 
 -- a number of variables, the clauses that were added, and those that were learnt in all calls so far
 pub record State : Type 0 where

@@ -1,10 +1,9 @@
 -- What holds of the literals that are true so far, in the order in which they became so.
-use Rattle.std.specs.Prelude.{◌≡◌, ◌≢◌, ℕ, suc, ◌+◌, ◌-◌, ◌*◌, ◌^◌, ◌<◌, ◌≤◌, Bool, false, Option, List, [], ◌∷◌, Contains, All, length, take}
+use Rattle.std.specs.Prelude.{◌≡◌, ◌≢◌, ℕ, suc, ◌+◌, ◌-◌, ◌*◌, ◌^◌, ◌<◌, ◌≤◌, Bool, false, Option, List, [], ◌∷◌, Contains, length, take}
 use Rattle.std.specs.List.{slice_index_or}
-use Rattle.std.proofs.Common.{◌⊎◌}
 use Rattle.sk_clause.specs.declared.lit.Lit.{Lit}
 use Rattle.sk_clause.specs.Meaning.{negated}
-use Rattle.sk_clause.specs.Values.{Holds, Fails, IsOpen, open_count}
+use Rattle.sk_clause.specs.Values.{Holds, Fails, open_count}
 use Rattle.sk_sat.specs.declared.trail.Trail.{Trail}
 
 abbrev pub lit_at : List Lit → ℕ → Lit

@@ -1,4 +1,4 @@
-use Rattle.std.proofs.Common.{◌≡◌, ◌≢◌, ◌∙◌, ◌<◌, ◌+◌, ◌++◌, ◌∷◌, [], sym, ap, subst, take, length, get_or, arith, refl}
+use Rattle.std.proofs.Common.{◌∙◌, ◌<◌, ◌+◌, ap, subst, length, get_or, arith}
 use Rattle.std.proofs.lemmas.List.{length_push, length-take-le}
 use Rattle.sk_clause.specs.Meaning.{negated}
 use Rattle.sk_clause.proofs.ValueLemmas.{negated_holds, Holds-within, length-assigned}

@@ -1,4 +1,4 @@
-use Rattle.std.proofs.Common.{◌<◌, ◌≤◌, ◌∙◌, sym, subst, length, drop, get_or, [], arith}
+use Rattle.std.proofs.Common.{◌<◌, ◌≤◌, sym, subst, length, get_or, [], arith}
 use Rattle.std.proofs.lemmas.List.Elements.{All-push}
 use Rattle.sk_clause.specs.Problem.{IsWithin}
 use Rattle.sk_sat.proofs.CancelLemmas.{trail_more}
