@@ -100,9 +100,7 @@ fn settle(
             Ok(found)
         }
         Look::Settled(a, b) => {
-            if !a.is(b) {
-                watches.set(i, a, b);
-            }
+            watches.add(i, known.get(i), a, b)?;
             Ok(false)
         }
     }
@@ -146,7 +144,6 @@ impl Checker {
     {
         let i = self.known.len();
         self.known.push(clause)?;
-        self.watches.make(clause)?;
         if self.refuted {
             return Ok(());
         }

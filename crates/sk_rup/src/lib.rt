@@ -4,6 +4,7 @@
 
 mod checker;
 mod codes;
+mod lists;
 mod log;
 mod look;
 mod trail;
