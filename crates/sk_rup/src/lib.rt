@@ -7,6 +7,8 @@ mod codes;
 mod lists;
 mod log;
 mod look;
+mod packed;
+mod store;
 mod trail;
 mod values;
 mod watches;

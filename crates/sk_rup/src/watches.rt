@@ -7,8 +7,10 @@ ghost use Rattle.sk_rup.specs.Visit.{IsVisit, IsSpread};
 use crate::codes::{NONE, code_of, is_false, is_true, opposite, place_of};
 use crate::lists::{Lists, Watch};
 use crate::look::{Look, look_at};
+use crate::packed::Packed;
+use crate::store::Store;
 use crate::trail::Trail;
-use sk_clause::{ClauseList, Lit};
+use sk_clause::Lit;
 use std::alloc::{AllocError, Global};
 
 /// A clause rests once so many more were taken in since it was of use, and a share of all.
@@ -191,13 +193,13 @@ impl Watches {
     }
 
     // Keeps the literals of clause i, two of which are to stand first. The place of the clause.
-    fn keep(&mut self, i: usize, clause: &[Lit], a: u32, b: u32) -> Result<usize, AllocError> {
+    fn keep(&mut self, i: usize, clause: &[Packed], a: u32, b: u32) -> Result<usize, AllocError> {
         let place = self.codes.len();
         self.codes.push(place_of(i))?;
         self.codes.push(self.taken)?;
         self.codes.push(place_of(clause.len()))?;
         for l in clause {
-            self.codes.push(code_of(*l))?;
+            self.codes.push(code_of(l.lit()))?;
         }
         let (start, end) = self.range(place);
         let codes = &mut self.codes[start..end];
@@ -207,7 +209,7 @@ impl Watches {
     }
 
     /// Has clause i watch two literals of it, if they are two.
-    pub fn add(&mut self, i: usize, clause: &[Lit], a: Lit, b: Lit) -> Result<(), AllocError> {
+    pub fn add(&mut self, i: usize, clause: &[Packed], a: Lit, b: Lit) -> Result<(), AllocError> {
         if a.is(b) {
             return Ok(());
         }
@@ -261,7 +263,7 @@ impl Watches {
     fn look(
         &mut self,
         trail: &mut Trail,
-        known: &ClauseList,
+        known: &Store,
         place: usize,
         rests: bool,
         other: u32,
@@ -297,7 +299,7 @@ impl Watches {
     fn visit(
         &mut self,
         trail: &mut Trail,
-        known: &ClauseList,
+        known: &Store,
         gone: u32,
         rests: bool,
         watch: Watch,
@@ -325,7 +327,7 @@ impl Watches {
     fn meet(
         &mut self,
         trail: &mut Trail,
-        known: &ClauseList,
+        known: &Store,
         gone: u32,
         rests: bool,
         watch: Watch,
@@ -351,7 +353,7 @@ impl Watches {
     fn spread(
         &mut self,
         trail: &mut Trail,
-        known: &ClauseList,
+        known: &Store,
         gone: u32,
         rests: bool,
     ) -> Result<bool, AllocError>
@@ -389,7 +391,7 @@ impl Watches {
 
     /// Makes literals true that clauses force, as far as the watches show it. Whether a false clause was found.
     #[tactic(auto, using(crate::proofs::WatchLemmas::spreads))]
-    pub fn propagate(&mut self, trail: &mut Trail, known: &ClauseList) -> Result<bool, AllocError>
+    pub fn propagate(&mut self, trail: &mut Trail, known: &Store) -> Result<bool, AllocError>
         requires covers { Covers trail.old.values.items trail.old.lits.items }
         requires within { AreWithin (length trail.old.values.items) known.now }
         ensures steps { OnOk result (Steps known.now trail.old trail.new) }
