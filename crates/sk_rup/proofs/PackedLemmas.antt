@@ -1,5 +1,5 @@
 -- Twice a number, and one more or not.
-use Rattle.std.proofs.Common.{◌≡◌, Bool, true, false, ℕ, ◌+◌, ◌*◌, ◌/◌, ◌%◌, ◌==◌, refl, arith}
+use Rattle.std.proofs.Common.{◌≡◌, ℕ, ◌+◌, ◌*◌, ◌/◌, ◌%◌, arith}
 
 pub even_half : (n : ℕ) → (n * 2) / 2 ≡ n
 even_half n = omega arith

@@ -1,4 +1,4 @@
-use Rattle.std.proofs.Common.{◌≡◌, length, take, refl}
+use Rattle.std.proofs.Common.{length, take, refl}
 use Rattle.std.proofs.lemmas.List.{take_at}
 use Rattle.sk_rup.proofs.store.append.Goals as goal
 

@@ -1,4 +1,4 @@
-use Rattle.std.proofs.Common.{◌≡◌, ◌≢◌, ◌≤◌, ◌∙◌, sym, arith, take, length, subst, get_or}
+use Rattle.std.proofs.Common.{◌≤◌, ◌∙◌, sym, arith, take, length, subst, get_or}
 use Rattle.std.proofs.lemmas.List.{take_all}
 use Rattle.sk_clause.specs.Values.{IsOpen}
 use Rattle.sk_clause.proofs.ScanLemmas.{settled_two, SoFar}

@@ -1,4 +1,4 @@
-use Rattle.std.proofs.Common.{◌≡◌, ◌∙◌, ap, arith, ◌++◌, [], ◌∷◌}
+use Rattle.std.proofs.Common.{◌∙◌, ap, arith, ◌++◌, [], ◌∷◌}
 use Rattle.sk_rup.proofs.StoreLemmas.{ends_more, parts_more}
 use Rattle.sk_rup.proofs.store.Store.push.Goals as goal
 
