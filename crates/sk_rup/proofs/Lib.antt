@@ -1,7 +1,9 @@
 pub mod CheckerLemmas
 pub mod LogLemmas
 pub mod LookLemmas
+pub mod PackedLemmas
 pub mod PassLemmas
 pub mod StepLemmas
+pub mod StoreLemmas
 pub mod TrailLemmas
 pub mod WatchLemmas

@@ -8,10 +8,11 @@ ghost use Rattle.sk_rup.specs.Visit.{IsSpread};
 ghost use Rattle.sk_rup.specs.Checker.{Denies, IsComplete, IsReady};
 
 use crate::look::{Look, Pass, look_at, look_at_all};
+use crate::store::Store;
 use crate::trail::Trail;
 use crate::values::value;
 use crate::watches::Watches;
-use sk_clause::{ClauseList, Lit};
+use sk_clause::Lit;
 use std::alloc::{AllocError, Global};
 
 /// Makes each literal of a clause false. Whether one of them is true, so that the clause follows.
@@ -35,11 +36,7 @@ fn deny(trail: &mut Trail, clause: &[Lit]) -> Result<bool, AllocError>
 
 /// Makes literals true that clauses force, until a clause is false or each is settled. Whether one is false.
 #[tactic(auto, using(crate::proofs::CheckerLemmas::completes))]
-fn complete(
-    trail: &mut Trail,
-    watches: &mut Watches,
-    known: &ClauseList,
-) -> Result<bool, AllocError>
+fn complete(trail: &mut Trail, watches: &mut Watches, known: &Store) -> Result<bool, AllocError>
     requires covers { Covers trail.old.values.items trail.old.lits.items }
     requires within { AreWithin (length trail.old.values.items) known.now }
     ensures steps { OnOk result (Steps known.now trail.old trail.new) }
@@ -62,7 +59,7 @@ fn complete(
 fn decide(
     trail: &mut Trail,
     watches: &mut Watches,
-    known: &ClauseList,
+    known: &Store,
     clause: &[Lit],
 ) -> Result<bool, AllocError>
     requires covers { Covers trail.old.values.items trail.old.lits.items }
@@ -84,7 +81,7 @@ fn decide(
 fn settle(
     trail: &mut Trail,
     watches: &mut Watches,
-    known: &ClauseList,
+    known: &Store,
     i: usize,
 ) -> Result<bool, AllocError>
     requires covers { Covers trail.old.values.items trail.old.lits.items }
@@ -100,9 +97,7 @@ fn settle(
             Ok(found)
         }
         Look::Settled(a, b) => {
-            if !a.is(b) {
-                watches.set(i, a, b);
-            }
+            watches.add(i, known.get(i), a, b)?;
             Ok(false)
         }
     }
@@ -111,7 +106,7 @@ fn settle(
 /// The known clauses, and the literals that follow from them alone.
 #[derive(Drop)]
 pub struct Checker {
-    pub known: ClauseList,
+    pub known: Store,
     pub trail: Trail,
     watches: Watches,
     /// Whether a clause is false under these literals, so that every clause follows.
@@ -129,7 +124,7 @@ impl Checker {
         let trail = Trail::new(alloc, vars)?;
         let watches = Watches::new(alloc, vars)?;
         Ok(Checker {
-            known: ClauseList::new(alloc),
+            known: Store::new(alloc),
             trail,
             watches,
             refuted: false,
@@ -146,7 +141,6 @@ impl Checker {
     {
         let i = self.known.len();
         self.known.push(clause)?;
-        self.watches.make(clause)?;
         if self.refuted {
             return Ok(());
         }

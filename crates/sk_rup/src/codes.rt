@@ -1,7 +1,7 @@
 // Literals as small numbers, as the watches keep them: twice the number of the variable, and one more for a negation.
 use sk_clause::Lit;
 
-/// No literal, and no watch.
+/// No literal, and no number of a clause or a place.
 pub const NONE: u32 = u32::MAX;
 
 /// Variables from here on have no such numbers.
@@ -14,6 +14,11 @@ pub fn code_of(l: Lit) -> u32 {
     }
     let twice = (l.var as u32) * 2;
     if l.neg { twice + 1 } else { twice }
+}
+
+/// A number of things, where it is small enough, or `NONE`.
+pub fn place_of(n: usize) -> u32 {
+    if n < NONE as usize { n as u32 } else { NONE }
 }
 
 /// The number of the negation.

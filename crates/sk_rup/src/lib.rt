@@ -4,8 +4,11 @@
 
 mod checker;
 mod codes;
+mod lists;
 mod log;
 mod look;
+mod packed;
+mod store;
 mod trail;
 mod values;
 mod watches;

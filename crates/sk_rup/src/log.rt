@@ -78,7 +78,7 @@ fn follow_all(checker: &mut Checker, log: &Log) -> Result<bool, AllocError>
 }
 
 /// Whether each clause of the log follows by reverse unit propagation from the clauses and what stands before it in
-/// the log. The only refusal is want of memory.
+/// the log. The only refusal is want of memory, which a clause with a variable from 2^31 on counts as.
 #[tactic(auto, using(crate::proofs::LogLemmas::logs))]
 pub fn each_follows(alloc: Global, clauses: &Clauses, log: &Log) -> Result<bool, AllocError>
     ensures { IfOk result (λ b. IsTrue b ↔ EachFollows clauses.now.clauses log.now) }
@@ -100,7 +100,7 @@ fn ends_empty(log: &Log) -> bool
 
 /// Whether the log refutes the clauses: each clause of it follows by reverse unit propagation from the clauses and
 /// what stands before it in the log, and its last clause is empty. Then no values make each of the clauses true. The
-/// only refusal is want of memory.
+/// only refusal is want of memory, which a clause with a variable from 2^31 on counts as.
 pub fn refutes(alloc: Global, clauses: &Clauses, log: &Log) -> Result<bool, AllocError>
     ensures { IfOk result (λ b. IsTrue b ↔ Refutes clauses.now.clauses log.now) }
 {

@@ -4,9 +4,10 @@ ghost use Rattle.sk_clause.specs.Problem.{AreWithin};
 ghost use Rattle.sk_rup.specs.Steps.{Covers, Steps};
 ghost use Rattle.sk_rup.specs.Look.{IsLook, IsPass};
 
+use crate::store::Store;
 use crate::trail::Trail;
 use crate::values::{Scan, scan_of};
-use sk_clause::{ClauseList, Lit};
+use sk_clause::Lit;
 use std::alloc::AllocError;
 
 /// What a look at a clause came to.
@@ -22,7 +23,7 @@ pub enum Look {
 
 /// Looks at a clause, and makes its literal true where only one is left.
 #[tactic(auto, using(crate::proofs::LookLemmas::looks))]
-pub fn look_at(trail: &mut Trail, known: &ClauseList, i: usize) -> Result<Look, AllocError>
+pub fn look_at(trail: &mut Trail, known: &Store, i: usize) -> Result<Look, AllocError>
     requires covers { Covers trail.old.values.items trail.old.lits.items }
     requires within { AreWithin (length trail.old.values.items) known.now }
     requires i { i < length known.now }
@@ -52,7 +53,7 @@ pub enum Pass {
 
 /// Looks at each clause once.
 #[tactic(auto, using(crate::proofs::PassLemmas::passes))]
-pub fn look_at_all(trail: &mut Trail, known: &ClauseList) -> Result<Pass, AllocError>
+pub fn look_at_all(trail: &mut Trail, known: &Store) -> Result<Pass, AllocError>
     requires covers { Covers trail.old.values.items trail.old.lits.items }
     requires within { AreWithin (length trail.old.values.items) known.now }
     ensures steps { OnOk result (Steps known.now trail.old trail.new) }

@@ -4,43 +4,57 @@ ghost use Rattle.sk_clause.specs.Problem.{AreWithin};
 ghost use Rattle.sk_rup.specs.Steps.{Covers, Steps};
 ghost use Rattle.sk_rup.specs.Visit.{IsVisit, IsSpread};
 
-use crate::codes::{NONE, code_of, is_false, is_true, opposite};
+use crate::codes::{NONE, code_of, is_false, is_true, opposite, place_of};
+use crate::lists::{Lists, Watch};
 use crate::look::{Look, look_at};
+use crate::packed::Packed;
+use crate::store::Store;
 use crate::trail::Trail;
-use sk_clause::{ClauseList, Lit};
+use sk_clause::Lit;
 use std::alloc::{AllocError, Global};
 
 /// A clause rests once so many more were taken in since it was of use, and a share of all.
-const LONGEST_USE: u64 = 500;
+const LONGEST_USE: u32 = 500;
 
 /// The share of all is one of so many.
-const SHARES: u64 = 32;
+const SHARES: u32 = 32;
 
-/// A clause watches a literal, and the next watch of the same literal.
-#[derive(Clone, Copy, Drop)]
-struct Watch {
-    lit: u32,
-    next: u32,
-}
+/// Those that are to rest are looked for each time that so many more were taken in, and a share of all.
+const PAUSE: u32 = 250;
 
-/// For each literal the watches of it, in lists that are linked by their numbers. Watches 2i and 2i + 1 are those of
-/// clause i. A clause that has long been of no use rests: its watches pass into lists of their own, which are followed
-/// up only where the others lead to no false clause. No contract says that all this is right: wrong watches would only
-/// make the checker slower.
+/// The share of all is one of so many.
+const PAUSE_SHARES: u32 = 64;
+
+/// Clauses of so many literals never rest.
+const SHORT: usize = 4;
+
+/// Before the literals of a clause stand numbers. The first is its own.
+const NUMBER: usize = 0;
+
+/// How many clauses had been taken in when it was last of use.
+const LAST: usize = 1;
+
+/// How many literals it has.
+const LEN: usize = 2;
+
+/// So many numbers are these.
+const HEAD: usize = 3;
+
+/// For each literal the watches of it. A clause that has long been of no use rests: its watches pass into lists of
+/// their own, which are followed up only where the others lead to no false clause. No contract says that all this is
+/// right: wrong watches would only make the checker slower.
 #[derive(Drop)]
 pub struct Watches {
-    /// Of each literal its first watch of a clause that does not rest.
-    busy: Vec<u32>,
-    /// Of each literal its first watch of a clause that rests.
-    idle: Vec<u32>,
-    watches: Vec<Watch>,
-    /// The literals of the clauses, one clause behind another, in each the watched ones first.
+    /// Of each literal the watches of clauses that do not rest.
+    busy: Lists,
+    /// Of each literal the watches of clauses that rest.
+    idle: Lists,
+    /// The clauses, one behind another: the numbers of each, and its literals, the watched ones first.
     codes: Vec<u32>,
-    ends: Vec<usize>,
-    /// Of each clause how many had been taken in when it was last of use.
-    last: Vec<u64>,
-    /// How many have been taken in.
-    taken: u64,
+    /// How many clauses have been taken in.
+    taken: u32,
+    /// How many clauses will have been taken in when those that are to rest are next looked for.
+    sweep_at: u32,
     /// How many literals of the trail have been followed up through clauses that do not rest.
     done: usize,
     /// How many have been followed up through those that rest.
@@ -50,26 +64,37 @@ pub struct Watches {
 /// What a visit of a clause that watches a false literal came to.
 #[derive(Clone, Copy, Debug)]
 pub enum Visit {
-    /// The clause goes on watching the literal.
-    Stays,
-    /// It is to watch this literal in its place.
-    Moves(u32),
-    /// It goes on watching the literal, among the clauses that rest, or no more among them.
-    Changes,
+    /// The clause goes on watching the literal, and this is another literal of it.
+    Stays(u32),
+    /// The same, and the clause rests no more.
+    Returns(u32),
+    /// It watches it no more.
+    Leaves,
     /// Each literal of it is false.
     Falsified,
 }
 
-// Puts a literal that is not false into the place of a watched one, if there is one that is not watched.
-fn replace(codes: &mut [u32], values: &[Option<bool>], place: usize, other: u32) -> Option<u32> {
+// Puts a literal that is not false into the second place, if there is one that is not watched.
+fn replace(codes: &mut [u32], values: &[Option<bool>], other: u32) -> Option<u32> {
     for p in 2..codes.len() {
         let code = codes[p];
         if !is_false(values, code) && code != other {
-            codes.swap(p, place % 2);
+            codes.swap(p, 1);
             return Some(code);
         }
     }
     None
+}
+
+// Brings a watched literal to the second place. The other watched one.
+fn turn_over(codes: &mut [u32], gone: u32) -> u32 {
+    if codes.len() < 2 {
+        return NONE;
+    }
+    if codes[0] == gone {
+        codes.swap(0, 1);
+    }
+    codes[0]
 }
 
 // Brings a literal to a place.
@@ -85,184 +110,242 @@ fn bring(codes: &mut [u32], code: u32, place: usize) {
 impl Watches {
     /// Lists for so many variables, and no watches.
     pub fn new(alloc: Global, vars: usize) -> Result<Watches, AllocError> {
-        let mut busy = vec![in alloc; NONE; vars]?;
-        let mut idle = vec![in alloc; NONE; vars]?;
-        let negative = vec![in alloc; NONE; vars]?;
-        busy.extend_from_slice(&negative)?;
-        idle.extend_from_slice(&negative)?;
+        let busy = Lists::new(alloc, vars)?;
+        let idle = Lists::new(alloc, vars)?;
         Ok(Watches {
             busy,
             idle,
-            watches: Vec::new(alloc),
             codes: Vec::new(alloc),
-            ends: Vec::new(alloc),
-            last: Vec::new(alloc),
             taken: 0,
+            sweep_at: LONGEST_USE,
             done: 0,
             done_idle: 0,
         })
     }
 
-    // The first watch of a literal.
-    fn first(&self, rests: bool, code: u32) -> u32 {
-        let heads = if rests { &self.idle } else { &self.busy };
-        let c = code as usize;
-        if c < heads.len() { heads[c] } else { NONE }
-    }
-
-    fn set_first(&mut self, rests: bool, code: u32, k: u32) {
-        let c = code as usize;
-        if rests {
-            if c < self.idle.len() {
-                self.idle[c] = k;
-            }
-        } else if c < self.busy.len() {
-            self.busy[c] = k;
-        }
-    }
-
-    fn next(&self, k: u32) -> u32 {
-        let k = k as usize;
-        if k < self.watches.len() {
-            self.watches[k].next
+    // A number of a clause that stands at a place.
+    fn number(&self, place: usize, which: usize) -> usize {
+        let at = place.saturating_add(which);
+        if at < self.codes.len() {
+            self.codes[at] as usize
         } else {
-            NONE
+            0
         }
-    }
-
-    // The literal of a watch.
-    fn lit(&self, k: u32) -> u32 {
-        let k = k as usize;
-        if k < self.watches.len() {
-            self.watches[k].lit
-        } else {
-            NONE
-        }
-    }
-
-    // Puts a watch into the list of a literal.
-    fn link(&mut self, rests: bool, k: u32, lit: u32) {
-        let next = self.first(rests, lit);
-        let at = k as usize;
-        if at < self.watches.len() {
-            self.watches[at] = Watch { lit, next };
-            self.set_first(rests, lit, k);
-        }
-    }
-
-    // Takes the watch behind `before` out of the list of a literal; `next` is the one that follows it.
-    fn unlink(&mut self, rests: bool, lit: u32, before: u32, next: u32) {
-        let at = before as usize;
-        if at < self.watches.len() {
-            self.watches[at].next = next;
-        } else {
-            self.set_first(rests, lit, next);
-        }
-    }
-
-    /// Makes the watches of the next clause, which watch nothing.
-    pub fn make(&mut self, clause: &[Lit]) -> Result<(), AllocError> {
-        let none = Watch {
-            lit: NONE,
-            next: NONE,
-        };
-        self.taken = self.taken.saturating_add(1);
-        self.watches.push(none)?;
-        self.watches.push(none)?;
-        for l in clause {
-            self.codes.push(code_of(*l))?;
-        }
-        self.ends.push(self.codes.len())?;
-        self.last.push(self.taken)?;
-        Ok(())
     }
 
     // Where the literals of a clause begin and end.
-    fn range(&self, i: usize) -> (usize, usize)
+    fn range(&self, place: usize) -> (usize, usize)
         ensures order { result.0 ≤ result.1 }
         ensures within { result.1 ≤ length self.now.codes.items }
     {
-        if i >= self.ends.len() {
-            return (0, 0);
-        }
-        let start = if i == 0 { 0 } else { self.ends[i - 1] };
-        let end = self.ends[i];
-        if start <= end && end <= self.codes.len() {
+        let start = place.saturating_add(HEAD);
+        let end = start.saturating_add(self.number(place, LEN));
+        if end <= self.codes.len() {
             (start, end)
         } else {
             (0, 0)
         }
     }
 
-    /// Has a clause watch two literals of it.
-    pub fn set(&mut self, i: usize, a: Lit, b: Lit) {
-        if i >= (NONE / 2) as usize {
-            return;
-        }
-        let (start, end) = self.range(i);
-        let codes = &mut self.codes[start..end];
-        bring(codes, code_of(a), 0);
-        bring(codes, code_of(b), 1);
-        let k = (i as u32) * 2;
-        self.link(false, k, code_of(a));
-        self.link(false, k + 1, code_of(b));
-    }
-
-    // Whether a clause has long been of no use.
-    fn rests(&self, i: usize) -> bool {
+    // Whether a clause has long been of no use, and may rest.
+    fn is_resting(&self, place: usize) -> bool {
+        let last = place_of(self.number(place, LAST));
         let longest = LONGEST_USE.saturating_add(self.taken / SHARES);
-        i < self.last.len() && self.last[i].saturating_add(longest) < self.taken
+        self.number(place, LEN) > SHORT && last.saturating_add(longest) < self.taken
     }
 
     // A clause has been of use.
-    fn renew(&mut self, i: usize) {
-        if i < self.last.len() {
-            self.last[i] = self.taken;
+    fn renew(&mut self, place: usize) {
+        let at = place.saturating_add(LAST);
+        if at < self.codes.len() {
+            self.codes[at] = self.taken;
         }
     }
 
-    // Has watch k move from its literal, which became false, to another that is not, if there is one.
-    fn replaced(&mut self, values: &[Option<bool>], k: u32, other: u32) -> Option<u32> {
-        let (start, end) = self.range((k / 2) as usize);
-        replace(&mut self.codes[start..end], values, (k % 2) as usize, other)
+    // Has the clauses rest that watch a literal and have long been of no use.
+    fn sweep_list(&mut self, code: u32) -> Result<(), AllocError> {
+        let (start, end) = self.busy.range(code);
+        let mut kept = start;
+        for at in start..end {
+            let watch = self.busy.get(at);
+            if !watch.is_pair() && self.is_resting(watch.place()) {
+                self.idle.push(code, watch)?;
+            } else {
+                self.busy.put(kept, watch);
+                kept = kept.saturating_add(1);
+            }
+        }
+        self.busy.cut(code, kept);
+        Ok(())
     }
 
-    // Deals with watch k, whose literal became false.
+    // Has the clauses rest that have long been of no use, where these were not looked for of late.
+    fn sweep(&mut self) -> Result<(), AllocError> {
+        if self.taken < self.sweep_at {
+            return Ok(());
+        }
+        let pause = PAUSE.saturating_add(self.taken / PAUSE_SHARES);
+        self.sweep_at = self.taken.saturating_add(pause);
+        for code in 0..self.busy.codes() {
+            self.sweep_list(code)?;
+        }
+        Ok(())
+    }
+
+    // Keeps the literals of clause i, two of which are to stand first. The place of the clause.
+    fn keep(&mut self, i: usize, clause: &[Packed], a: u32, b: u32) -> Result<usize, AllocError> {
+        let place = self.codes.len();
+        self.codes.push(place_of(i))?;
+        self.codes.push(self.taken)?;
+        self.codes.push(place_of(clause.len()))?;
+        for l in clause {
+            self.codes.push(code_of(l.lit()))?;
+        }
+        let (start, end) = self.range(place);
+        let codes = &mut self.codes[start..end];
+        bring(codes, a, 0);
+        bring(codes, b, 1);
+        Ok(place)
+    }
+
+    /// Has clause i watch two literals of it, if they are two.
+    pub fn add(&mut self, i: usize, clause: &[Packed], a: Lit, b: Lit) -> Result<(), AllocError> {
+        if a.is(b) {
+            return Ok(());
+        }
+        self.sweep()?;
+        self.taken = self.taken.saturating_add(1);
+        let (a, b) = (code_of(a), code_of(b));
+        let place = self.keep(i, clause, a, b)?;
+        let is_pair = clause.len() == 2;
+        self.busy.push(a, Watch::new(place, is_pair, b))?;
+        self.busy.push(b, Watch::new(place, is_pair, a))?;
+        Ok(())
+    }
+
+    // Brings the watched literal of a clause that became false to the second place. The other watched one.
+    fn turned(&mut self, place: usize, gone: u32) -> u32 {
+        let (start, end) = self.range(place);
+        turn_over(&mut self.codes[start..end], gone)
+    }
+
+    // Puts a literal that is not false into the second place of a clause, if there is one.
+    fn replaced(&mut self, values: &[Option<bool>], place: usize, other: u32) -> Option<u32> {
+        let (start, end) = self.range(place);
+        replace(&mut self.codes[start..end], values, other)
+    }
+
+    // The lists of the clauses that rest, or of the others.
+    fn lists(&mut self, rests: bool) -> &mut Lists {
+        if rests {
+            &mut self.idle
+        } else {
+            &mut self.busy
+        }
+    }
+
+    // Has a clause watch a literal.
+    fn push(&mut self, rests: bool, code: u32, watch: Watch) -> Result<(), AllocError> {
+        self.lists(rests).push(code, watch)
+    }
+
+    // The watch at a place of the lists.
+    fn watch(&self, rests: bool, place: usize) -> Watch {
+        if rests {
+            self.idle.get(place)
+        } else {
+            self.busy.get(place)
+        }
+    }
+
+    // Deals with a clause that watches a literal which became false, where no other literal is there to watch.
     #[tactic(auto, using(crate::proofs::WatchLemmas::visits))]
-    fn visit(
+    fn look(
         &mut self,
         trail: &mut Trail,
-        known: &ClauseList,
-        k: u32,
+        known: &Store,
+        place: usize,
         rests: bool,
+        other: u32,
     ) -> Result<Visit, AllocError>
         requires covers { Covers trail.old.values.items trail.old.lits.items }
         requires within { AreWithin (length trail.old.values.items) known.now }
         ensures steps { OnOk result (Steps known.now trail.old trail.new) }
         ensures visit { IfOk result (IsVisit known.now trail.new) }
     {
-        let i = (k / 2) as usize;
-        let other = self.lit(k ^ 1);
-        if i >= known.len() || is_true(&trail.values, other) {
-            return Ok(Visit::Stays);
-        }
-        if !rests && self.rests(i) {
-            return Ok(Visit::Changes);
-        }
-        if let Some(lit) = self.replaced(&trail.values, k, other) {
-            return Ok(Visit::Moves(lit));
+        let i = self.number(place, NUMBER);
+        if i >= known.len() {
+            return Ok(Visit::Leaves);
         }
         match look_at(trail, known, i)? {
             Look::Falsified => {
-                self.renew(i);
+                self.renew(place);
                 Ok(Visit::Falsified)
             }
             Look::Forced => {
-                self.renew(i);
-                Ok(if rests { Visit::Changes } else { Visit::Stays })
+                self.renew(place);
+                Ok(if rests {
+                    Visit::Returns(other)
+                } else {
+                    Visit::Stays(other)
+                })
             }
-            Look::Settled(_, _) => Ok(Visit::Stays),
+            Look::Settled(_, _) => Ok(Visit::Stays(other)),
         }
+    }
+
+    // Deals with a clause of more than two literals that watches a literal which became false.
+    #[tactic(auto, using(crate::proofs::WatchLemmas::visits))]
+    fn visit(
+        &mut self,
+        trail: &mut Trail,
+        known: &Store,
+        gone: u32,
+        rests: bool,
+        watch: Watch,
+    ) -> Result<Visit, AllocError>
+        requires covers { Covers trail.old.values.items trail.old.lits.items }
+        requires within { AreWithin (length trail.old.values.items) known.now }
+        ensures steps { OnOk result (Steps known.now trail.old trail.new) }
+        ensures visit { IfOk result (IsVisit known.now trail.new) }
+    {
+        let place = watch.place();
+        let other = self.turned(place, gone);
+        if is_true(&trail.values, other) {
+            return Ok(Visit::Stays(other));
+        }
+        if let Some(code) = self.replaced(&trail.values, place, other) {
+            self.push(rests, code, watch.beside(other))?;
+            return Ok(Visit::Leaves);
+        }
+        let seen = self.look(trail, known, place, rests, other)?;
+        Ok(seen)
+    }
+
+    // Deals with a clause that watches a literal which became false.
+    #[tactic(auto, using(crate::proofs::WatchLemmas::visits))]
+    fn meet(
+        &mut self,
+        trail: &mut Trail,
+        known: &Store,
+        gone: u32,
+        rests: bool,
+        watch: Watch,
+    ) -> Result<Visit, AllocError>
+        requires covers { Covers trail.old.values.items trail.old.lits.items }
+        requires within { AreWithin (length trail.old.values.items) known.now }
+        ensures steps { OnOk result (Steps known.now trail.old trail.new) }
+        ensures visit { IfOk result (IsVisit known.now trail.new) }
+    {
+        if is_true(&trail.values, watch.other) {
+            return Ok(Visit::Stays(watch.other));
+        }
+        if watch.is_pair() {
+            let seen = self.look(trail, known, watch.place(), false, watch.other)?;
+            return Ok(seen);
+        }
+        let seen = self.visit(trail, known, gone, rests, watch)?;
+        Ok(seen)
     }
 
     // Visits the clauses that watch a literal which became false. Whether one of them is false.
@@ -270,7 +353,7 @@ impl Watches {
     fn spread(
         &mut self,
         trail: &mut Trail,
-        known: &ClauseList,
+        known: &Store,
         gone: u32,
         rests: bool,
     ) -> Result<bool, AllocError>
@@ -279,27 +362,24 @@ impl Watches {
         ensures steps { OnOk result (Steps known.now trail.old trail.new) }
         ensures conflict { IfOk result (IsSpread known.now trail.new) }
     {
-        let mut before = NONE;
-        let mut k = self.first(rests, gone);
-        for _ in 0..self.watches.len() {
-            if k == NONE {
-                return Ok(false);
-            }
-            let next = self.next(k);
-            match self.visit(trail, known, k, rests)? {
-                Visit::Stays => before = k,
-                Visit::Moves(lit) => {
-                    self.unlink(rests, gone, before, next);
-                    self.link(rests, k, lit);
+        let (start, end) = self.lists(rests).range(gone);
+        let mut kept = start;
+        for at in start..end {
+            let watch = self.watch(rests, at);
+            match self.meet(trail, known, gone, rests, watch)? {
+                Visit::Stays(other) => {
+                    self.lists(rests).put(kept, watch.beside(other));
+                    kept = kept.saturating_add(1);
                 }
-                Visit::Changes => {
-                    self.unlink(rests, gone, before, next);
-                    self.link(!rests, k, gone);
+                Visit::Returns(other) => self.push(false, gone, watch.beside(other))?,
+                Visit::Leaves => {}
+                Visit::Falsified => {
+                    self.lists(rests).close(gone, kept, at);
+                    return Ok(true);
                 }
-                Visit::Falsified => return Ok(true),
             }
-            k = next;
         }
+        self.lists(rests).cut(gone, kept);
         Ok(false)
     }
 
@@ -311,7 +391,7 @@ impl Watches {
 
     /// Makes literals true that clauses force, as far as the watches show it. Whether a false clause was found.
     #[tactic(auto, using(crate::proofs::WatchLemmas::spreads))]
-    pub fn propagate(&mut self, trail: &mut Trail, known: &ClauseList) -> Result<bool, AllocError>
+    pub fn propagate(&mut self, trail: &mut Trail, known: &Store) -> Result<bool, AllocError>
         requires covers { Covers trail.old.values.items trail.old.lits.items }
         requires within { AreWithin (length trail.old.values.items) known.now }
         ensures steps { OnOk result (Steps known.now trail.old trail.new) }

@@ -1,5 +1,5 @@
 use Rattle.sk_rup.specs.Steps.{Steps}
 use Rattle.sk_rup.proofs.watches.Watches.spread.Given as goal
 
-abbrev pub invariant-loop : goal.invariant-loop
-invariant-loop l = Steps l.known l.fn.trail l.trail
+abbrev pub invariant-loop-at : goal.invariant-loop-at
+invariant-loop-at l = Steps l.known l.fn.trail l.trail
