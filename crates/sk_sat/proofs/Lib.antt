@@ -8,6 +8,7 @@ pub mod KnownLemmas
 pub mod LessonLemmas
 pub mod MarkLemmas
 pub mod NumberLemmas
+pub mod PackedLemmas
 pub mod PropagateLemmas
 pub mod RepeatLemmas
 pub mod ResolveLemmas
@@ -16,5 +17,6 @@ pub mod SearchLemmas
 pub mod SettleLemmas
 pub mod ShortenLemmas
 pub mod SolverLemmas
+pub mod StoreLemmas
 pub mod TrailLemmas
 pub mod TrimLemmas

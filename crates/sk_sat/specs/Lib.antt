@@ -3,6 +3,7 @@ pub mod Answer
 pub mod Engine
 pub mod Known
 pub mod Marks
+pub mod Packed
 pub mod Round
 pub mod Scan
 pub mod Search

@@ -10,6 +10,7 @@ ghost use Rattle.sk_sat.specs.Analysis.{Absorbs, IsKept, marked_count, Pending, 
 use crate::activity::Activity;
 use crate::known::Known;
 use crate::minimize::{Tried, trim};
+use crate::packed::Packed;
 use crate::trail::Trail;
 use crate::values::value;
 use sk_clause::Lit;
@@ -65,13 +66,13 @@ fn absorb_one(
     Ok(count)
 }
 
-/// Deals with each false literal of a clause.
+/// Deals with each false literal of a known clause.
 #[tactic(auto, using(crate::proofs::AnalysisLemmas::absorptions))]
 fn absorb(
     values: &[Option<bool>],
     level: &[usize],
     depth: usize,
-    clause: &[Lit],
+    clause: &[Packed],
     marks: &mut [bool],
     kept: &mut [bool],
     out: &mut Vec<Lit>,
@@ -90,8 +91,9 @@ fn absorb(
     ensures grows { IfOk result (λ n. count ≤ n) }
 {
     let mut count = count;
-    for l in clause {
-        count = absorb_one(values, level, depth, *l, marks, kept, out, activity, count)?;
+    for packed in clause {
+        let l = packed.lit();
+        count = absorb_one(values, level, depth, l, marks, kept, out, activity, count)?;
     }
     Ok(count)
 }
@@ -157,9 +159,9 @@ fn larger(a: usize, b: usize) -> usize
     if a < b { b } else { a }
 }
 
-/// The deepest level of a literal of the clause.
+// The deepest level of a literal of the clause.
 #[tactic(auto, using(crate::proofs::LessonLemmas::depths))]
-pub fn deepest(level: &[usize], clause: &[Lit]) -> usize
+fn deepest(level: &[usize], clause: &[Lit]) -> usize
     requires { IsWithin (length level.now) clause.now }
     ensures most { (m : Lit) → Contains clause.now m → level_at level.now m ≤ result }
     ensures some { 0 < result → (m : Lit) × Contains clause.now m × (level_at level.now m ≡ result) }
@@ -167,6 +169,20 @@ pub fn deepest(level: &[usize], clause: &[Lit]) -> usize
     let mut deepest = 0;
     for l in clause {
         deepest = larger(deepest, level[l.var]);
+    }
+    deepest
+}
+
+/// The deepest level of a literal of the known clause.
+#[tactic(auto, using(crate::proofs::LessonLemmas::depths))]
+pub fn deepest_packed(level: &[usize], clause: &[Packed]) -> usize
+    requires { IsWithin (length level.now) clause.now }
+    ensures most { (m : Lit) → Contains clause.now m → level_at level.now m ≤ result }
+    ensures some { 0 < result → (m : Lit) × Contains clause.now m × (level_at level.now m ≡ result) }
+{
+    let mut deepest = 0;
+    for packed in clause {
+        deepest = larger(deepest, level[packed.lit().var]);
     }
     deepest
 }

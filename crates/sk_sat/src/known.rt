@@ -5,13 +5,15 @@ ghost use Rattle.sk_clause.specs.Meaning.{Includes};
 ghost use Rattle.sk_sat.specs.Round.{IsUnlike, IsInside};
 ghost use Rattle.sk_sat.specs.Known.{first_var, IsIndexed, IsApart};
 
-use sk_clause::{ClauseList, Lit};
+use crate::packed::Packed;
+use crate::store::Store;
+use sk_clause::Lit;
 use std::alloc::{AllocError, Global};
 use std::marker::Model;
 
-/// Whether a clause has a literal.
+// Whether a clause has a literal.
 #[tactic(auto, using(crate::proofs::InsideLemmas::holders))]
-pub fn has(clause: &[Lit], l: Lit) -> bool
+fn has(clause: &[Lit], l: Lit) -> bool
     ensures { IsTrue result ↔ Contains clause.now l }
 {
     for m in clause {
@@ -22,13 +24,26 @@ pub fn has(clause: &[Lit], l: Lit) -> bool
     false
 }
 
-// Whether a clause has each literal of another.
+/// Whether a known clause has a literal.
+#[tactic(auto, using(crate::proofs::InsideLemmas::holders))]
+pub fn has_packed(clause: &[Packed], l: Lit) -> bool
+    ensures { IsTrue result ↔ Contains clause.now l }
+{
+    for packed in clause {
+        if packed.lit().is(l) {
+            return true;
+        }
+    }
+    false
+}
+
+// Whether a clause has each literal of a known one.
 #[tactic(auto, using(crate::proofs::InsideLemmas::includers))]
-fn includes(clause: &[Lit], other: &[Lit]) -> bool
+fn includes(clause: &[Lit], other: &[Packed]) -> bool
     ensures { IsTrue result ↔ Includes clause.now other.now }
 {
-    for m in other {
-        if !has(clause, *m) {
+    for packed in other {
+        if !has(clause, packed.lit()) {
             return false;
         }
     }
@@ -37,7 +52,7 @@ fn includes(clause: &[Lit], other: &[Lit]) -> bool
 
 // A clause of the list that a clause includes: looks at all.
 #[tactic(auto, using(crate::proofs::InsideLemmas::finders))]
-fn scan_inside(list: &ClauseList, clause: &[Lit]) -> Option<usize>
+fn scan_inside(list: &Store, clause: &[Lit]) -> Option<usize>
     ensures some { IfSome result (IsInside list.now clause.now) }
     ensures none { IfNone result (IsUnlike list.now clause.now) }
 {
@@ -49,13 +64,13 @@ fn scan_inside(list: &ClauseList, clause: &[Lit]) -> Option<usize>
     None
 }
 
-// Whether a clause begins with a literal of the variable.
-fn begins_with(clause: &[Lit], v: usize) -> bool
+// Whether a known clause begins with a literal of the variable.
+fn begins_with(clause: &[Packed], v: usize) -> bool
     ensures { IsTrue result ↔ (first_var clause.now ≡ Some v) }
 {
     match clause {
         [] => false,
-        [l, ..] => l.var == v,
+        [packed, ..] => packed.lit().var == v,
     }
 }
 
@@ -72,7 +87,7 @@ fn widen(heads: &mut Vec<usize>, v: usize) -> Result<(), AllocError>
 
 // The place, and one more, of the clause before the j-th that begins with the variable.
 #[tactic(auto, using(crate::proofs::KnownLemmas::chains))]
-fn before(list: &ClauseList, links: &[usize], v: usize, j: usize) -> usize
+fn before(list: &Store, links: &[usize], v: usize, j: usize) -> usize
     requires { (heads : List ℕ) × (blank : Bool) × IsIndexed list.now heads links.now blank }
     ensures less { result ≤ j }
     ensures none { (i : ℕ) → i < j → first_var (slice_index_or list.now i []) ≡ Some v → i < result }
@@ -94,7 +109,7 @@ fn head_of(heads: &[usize], v: usize) -> usize
 }
 
 // Whether there is a clause of number j, and a clause includes it.
-fn is_inside(list: &ClauseList, clause: &[Lit], j: usize) -> bool
+fn is_inside(list: &Store, clause: &[Lit], j: usize) -> bool
     ensures some { result ≡ true → IsInside list.now clause.now j }
     ensures none { result ≡ false → j < length list.now → Includes clause.now (slice_index_or list.now j []) → ⊥ }
 {
@@ -107,7 +122,7 @@ fn is_inside(list: &ClauseList, clause: &[Lit], j: usize) -> bool
 // A clause that a clause includes, of those that begin with the variable.
 #[tactic(auto, using(crate::proofs::KnownLemmas::chains))]
 fn chain_inside(
-    list: &ClauseList,
+    list: &Store,
     heads: &[usize],
     links: &[usize],
     clause: &[Lit],
@@ -130,12 +145,7 @@ fn chain_inside(
 
 // A clause that a clause includes, where no clause of the list is empty.
 #[tactic(auto, using(crate::proofs::KnownLemmas::finders))]
-fn chains_inside(
-    list: &ClauseList,
-    heads: &[usize],
-    links: &[usize],
-    clause: &[Lit],
-) -> Option<usize>
+fn chains_inside(list: &Store, heads: &[usize], links: &[usize], clause: &[Lit]) -> Option<usize>
     requires { IsIndexed list.now heads.now links.now false }
     ensures some { IfSome result (IsInside list.now clause.now) }
     ensures none { IfNone result (IsUnlike list.now clause.now) }
@@ -152,7 +162,7 @@ fn chains_inside(
 /// The known clauses. Contracts see the list of them.
 #[derive(Drop)]
 pub struct Known {
-    list: ClauseList,
+    list: Store,
     /// Of each variable the number, and one more, of the last clause that begins with a literal of it.
     heads: Vec<usize>,
     /// Of each clause the number, and one more, of the clause before it that begins with a literal of the same variable.
@@ -183,7 +193,7 @@ impl Known {
         ensures { result ≡ [] }
     {
         Known {
-            list: ClauseList::new(alloc),
+            list: Store::new(alloc),
             heads: Vec::new(alloc),
             links: Vec::new(alloc),
             blank: false,
@@ -198,7 +208,7 @@ impl Known {
     }
 
     /// The clause of number i, from 0.
-    pub fn get(&self, i: usize) -> &[Lit]
+    pub fn get(&self, i: usize) -> &[Packed]
         requires { i < length self.now }
         ensures { result.now ≡ slice_index_or self.now i [] }
     {

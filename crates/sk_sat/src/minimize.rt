@@ -200,7 +200,7 @@ fn is_forced(
         return Ok(false);
     }
     let clause = known.get(reason[l.var]);
-    for m in clause {
+    for packed in clause {
         let covered = is_covered(
             values,
             level,
@@ -213,7 +213,7 @@ fn is_forced(
             tried,
             fuel - 1,
             l,
-            *m,
+            packed.lit(),
         )?;
         if !covered {
             return Ok(false);

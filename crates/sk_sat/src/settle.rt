@@ -8,8 +8,8 @@ ghost use Rattle.sk_sat.specs.Analysis.{IsFalsified, IsLesson, level_at};
 ghost use Rattle.sk_sat.specs.Round.{IsStep, IsDeep, IsConflictDepth, IsUnlike, IsInside, Learns, StepsOn, FallsBack};
 
 use crate::activity::Activity;
-use crate::analysis::{Lessons, deepest};
-use crate::known::{Known, has};
+use crate::analysis::{Lessons, deepest_packed};
+use crate::known::{Known, has_packed};
 use crate::trail::Trail;
 use sk_clause::{ClauseList, Lit};
 use std::alloc::AllocError;
@@ -79,7 +79,7 @@ fn repeat(
     ensures steps { IfOk result (λ b. b ≡ false → StepsOn known.now trail.old trail.new) }
 {
     trail.cancel(back, activity);
-    if !has(known.get(j), turn) {
+    if !has_packed(known.get(j), turn) {
         return Ok(true);
     }
     trail.force(turn, j)?;
@@ -154,7 +154,7 @@ fn depth_of(trail: &Trail, known: &Known, i: usize) -> usize
     requires conflict { IsFalsified known.now trail.now.values.items i }
     ensures { IsConflictDepth known.now trail.now i result }
 {
-    deepest(&trail.level, known.get(i))
+    deepest_packed(&trail.level, known.get(i))
 }
 
 /// Goes back to a level, which may be the last one.

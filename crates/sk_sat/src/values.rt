@@ -4,6 +4,7 @@ ghost use Rattle.sk_clause.specs.Problem.{IsWithin};
 ghost use Rattle.sk_clause.specs.Values.{value_of};
 ghost use Rattle.sk_sat.specs.Scan.{IsScan};
 
+use crate::packed::Packed;
 use sk_clause::Lit;
 
 /// What a clause comes to under the values.
@@ -28,22 +29,23 @@ pub fn value(values: &[Option<bool>], l: Lit) -> Option<bool>
     }
 }
 
-/// What a clause comes to under the values.
+/// What a known clause comes to under the values.
 #[tactic(auto, using(sk_clause::proofs::ScanLemmas::scans))]
-pub fn scan_of(values: &[Option<bool>], clause: &[Lit]) -> Scan
+pub fn scan_of(values: &[Option<bool>], clause: &[Packed]) -> Scan
     requires { IsWithin (length values.now) clause.now }
     ensures { IsScan values.now clause.now result }
 {
     let mut open: Option<Lit> = None;
-    for l in clause {
-        match value(values, *l) {
-            Some(true) => return Scan::Settled(*l, *l),
+    for packed in clause {
+        let l = packed.lit();
+        match value(values, l) {
+            Some(true) => return Scan::Settled(l, l),
             Some(false) => {}
             None => match open {
-                None => open = Some(*l),
+                None => open = Some(l),
                 Some(first) => {
-                    if !first.is(*l) {
-                        return Scan::Settled(first, *l);
+                    if !first.is(l) {
+                        return Scan::Settled(first, l);
                     }
                 }
             },

@@ -8,6 +8,7 @@ ghost use Rattle.sk_sat.specs.declared.watches.Visit.TheVariants.{Falsified};
 use crate::codes::{NONE, code_of, is_false, is_true, opposite, place_of};
 use crate::known::Known;
 use crate::lists::{Lists, Watch};
+use crate::packed::Packed;
 use crate::propagate::{Look, look_at};
 use crate::trail::Trail;
 use sk_clause::Lit;
@@ -142,13 +143,14 @@ fn level_of(level: &[usize], l: Lit) -> usize {
 }
 
 // A deepest literal of a clause, or else the last of them.
-fn deepest_of(level: &[usize], clause: &[Lit], other: Lit) -> Lit {
+fn deepest_of(level: &[usize], clause: &[Packed], other: Lit) -> Lit {
     let mut best = other;
     let mut depth = 0;
-    for l in clause {
-        let at = level_of(level, *l);
+    for packed in clause {
+        let l = packed.lit();
+        let at = level_of(level, l);
         if at >= depth {
-            best = *l;
+            best = l;
             depth = at;
         }
     }
@@ -192,10 +194,10 @@ impl Watches {
     }
 
     // Makes the watches of the next clause, which watch nothing.
-    fn make(&mut self, clause: &[Lit], first_use: Use) -> Result<(), AllocError> {
+    fn make(&mut self, clause: &[Packed], first_use: Use) -> Result<(), AllocError> {
         let start = place_of(self.codes.len());
-        for l in clause {
-            self.codes.push(code_of(*l))?;
+        for packed in clause {
+            self.codes.push(packed.code())?;
         }
         self.rows.push(Row {
             start,
@@ -260,11 +262,11 @@ impl Watches {
     }
 
     // How many levels the literals have.
-    fn glue_of(&mut self, clause: &[Lit], level: &[usize]) -> u32 {
+    fn glue_of(&mut self, clause: &[Packed], level: &[usize]) -> u32 {
         self.counted = self.counted.saturating_add(1);
         let mut glue: u32 = 0;
-        for l in clause {
-            if self.is_new(level_of(level, *l)) {
+        for packed in clause {
+            if self.is_new(level_of(level, packed.lit())) {
                 glue = glue.saturating_add(1);
             }
         }
@@ -273,7 +275,7 @@ impl Watches {
 
     /// Makes the watches of a clause that was learnt: its last literal, which it forces, and a deepest other one. How
     /// many levels its literals had when it was false.
-    pub fn learn(&mut self, clause: &[Lit], level: &[usize]) -> Result<u32, AllocError> {
+    pub fn learn(&mut self, clause: &[Packed], level: &[usize]) -> Result<u32, AllocError> {
         let i = self.len();
         self.learnt = self.learnt.saturating_add(1);
         let mut glue = 0;
@@ -283,7 +285,8 @@ impl Watches {
         let first_use = Use::of_learnt(clause.len(), glue, self.learnt);
         self.make(clause, first_use)?;
         if let [front @ .., turn] = clause {
-            self.set(i, *turn, deepest_of(level, front, *turn))?;
+            let turn = turn.lit();
+            self.set(i, turn, deepest_of(level, front, turn))?;
         }
         Ok(glue)
     }

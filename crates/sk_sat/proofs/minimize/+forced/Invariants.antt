@@ -11,9 +11,9 @@ abbrev pub decreases-is_forced : goal.decreases-is_forced
 decreases-is_forced l = 2 * l.fuel
 
 -- the first literals of the reason are covered
-abbrev pub invariant-is_forced-loop-m : goal.invariant-is_forced-loop-m
-invariant-is_forced-loop-m l = record {
+abbrev pub invariant-is_forced-loop-packed : goal.invariant-is_forced-loop-packed
+invariant-is_forced-loop-packed l = record {
   more : MarksMore l.known l.values l.reason l.level l.lits l.initial.kept l.initial.extra.items l.kept l.extra.items;
   long : length l.kept ≡ length l.initial.kept;
-  covered : AreCovered l.level l.kept (take l.m-index l.clause) l.l;
+  covered : AreCovered l.level l.kept (take l.packed-index l.clause) l.l;
 }

@@ -26,12 +26,12 @@ force-requires-clause-level c = (c.cancel.ensures.trail c.args.known.now c.requi
 pub force-requires-clause-reason : goal.force-requires-clause-reason
 force-requires-clause-reason c = (c.cancel.ensures.trail c.args.known.now c.requires.trail).reason_long
 
-pub returns-then-not-has-clause-falls : goal.returns-then-not-has-clause-falls
-returns-then-not-has-clause-falls c = λ _.
+pub returns-then-not-has_packed-clause-falls : goal.returns-then-not-has_packed-clause-falls
+returns-then-not-has_packed-clause-falls c = λ _.
     (let t = c.cancel.ensures.trail c.args.known.now c.requires.trail in
     let b = c.cancel.ensures.back c.args.known.now c.requires.trail in
     inside_false c.args.known.now c.args.clause.now c.args.turn c.args.back c.args.j c.args.trail.now c.cancel.new.self c.requires.lesson c.requires.inside b t
-    (λ h. (let k = c.has.ensures.1 (rw c.get.ensures h) in let f = c.if-not-has.true in cc)))
+    (λ h. (let k = c.has_packed.ensures.1 (rw c.get.ensures h) in let f = c.if-not-has_packed.true in cc)))
 
 pub returns-clause-steps : goal.returns-clause-steps
 returns-clause-steps c = λ _.
@@ -39,7 +39,7 @@ returns-clause-steps c = λ _.
     let b = c.cancel.ensures.back c.args.known.now c.requires.trail in
     let l = c.requires.lesson in
     let begin : get_or c.args.trail.now.lims.items c.args.back 0 < length c.args.trail.now.lits.items = c.requires.trail.leveled.inside c.args.back l.less in
-    let has = rw c.get.ensures at (c.has.ensures.0 c.if-not-has.false) in
+    let has = rw c.get.ensures at (c.has_packed.ensures.0 c.if-not-has_packed.false) in
     let why = inside_reason c.args.known.now c.args.clause.now c.args.turn c.args.back c.args.j c.args.trail.now c.cancel.new.self l c.requires.inside b t has in
     record {
       trail = c.in_ok-force.ensures.trail c.args.known.now t why;
