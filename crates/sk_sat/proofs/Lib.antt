@@ -2,6 +2,7 @@ pub mod AnalysisLemmas
 pub mod BeginLemmas
 pub mod CancelLemmas
 pub mod EngineLemmas
+pub mod GatherLemmas
 pub mod GrowLemmas
 pub mod InsideLemmas
 pub mod KnownLemmas

@@ -1,5 +1,5 @@
 -- What keeps a solver sound.
-use Rattle.std.proofs.Common.{◌≡◌, inl, inr, Bool, ℕ, ◌+◌, ◌-◌, ◌<◌, ◌≤◌, ◌++◌, List, [], ◌∷◌, length, get_or, take, drop, min, refl, sym, ◌∙◌, ap, arith, subst}
+use Rattle.std.proofs.Common.{◌≡◌, inl, inr, Bool, ℕ, ◌+◌, ◌<◌, ◌≤◌, ◌++◌, List, [], ◌∷◌, length, get_or, take, drop, min, refl, sym, ◌∙◌, ap, arith, subst}
 use Rattle.std.specs.Prelude.{All, Contains}
 use Rattle.std.proofs.lemmas.List.{append_assoc, append-nil, drop_at, drop_all, take-append-le, take-take, get_or-take, get_or_append_left, get_or-append_right, get_or-append-add, length-append, length-take}
 use Rattle.std.proofs.lemmas.List.Elements.{All-nil, All-push, All-append, All-take, Contains-append_left, Contains-append_right, Contains-append_cases}
@@ -12,6 +12,7 @@ use Rattle.sk_sat.specs.Engine.{IsReady, Serves, IsCurrent}
 use Rattle.sk_sat.specs.Search.{IsUnspent}
 use Rattle.sk_sat.specs.Solver.{State, IsSound, Gains, gained, Grows}
 use Rattle.sk_sat.proofs.SearchLemmas.{each_follows_push}
+use Rattle.sk_sat.proofs.GatherLemmas.{each_follows_join}
 use Rattle.sk_sat.proofs.EngineLemmas.{same_append, within_wider, serves_searched, serve_vars, serve_add}
 
 each_follows_more : (cs ds log : List (List Lit)) → ((d : List Lit) → Contains cs d → Contains ds d) → EachFollows cs log → EachFollows ds log
@@ -39,15 +40,6 @@ sound_add n added learnt c w s = record {
   each = each_follows_more added (added ++ c ∷ []) learnt (λ d h. Contains-append_left added (c ∷ []) d h) s.each;
   consistent = s.consistent;
 }
-
-pub each_follows_join : (cs a b : List (List Lit)) → EachFollows cs a → EachFollows (cs ++ a) b → EachFollows cs (a ++ b)
-each_follows_join cs a b h k i l = elim (Rattle.std.proofs.lemmas.Bool.cases_lt i (length a)) [
-  | inl left ↦ rw (take-append-le i a b (omega arith), get_or_append_left a b [] i left) (h i left)
-  | inr right ↦ (let n : i - length a < length b = omega (arith, length-append a b) in
-      let e : length a + (i - length a) ≡ i = omega arith in
-      let t : take i (a ++ b) ≡ a ++ take (i - length a) b = ap (λ x. take x (a ++ b)) (sym e) ∙ Rattle.std.proofs.Math.Seq.take-append-add a b (i - length a) in
-      rw (t, get_or-append_right a b (length a) i [] refl right, sym (append_assoc cs a (take (i - length a) b))) (k (i - length a) n))
-]
 
 pub join_step : (xs b : List (List Lit)) (k : ℕ) → k < length b → (xs ++ take k b) ++ get_or b k [] ∷ [] ≡ xs ++ take (k + 1) b
 join_step xs b k h = append_assoc xs (take k b) (get_or b k [] ∷ []) ∙ ap (λ x. xs ++ x) (sym (Rattle.std.proofs.lemmas.List.take_more b k [] h))

@@ -1,5 +1,6 @@
 pub mod Analysis
 pub mod Answer
+pub mod Elimination
 pub mod Engine
 pub mod Known
 pub mod Marks

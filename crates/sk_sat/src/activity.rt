@@ -31,6 +31,8 @@ pub struct Activity {
     heap: Vec<u32>,
     /// Of each variable its place in the heap, or `NONE`.
     places: Vec<u32>,
+    /// Of each variable whether it is never decided.
+    hidden: Vec<bool>,
 }
 
 // A sixteenth more, at least 1.
@@ -38,8 +40,8 @@ fn grown(step: u64) -> u64 {
     step.saturating_add(step / 16).saturating_add(1)
 }
 
-// Whether a variable is there and has no value.
-fn is_free(values: &[Option<bool>], v: usize) -> bool
+/// Whether a variable is there and has no value.
+pub fn is_free(values: &[Option<bool>], v: usize) -> bool
     ensures { result ≡ true → (v < length values.now) × (slice_index_or values.now v None ≡ None) }
 {
     if v >= values.len() {
@@ -60,6 +62,7 @@ impl Activity {
             step: FIRST_STEP,
             heap: Vec::new(alloc),
             places: Vec::new(alloc),
+            hidden: Vec::new(alloc),
         }
     }
 
@@ -71,6 +74,7 @@ impl Activity {
             self.negative.push(true)?;
             self.target.push(None)?;
             self.places.push(NONE)?;
+            self.hidden.push(false)?;
         }
         self.heap.reserve(n.saturating_sub(self.heap.len()))?;
         for v in first..n {
@@ -182,9 +186,31 @@ impl Activity {
         self.set_at(hole, v);
     }
 
-    // Puts a variable into the heap, if it is not there and there is room.
+    /// Whether a variable is hidden.
+    pub fn is_hidden(&self, v: usize) -> bool {
+        v < self.hidden.len() && self.hidden[v]
+    }
+
+    /// A variable leaves the heap when it is met there, and comes into it no more.
+    pub fn hide(&mut self, v: usize) {
+        if v < self.hidden.len() {
+            self.hidden[v] = true;
+        }
+    }
+
+    /// No variable is hidden any more.
+    pub fn show_all(&mut self) {
+        for v in 0..self.hidden.len() {
+            if v < self.hidden.len() && self.hidden[v] {
+                self.hidden[v] = false;
+                self.put(v);
+            }
+        }
+    }
+
+    // Puts a variable into the heap, if it is not there or hidden, and there is room.
     fn put(&mut self, v: usize) {
-        if v >= NONE as usize || self.place(v) != NONE {
+        if v >= NONE as usize || self.place(v) != NONE || self.is_hidden(v) {
             return;
         }
         let place = self.heap.len();
@@ -212,17 +238,18 @@ impl Activity {
     {
         for _ in 0..self.heap.len() {
             let v = self.take()?;
-            if is_free(values, v) {
+            if is_free(values, v) && !self.is_hidden(v) {
                 return Some(v);
             }
         }
         None
     }
 
-    // Takes variables that have values from the front of the heap.
+    // Takes variables that have values, or are hidden, from the front of the heap.
     fn skip(&mut self, values: &[Option<bool>]) {
         for _ in 0..self.heap.len() {
-            if is_free(values, self.at(0) as usize) || self.take().is_none() {
+            let v = self.at(0) as usize;
+            if is_free(values, v) && !self.is_hidden(v) || self.take().is_none() {
                 return;
             }
         }

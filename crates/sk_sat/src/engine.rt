@@ -8,6 +8,7 @@ ghost use Rattle.sk_sat.specs.Search.{IsOutcome};
 
 use crate::activity::Activity;
 use crate::analysis::Lessons;
+use crate::eliminated::Eliminated;
 use crate::known::Known;
 use crate::search::{Outcome, search};
 use crate::settle::back_to;
@@ -24,6 +25,7 @@ pub struct Engine {
     trail: Trail,
     watches: Watches,
     activity: Activity,
+    eliminated: Eliminated,
     lessons: Lessons,
     /// How many of the added clauses it has.
     taken: usize,
@@ -64,6 +66,7 @@ impl Engine {
             trail,
             watches,
             activity,
+            eliminated: Eliminated::new(alloc),
             lessons,
             taken: 0,
         })
@@ -84,6 +87,19 @@ impl Engine {
         Ok(())
     }
 
+    // Brings the eliminated variables back.
+    fn wake(&mut self)
+        ensures known { self.new.known ≡ self.old.known }
+        ensures trail { self.new.trail ≡ self.old.trail }
+        ensures taken { self.new.taken ≡ self.old.taken }
+    {
+        if !self.eliminated.is_empty() {
+            self.eliminated.clear();
+            self.activity.show_all();
+            self.watches.wake();
+        }
+    }
+
     /// Takes the added clauses that it lacks.
     pub fn catch_up(&mut self, added: &ClauseList) -> Result<(), AllocError>
         requires ready { IsReady self.old }
@@ -94,6 +110,9 @@ impl Engine {
         ensures known { OnOk result (self.new.known ≡ self.old.known ++ drop self.old.taken added.now) }
         ensures taken { OnOk result (self.new.taken ≡ length added.now) }
     {
+        if self.taken < added.len() {
+            self.wake();
+        }
         for i in self.taken..added.len() {
             self.known.push(added.get(i))?;
         }
@@ -114,6 +133,7 @@ impl Engine {
         ensures consistent { OnOk result (All IsConsistent fresh.new) }
         ensures outcome { IfOk result (IsOutcome (length self.old.trail.values.items) self.old.known fresh.new budget) }
     {
+        self.eliminated.rewind();
         let outcome = search(
             self.alloc,
             &mut self.trail,
@@ -122,6 +142,7 @@ impl Engine {
             &mut self.watches,
             &mut self.lessons,
             &mut self.activity,
+            &mut self.eliminated,
             budget,
         )?;
         back_to(&mut self.trail, &self.known, &mut self.activity, 0);

@@ -13,7 +13,7 @@ use std::marker::Model;
 
 // Whether a clause has a literal.
 #[tactic(auto, using(crate::proofs::InsideLemmas::holders))]
-fn has(clause: &[Lit], l: Lit) -> bool
+pub fn has(clause: &[Lit], l: Lit) -> bool
     ensures { IsTrue result ↔ Contains clause.now l }
 {
     for m in clause {

@@ -5,6 +5,8 @@
 mod activity;
 mod analysis;
 mod codes;
+mod eliminated;
+mod elimination;
 mod engine;
 mod known;
 mod lists;

@@ -97,6 +97,14 @@ impl Lists {
         Ok(())
     }
 
+    /// Drops all watches.
+    pub fn clear(&mut self) {
+        for block in self.blocks.iter_mut() {
+            *block = Block::none();
+        }
+        self.watches.clear();
+    }
+
     /// The places where the watches of a literal begin and end.
     pub fn range(&self, code: u32) -> (usize, usize) {
         let c = code as usize;

@@ -4,6 +4,7 @@ ghost use Rattle.sk_clause.specs.declared.lit.Lit.{Lit};
 ghost use Rattle.sk_sat.specs.Trail.{IsTrail, effort};
 
 use crate::activity::Activity;
+use crate::eliminated::Eliminated;
 use crate::trail::Trail;
 
 /// So many restarts at most, so that each search ends.
@@ -140,6 +141,18 @@ impl Restarts {
             return false;
         }
         self.advance();
+        self.left -= 1;
+        true
+    }
+
+    /// Whether it is time for an elimination, which takes one of the restarts that may still come.
+    pub fn eliminates(&mut self, eliminated: &Eliminated) -> bool
+        ensures due { result ≡ true → self.new.left + 1 ≡ self.old.left }
+        ensures same { result ≡ false → self.new.left ≡ self.old.left }
+    {
+        if self.left == 0 || !eliminated.is_due(self.conflicts) {
+            return false;
+        }
         self.left -= 1;
         true
     }

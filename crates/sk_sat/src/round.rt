@@ -9,6 +9,7 @@ ghost use Rattle.sk_sat.specs.Round.{IsRound, IsFree, IsMet};
 
 use crate::activity::Activity;
 use crate::analysis::Lessons;
+use crate::eliminated::Eliminated;
 use crate::known::Known;
 use crate::settle::{Step, settle};
 use crate::trail::Trail;
@@ -70,16 +71,26 @@ fn pick(values: &[Option<bool>], activity: &Activity) -> Option<Lit>
     best
 }
 
-/// A literal whose variable has no value, if there is one: of the heaviest variable in the heap, or else of any.
-fn choose(values: &[Option<bool>], activity: &mut Activity) -> Option<Lit>
+/// A literal whose variable has no value, if there is one: of the heaviest variable in the heap, or else of the one that
+/// was eliminated last, or else of any.
+fn choose(
+    values: &[Option<bool>],
+    known: &Known,
+    activity: &mut Activity,
+    eliminated: &mut Eliminated,
+) -> Option<Lit>
     ensures free { IfSome result (IsFree values.now) }
     ensures full { IfNone result ((l : Lit) → l.var < length values.now → IsOpen values.now l → ⊥) }
 {
-    match activity.take_free(values) {
-        Some(v) => Some(Lit {
-            var: v,
-            neg: activity.is_negative(v),
-        }),
+    if let Some(var) = activity.take_free(values) {
+        eliminated.rewind();
+        return Some(Lit {
+            var,
+            neg: activity.is_negative(var),
+        });
+    }
+    match eliminated.next(values, known) {
+        Some(l) => Some(l),
         None => pick(values, activity),
     }
 }
@@ -135,6 +146,7 @@ pub fn round_of(
     watches: &mut Watches,
     lessons: &mut Lessons,
     activity: &mut Activity,
+    eliminated: &mut Eliminated,
     strict: bool,
 ) -> Result<Round, AllocError>
     requires trail { IsTrail known.old trail.old }
@@ -145,7 +157,7 @@ pub fn round_of(
         let round = resolve_all(trail, known, fresh, lessons, activity, strict, i)?;
         return Ok(round);
     }
-    match choose(&trail.values, activity) {
+    match choose(&trail.values, known, activity, eliminated) {
         Some(l) => {
             trail.decide(l)?;
             Ok(Round::Moved)

@@ -3,15 +3,19 @@ ghost use Rattle.std.specs.Prelude.{◌≡◌, ℕ, ◌+◌, ◌<◌, ◌≤◌,
 ghost use Rattle.sk_clause.specs.declared.lit.Lit.{Lit};
 ghost use Rattle.sk_clause.specs.Problem.{AreWithin};
 ghost use Rattle.sk_clause.specs.Meaning.{EachFollows, IsConsistent};
-ghost use Rattle.sk_sat.specs.Trail.{IsTrail};
+ghost use Rattle.sk_sat.specs.Trail.{IsTrail, effort};
+ghost use Rattle.sk_sat.specs.Elimination.{Gathers};
 ghost use Rattle.sk_sat.specs.Round.{Stands};
 ghost use Rattle.sk_sat.specs.Search.{IsOutcome};
 
 use crate::activity::Activity;
 use crate::analysis::Lessons;
+use crate::eliminated::Eliminated;
+use crate::elimination::eliminate;
 use crate::known::Known;
 use crate::restarts::{Restarts, begin_anew};
 use crate::round::{Round, round_of};
+use crate::settle::back_to;
 use crate::trail::Trail;
 use crate::watches::Watches;
 use sk_clause::ClauseList;
@@ -58,6 +62,40 @@ fn learn_last(
     Ok(0)
 }
 
+// Eliminates variables, if it is time for that, at level 0.
+#[tactic(auto, using(crate::proofs::GatherLemmas::reductions))]
+fn reduce(
+    alloc: Global,
+    trail: &mut Trail,
+    known: &mut Known,
+    fresh: &mut ClauseList,
+    watches: &mut Watches,
+    activity: &mut Activity,
+    eliminated: &mut Eliminated,
+    restarts: &mut Restarts,
+) -> Result<(), AllocError>
+    requires { IsTrail known.old trail.old }
+    ensures trail { OnOk result (IsTrail known.new trail.new) }
+    ensures long { length trail.new.values.items ≡ length trail.old.values.items }
+    ensures gathers { OnOk result (Gathers known.old known.new fresh.old fresh.new) }
+    ensures less { OnOk result (effort restarts.new.left trail.new ≤ effort restarts.old.left trail.old) }
+{
+    if !restarts.eliminates(eliminated) {
+        return Ok(());
+    }
+    back_to(trail, known, activity, 0);
+    eliminate(
+        alloc,
+        &trail.values,
+        known,
+        fresh,
+        watches,
+        activity,
+        eliminated,
+    )?;
+    Ok(())
+}
+
 /// Searches on from a trail for values with which the known clauses are true, and adds each clause that it learns to
 /// both lists. With budget 0 it ends only with an answer.
 #[tactic(auto, using(crate::proofs::SearchLemmas::searches))]
@@ -69,6 +107,7 @@ pub fn search(
     watches: &mut Watches,
     lessons: &mut Lessons,
     activity: &mut Activity,
+    eliminated: &mut Eliminated,
     budget: u64,
 ) -> Result<Outcome, AllocError>
     requires trail { IsTrail known.old trail.old }
@@ -81,11 +120,13 @@ pub fn search(
     ensures stands { OnOk result (Stands known.new trail.old trail.new) }
     ensures outcome { IfOk result (IsOutcome (length trail.old.values.items) known.old fresh.new budget) }
 {
-    let mut restarts = Restarts::new();
+    let restarts = &mut Restarts::new();
     let strict = is_limited(budget);
     let mut left = budget;
     'rounds: loop {
-        match round_of(trail, known, fresh, watches, lessons, activity, strict)? {
+        match round_of(
+            trail, known, fresh, watches, lessons, activity, eliminated, strict,
+        )? {
             Round::Refuted => return Ok(Outcome::Unsat),
             Round::Full => return Ok(Outcome::Sat(bits(alloc, &trail.values)?)),
             Round::Moved => continue,
@@ -95,7 +136,13 @@ pub fn search(
                     return Ok(Outcome::Spent);
                 }
                 left = left.saturating_sub(1);
-                begin_anew(trail, activity, &mut restarts, glue);
+                begin_anew(trail, activity, restarts, glue);
+                if strict {
+                    continue;
+                }
+                reduce(
+                    alloc, trail, known, fresh, watches, activity, eliminated, restarts,
+                )?;
             }
         }
     }

@@ -91,8 +91,9 @@ impl Solver {
     }
 
     /// Looks for values that meet each added clause, or for a refutation. With a budget other than 0 it also gives up,
-    /// just when it has learnt so many clauses. Budget 0 is none. Every call ends. What was learnt stays, also where
-    /// memory is wanting, which a clause with a variable from 2^31 on counts as.
+    /// just when it has learnt so many clauses. Budget 0 is none, and then resolvents of clauses may be learnt too. Every
+    /// call ends. What was learnt stays, also where memory is wanting, which a clause with a variable from 2^31 on
+    /// counts as.
     pub fn solve(&mut self, budget: u64) -> Result<Answer, AllocError>
         ensures answer { IfOk result (IsAnswer self.old self.new budget) }
         ensures gains { Gains self.old self.new }

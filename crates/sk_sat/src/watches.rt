@@ -5,6 +5,7 @@ ghost use Rattle.sk_sat.specs.Trail.{IsTrail, Extends};
 ghost use Rattle.sk_sat.specs.Analysis.{IsFalsified};
 ghost use Rattle.sk_sat.specs.declared.watches.Visit.TheVariants.{Falsified};
 
+use crate::activity::Activity;
 use crate::codes::{NONE, code_of, is_false, is_true, opposite, place_of};
 use crate::known::Known;
 use crate::lists::{Lists, Watch};
@@ -17,10 +18,18 @@ use std::alloc::{AllocError, Global};
 /// Whether a clause watches.
 #[derive(Clone, Copy, Drop)]
 enum Use {
-    /// It always does.
+    /// It was added, and always does.
+    Added,
+    /// It is a resolvent that stands for eliminated clauses, and always does.
+    Resolvent,
+    /// It was learnt, and always does.
     Always,
-    /// It does until it rests: until so many more were learnt since it forced a literal or was false.
+    /// It was learnt, and does until it rests: until so many more were learnt since it forced a literal or was false.
     Last { at: u32, rest: u32 },
+    /// It was added, and does not before its eliminated variable is back.
+    Asleep,
+    /// It never does again.
+    Over,
 }
 
 /// Learnt clauses of so many literals always watch.
@@ -54,16 +63,39 @@ impl Use {
     // Whether a clause has stopped watching when so many have been learnt.
     fn is_over(self, now: u32) -> bool {
         match self {
-            Use::Always => false,
+            Use::Added | Use::Resolvent | Use::Always => false,
             Use::Last { at, rest } => at.saturating_add(rest) < now,
+            Use::Asleep | Use::Over => true,
         }
     }
 
     // The use of a clause that has just been of use.
     fn renewed(self, now: u32) -> Use {
         match self {
-            Use::Always => Use::Always,
             Use::Last { rest, .. } => Use::Last { at: now, rest },
+            other => other,
+        }
+    }
+
+    // Whether an elimination has to do with the clause: the others follow from those.
+    fn is_counted(self) -> bool {
+        matches!(self, Use::Added | Use::Resolvent)
+    }
+
+    // The use of a clause with an eliminated variable.
+    fn put_out(self) -> Use {
+        match self {
+            Use::Added => Use::Asleep,
+            _ => Use::Over,
+        }
+    }
+
+    // The use once all variables are back.
+    fn woken(self) -> Use {
+        match self {
+            Use::Asleep => Use::Added,
+            Use::Resolvent => Use::Over,
+            other => other,
         }
     }
 }
@@ -84,6 +116,8 @@ pub struct Watches {
     /// The literals of the clauses, one clause behind another, in each the watched ones first.
     codes: Vec<u32>,
     rows: Vec<Row>,
+    /// So many clauses, from the first on, have their watches.
+    ready: usize,
     /// How many clauses have been learnt.
     learnt: u32,
     /// How many literals of the trail have been followed up.
@@ -164,6 +198,7 @@ impl Watches {
             lists: Lists::new(alloc),
             codes: Vec::new(alloc),
             rows: Vec::new(alloc),
+            ready: 0,
             learnt: 0,
             done: 0,
             stamps: Vec::new(alloc),
@@ -284,11 +319,74 @@ impl Watches {
         }
         let first_use = Use::of_learnt(clause.len(), glue, self.learnt);
         self.make(clause, first_use)?;
+        self.ready = self.len();
         if let [front @ .., turn] = clause {
             let turn = turn.lit();
             self.set(i, turn, deepest_of(level, front, turn))?;
         }
         Ok(glue)
+    }
+
+    /// Makes the watches of a resolvent that was added, which watch nothing yet.
+    pub fn resolvent(&mut self, clause: &[Packed]) -> Result<(), AllocError> {
+        self.make(clause, Use::Resolvent)
+    }
+
+    /// Whether an elimination counts a clause: it was added, or is a resolvent, and has no eliminated variable.
+    pub fn is_counted(&self, i: usize) -> bool {
+        i < self.rows.len() && self.rows[i].used.is_counted()
+    }
+
+    /// These clauses have an eliminated variable.
+    pub fn put_out(&mut self, clauses: &[usize]) {
+        for i in clauses {
+            if *i < self.rows.len() {
+                self.rows[*i].used = self.rows[*i].used.put_out();
+            }
+        }
+    }
+
+    // Whether a clause has a hidden variable.
+    fn is_hidden(&self, i: usize, activity: &Activity) -> bool {
+        let (start, end) = self.range(i);
+        for code in &self.codes[start..end] {
+            if activity.is_hidden((*code / 2) as usize) {
+                return true;
+            }
+        }
+        false
+    }
+
+    /// Learnt clauses with a hidden variable watch no more.
+    pub fn drop_lessons(&mut self, activity: &Activity) {
+        for i in 0..self.rows.len() {
+            if !self.is_forgotten(i) && !self.is_counted(i) && self.is_hidden(i, activity) {
+                self.rows[i].used = Use::Over;
+            }
+        }
+    }
+
+    /// The watches of all clauses are to be made anew.
+    pub fn begin_anew(&mut self) {
+        self.lists.clear();
+        self.ready = 0;
+        self.done = 0;
+    }
+
+    /// No variable is eliminated any more: the clauses with them watch again, and resolvents do not.
+    pub fn wake(&mut self) {
+        for row in self.rows.iter_mut() {
+            row.used = row.used.woken();
+        }
+        self.begin_anew();
+    }
+
+    // Makes the watches of clause i, if it has none, which watch nothing.
+    fn open(&mut self, i: usize, clause: &[Packed]) -> Result<(), AllocError> {
+        if i < self.rows.len() {
+            return Ok(());
+        }
+        self.make(clause, Use::Added)
     }
 
     // Makes the watches of the clauses that have none yet, and makes literals true that they force. A false one.
@@ -300,16 +398,18 @@ impl Watches {
         ensures extends { OnOk result (Extends trail.old trail.new) }
         ensures falsified { IfOk result (λ found. IfSome found (IsFalsified known.now trail.new.values.items)) }
     {
-        for i in self.len()..known.len() {
+        for i in self.ready..known.len() {
+            self.open(i, known.get(i))?;
+            if self.is_forgotten(i) {
+                continue;
+            }
             match look_at(trail, known, i)? {
                 Look::Falsified => return Ok(Some(i)),
-                Look::Forced => self.make(known.get(i), Use::Always)?,
-                Look::Settled(a, b) => {
-                    self.make(known.get(i), Use::Always)?;
-                    self.set(i, a, b)?;
-                }
+                Look::Forced => {}
+                Look::Settled(a, b) => self.set(i, a, b)?,
             }
         }
+        self.ready = known.len();
         Ok(None)
     }
 

@@ -1,6 +1,8 @@
-use Rattle.std.proofs.Common.{◌∙◌, ap, length, refl, arith}
+use Rattle.std.proofs.Common.{◌≡◌, inl, inr, ◌∙◌, ap, length, refl, arith}
+use Rattle.std.proofs.lemmas.Bool.{cases_lt}
 use Rattle.std.proofs.lemmas.List.{length-map}
 use Rattle.sk_sat.proofs.SearchLemmas.{searches_begin, searches_decided, searches_learnt, grown_added, each_added, consistent_added, within_added, spent_added, unspent, met_all, work_falls, effort_falls, searches_anew}
+use Rattle.sk_sat.proofs.GatherLemmas.{searches_gathered}
 use Rattle.sk_sat.proofs.search.search.Goals as goal
 
 pub rounds-init : goal.rounds-init
@@ -96,8 +98,8 @@ returns-then-left-eq1-clause-stands c =
     let r = rw c.in-Learnt.is at c.in_ok-round_of.ensures in
     record { trail = r.1.trail; long = r.1.long ∙ c.rounds.invariant.long }
 
-pub rounds-smaller : goal.rounds-smaller
-rounds-smaller c =
+pub rounds-smaller-then-strict : goal.rounds-smaller-then-strict
+rounds-smaller-then-strict c =
     let r = rw c.in-Learnt.is at c.in_ok-round_of.ensures in
     let f = effort_falls c.rounds.restarts.left c.rounds.trail c.round_of.new.trail r.1.long (work_falls c.rounds.known c.round_of.new.known c.rounds.trail c.round_of.new.trail r.1.trail r.1.long r.1.more) in
     let g = c.begin_anew.ensures.less in
@@ -108,8 +110,32 @@ begin_anew-requires c =
     let r = rw c.in-Learnt.is at c.in_ok-round_of.ensures in
     (c.round_of.new.known, r.1.trail)
 
+pub rounds-preserved-then-strict : goal.rounds-preserved-then-strict
+rounds-preserved-then-strict c =
+    let r = rw c.in-Learnt.is at c.in_ok-round_of.ensures in
+    let s = searches_learnt _ _ _ _ _ c.rounds.trail _ c.rounds.invariant _ _ _ r.0.1 (λ p. r.0.2 (c.is_limited-strict.ensures p)) c.round_of.new.trail r.1 c.if-left-eq1.false in
+    rw c.saturating_sub-left.ensures (searches_anew _ _ _ _ _ c.round_of.new.trail c.begin_anew.new.trail _ s (c.begin_anew.ensures.trail c.round_of.new.known r.1.trail) c.begin_anew.ensures.long)
+
+pub reduce-requires : goal.reduce-requires
+reduce-requires c =
+    let r = rw c.in-Learnt.is at c.in_ok-round_of.ensures in
+    c.begin_anew.ensures.trail c.round_of.new.known r.1.trail
+
+pub rounds-smaller : goal.rounds-smaller
+rounds-smaller c =
+    let r = rw c.in-Learnt.is at c.in_ok-round_of.ensures in
+    let f = effort_falls c.rounds.restarts.left c.rounds.trail c.round_of.new.trail r.1.long (work_falls c.rounds.known c.round_of.new.known c.rounds.trail c.round_of.new.trail r.1.trail r.1.long r.1.more) in
+    let g = c.begin_anew.ensures.less in
+    let h = c.in_ok-reduce-in-Learnt.ensures.less in
+    omega arith
+
 pub rounds-preserved : goal.rounds-preserved
 rounds-preserved c =
     let r = rw c.in-Learnt.is at c.in_ok-round_of.ensures in
     let s = searches_learnt _ _ _ _ _ c.rounds.trail _ c.rounds.invariant _ _ _ r.0.1 (λ p. r.0.2 (c.is_limited-strict.ensures p)) c.round_of.new.trail r.1 c.if-left-eq1.false in
-    rw c.saturating_sub-left.ensures (searches_anew _ _ _ _ _ c.round_of.new.trail c.begin_anew.new.trail _ s (c.begin_anew.ensures.trail c.round_of.new.known r.1.trail) c.begin_anew.ensures.long)
+    let anew = searches_anew _ _ _ _ _ c.round_of.new.trail c.begin_anew.new.trail _ s (c.begin_anew.ensures.trail c.round_of.new.known r.1.trail) c.begin_anew.ensures.long in
+    let none : c.args.budget ≡ 0 = elim (cases_lt 0 c.args.budget) [
+      | inl some ↦ absurd (let t = c.is_limited-strict.ensures some in let f = c.if-strict.false in cc)
+      | inr past ↦ omega arith
+    ] in
+    rw c.saturating_sub-left.ensures (searches_gathered _ _ _ _ _ _ _ c.begin_anew.new.trail c.reduce.new.trail _ anew none c.in_ok-reduce-in-Learnt.ensures.gathers c.in_ok-reduce-in-Learnt.ensures.trail c.in_ok-reduce-in-Learnt.ensures.long)
