@@ -7,8 +7,8 @@ FOLDER is made: a copy of the crates with one more, `calls_bench`, whose source 
 it is not, so it stands as a text). `rt run` proves it and builds it with LLVM, after the crates that it stands on. Then it is
 run, each time in a process of its own, with one solver for 0 to 1,000 calls, and with a solver for each of up to 300 calls:
 6,000 random clauses of three literals over 2,000 variables, and one more before each call. The table gives the user time of
-each process in seconds, the processor time of a call among the last hundred in microseconds, and the most memory that the
-process held in megabytes; with no calls a process makes the clauses alone.
+each process in seconds, the processor time of a call among the last hundred in microseconds, the most memory that the process
+held in megabytes, and how many clauses its last solver had learnt; with no calls a process makes the clauses alone.
 """
 import argparse
 import os
@@ -27,15 +27,17 @@ CALLS = {"kept": (0, 100, 200, 300, 1000), "anew": (0, 100, 200, 300)}
 
 @dataclass
 class Run:
-    """What a process took: user time in seconds, microseconds a call among the last, and memory in megabytes."""
+    """What a process took: user time in seconds, microseconds a call among the last, and memory in megabytes; and how many
+    clauses its last solver had learnt."""
 
     time: float
     last: float | None
     memory: float
+    learnt: int
 
     def shown(self):
         last = "" if self.last is None else f"{self.last:.0f}"
-        return f"{self.time:9.2f} {last:>9} {self.memory:9.1f}"
+        return f"{self.time:9.2f} {last:>9} {self.memory:9.1f} {self.learnt:9}"
 
 
 def make_copy(folder):
@@ -60,15 +62,16 @@ def make_copy(folder):
 
 
 def figures(output, calls):
-    """Of each hundred calls the nanoseconds so far; each answer must be values, the last of which meet the clauses."""
+    """Of each hundred calls the nanoseconds so far, and the clauses that were learnt at the end; each answer must be values,
+    the last of which meet the clauses."""
     lines, found, _ = output.partition("met true\n" if calls else "met false\n")
     assert found, "the last answer was no values that meet the clauses"
-    spent = [0]
+    spent, learnt = [0], 0
     for line in lines.splitlines():
-        count, time, sat = map(int, line.split())
+        count, time, sat, learnt = map(int, line.split())
         assert count == sat, f"an answer among {count} was no values"
         spent.append(time)
-    return spent
+    return spent, learnt
 
 
 def run(program, kind, calls, given):
@@ -80,11 +83,11 @@ def run(program, kind, calls, given):
         assert child.returncode == 0, words
         out.seek(0)
         text = out.read()
-    spent = figures(text, calls)
+    spent, learnt = figures(text, calls)
     last = (spent[-1] - spent[-2]) / STEP / 1000 if calls else None
     # the most memory that `wait4` tells of counts this program too, from which the process was made
     most = re.search(r"^VmHWM:\s+(\d+) kB$", text, re.MULTILINE)
-    return Run(used.ru_utime, last, int(most.group(1)) * 1024 / 1e6)
+    return Run(used.ru_utime, last, int(most.group(1)) * 1024 / 1e6, learnt)
 
 
 def main():
@@ -101,7 +104,7 @@ def main():
     program = os.path.join(bench, "out", "calls_bench")
     runs = {(kind, calls): run(program, kind, calls, given) for kind in CALLS for calls in CALLS[kind]}
     print("load", os.getloadavg()[0])
-    print(f"{'calls':>6}", *(f"{head:>9}" for kind in CALLS for head in (f"{kind} s", "us/call", "MB")))
+    print(f"{'calls':>6}", *(f"{head:>9}" for kind in CALLS for head in (f"{kind} s", "us/call", "MB", "learnt")))
     for calls in CALLS["kept"]:
         shown = [runs[kind, calls].shown() for kind in CALLS if (kind, calls) in runs]
         print(f"{calls:6}", *shown)
