@@ -3,7 +3,7 @@
 
     python3 bench/calls.py FOLDER [--vars N] [--clauses N] [--seed N]
 
-FOLDER is made: a copy of the crates with one more, `calls_bench`, whose source is bench/calls/main.txt (a program of the gate
+FOLDER is made, if it is not there: a copy of the crates with one more, `calls_bench`, whose source is bench/calls/main.txt (a program of the gate
 it is not, so it stands as a text). `rt run` proves it and builds it with LLVM, after the crates that it stands on. Then it is
 run, each time in a process of its own, with one solver for 0 to 1,000 calls, and with a solver for each of up to 300 calls:
 6,000 random clauses of three literals over 2,000 variables, and one more before each call. The table gives the user time of
@@ -41,12 +41,14 @@ class Run:
 
 
 def make_copy(folder):
-    """Copies the crates, and adds the bench to them."""
+    """Copies the crates, and adds the bench to them, if that was not done before. The folder of the bench."""
+    bench = os.path.join(folder, "crates", "calls_bench")
+    if os.path.exists(bench):
+        return bench
     kept = shutil.ignore_patterns("out")
     shutil.copytree(os.path.join(TOP, "crates"), os.path.join(folder, "crates"), ignore=kept)
     shutil.copy(os.path.join(TOP, "HANDLES"), folder)
     shutil.copy(os.path.join(TOP, "crates.txt"), folder)
-    bench = os.path.join(folder, "crates", "calls_bench")
     subprocess.run(["rt", "new", "crates/calls_bench", "start_io"], cwd=folder, check=True, capture_output=True)
     with open(os.path.join(folder, "crates.txt"), "a", encoding="utf-8") as crates:
         crates.write("calls_bench: sk_base sk_clause sk_sat\n")

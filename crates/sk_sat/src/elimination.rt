@@ -69,7 +69,7 @@ fn resolve(
     Ok(whole)
 }
 
-// Whether the resolvents of two kinds of clauses on a literal are short, and no more than the clauses.
+// Whether the resolvents of two kinds of clauses on a literal are short, and fewer than the clauses, if there are some.
 fn is_cheap(
     known: &Known,
     positive: &[usize],
@@ -77,7 +77,8 @@ fn is_cheap(
     p: Lit,
     out: &mut Vec<Lit>,
 ) -> Result<bool, AllocError> {
-    let mut left = positive.len().saturating_add(negative.len());
+    let clauses = positive.len().saturating_add(negative.len());
+    let mut left = clauses.saturating_sub(1);
     for i in positive {
         for j in negative {
             if resolve(known, *i, *j, p, out)? {
