@@ -2,7 +2,7 @@
 """Which texts are certificates, and where other texts depart from the form, by rules written apart from the program.
 
     certificates.py check FILE      what the rules say of a file
-    certificates.py data            the rows of crates/certificates/data/certificates.txt
+    certificates.py data            the rows of crates/rows_certificates/data/certificates.txt
     certificates.py rows N SEED     N rows of changed certificates, each with what the rules say of it
     certificates.py big SIZE        a certificate of about SIZE bytes, for measuring
 

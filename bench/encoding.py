@@ -2,7 +2,7 @@
 
 A bit is `True`, `False` or a literal: the number of a variable from 1, negative where it is negated. A word is a list of
 bits, the least first. A gate folds constants and equal or opposite literals, and is made once. The sizes at the end are
-those of the rows of `sk_clause_rows`: `python3 bench/encoding.py` compares them.
+those of the rows of `rows_clauses`: `python3 bench/encoding.py` compares them.
 """
 
 

@@ -3,12 +3,12 @@
 
     python3 bench/nodes.py SYM_CASES SKETCH [RUNS]
 
-SYM_CASES and SKETCH are the programs of the crates of those names, built by LLVM (out/sym_cases, out/sketch). Texts are made here, and each program is run on
+SYM_CASES and SKETCH are the programs of the crates of those names, built by LLVM (out/rows_sym, out/sketch). Texts are made here, and each program is run on
 them one after another, RUNS times (5 if it is not given); each time is the median of the user times of whole processes, less that of a process on the same text
 whose function does nothing.
 
 Two tables are printed: what a statement costs that is done so many times over nodes, with holes and inputs open (nanoseconds each, and the greatest memory of the
-process); and what functions of examples/ cost on constants with the choice given, beside `sketch exec`. How many nodes are made the rows of `sym_cases` say
+process); and what functions of examples/ cost on constants with the choice given, beside `sketch exec`. How many nodes are made the rows of `rows_sym` say
 (data/nodes.txt).
 """
 import os

@@ -1,4 +1,4 @@
-"""Compares rows of crates/cases/data with the reference: for each file, how many rows agree, which differ, how many
+"""Compares rows of crates/rows_commands/data with the reference: for each file, how many rows agree, which differ, how many
 name another of several faults, and how many the reference is not asked for (lines that are none, sizes, sketches with too many choices, and sources and sinks that fail).
 
     python3 cases.py [FILE..]
@@ -11,7 +11,7 @@ import sys
 import lowering
 import sketch
 
-DATA = pathlib.Path(__file__).resolve().parents[2] / "crates/cases/data"
+DATA = pathlib.Path(__file__).resolve().parents[2] / "crates/rows_commands/data"
 OPTIONS = {"--int-bits": "W", "--bnd-cbits": "cbits", "--bnd-inbits": "inbits", "--bnd-unroll-amnt": "unroll", "--bnd-inline-amnt": "inline"}
 WORK = 20000
 

@@ -1,5 +1,5 @@
 """Says what each text of the tests of expansion, sizes and fillings comes to, computed by the reference apart from the
-program: as rows of crates/stages/data (sizes.txt, fillings.txt, spans.txt, layouts.txt).
+program: as rows of crates/rows_stages/data (sizes.txt, fillings.txt, spans.txt, layouts.txt).
 
     python3 expansions.py
 """

@@ -5,7 +5,7 @@
 Of each row of a line `synth --rounds N` without `--conflicts`, or with a budget of them on a text that asks the solver
 nothing, every choice that passes the listed inputs is taken next, and every input that is bad for it. Each ending that
 is come to has to be an answer of the row, and each answer written in full has to be come to. The files are
-crates/cases/data/budgets.txt if left out.
+crates/rows_commands/data/budgets.txt if left out.
 """
 import itertools
 import pathlib

@@ -1,4 +1,4 @@
-"""Compares rows of crates/sym_cases/data with the reference: it prints each line that differs, and for each file how many
+"""Compares rows of crates/rows_sym/data with the reference: it prints each line that differs, and for each file how many
 lines agree.
 
     python3 runs.py [FILE..]
@@ -10,7 +10,7 @@ import sys
 import sketch
 from cases import rows, spelt, value
 
-DATA = pathlib.Path(__file__).resolve().parents[2] / "crates/sym_cases/data"
+DATA = pathlib.Path(__file__).resolve().parents[2] / "crates/rows_sym/data"
 
 
 def ended(prog, bounds, name, choice, words):

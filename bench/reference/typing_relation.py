@@ -1,4 +1,4 @@
-# The relation of sk_types/specs (Rules, Sorts, Types), transcribed, against the reference: every type has one meaning or none.
+# The relation of sk_types_rules/specs (Rules, Sorts, Types), transcribed, against the reference: every type has one meaning or none.
 import sys, random, itertools
 from sketch import *
 SECONDS = int(sys.argv[2]) if len(sys.argv) > 2 else 100

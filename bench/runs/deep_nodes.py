@@ -1,4 +1,4 @@
-"""Rows of `sym_cases` with 127 functions that call each other, each call so many levels deep in one form of its caller.
+"""Rows of `rows_sym` with 127 functions that call each other, each call so many levels deep in one form of its caller.
 
     python3 deep_nodes.py LEVELS [FORM..]
 

@@ -8,12 +8,12 @@ use Rattle.sk_base.specs.declared.bounds.Bounds.{Bounds}
 use Rattle.sk_base.specs.declared.bounds.Budget.{Budget}
 use Rattle.sk_prog.specs.declared.prog.Prog.{Prog}
 use Rattle.sk_prog.specs.Fits.{prog_fits}
-use Rattle.sk_types.specs.WellTyped.{WellTyped}
-use Rattle.sk_filled.specs.Holes.{AreWide}
-use Rattle.sk_expanded.proofs.Fillings.{fillings_keep}
+use Rattle.sk_types_rules.specs.WellTyped.{WellTyped}
+use Rattle.sk_holes_laws.specs.Holes.{AreWide}
+use Rattle.sk_expand_laws.proofs.Fillings.{fillings_keep}
 use Rattle.sk_print.specs.Layout.{layout}
 use Rattle.sk_print.specs.Shows.{Shows}
-use Rattle.sk_shown.proofs.ProgramShown.{programs_shown}
+use Rattle.sk_print_laws.proofs.ProgramShown.{programs_shown}
 use Rattle.sk_model.specs.declared.expanded.Choice.{Choice}
 use Rattle.sk_model.specs.declared.expanded.Expanded.{Expanded}
 use Rattle.sk_model.specs.declared.expanded.Input.{Input}
@@ -24,15 +24,15 @@ use Rattle.sk_model.specs.Fill.{InRange, fill}
 use Rattle.sk_model.specs.Limits.{most_nodes}
 use Rattle.sk_model.specs.Meets.{Meets, IsGreatestCost}
 use Rattle.sk_model.specs.Nodes.{nodes}
-use Rattle.sk_sites.specs.Small.{AreSmall}
-use Rattle.sk_sites.specs.Small.{IsSmall as IsSmallSite}
+use Rattle.sk_expand_sites.specs.Small.{AreSmall}
+use Rattle.sk_expand_sites.specs.Small.{IsSmall as IsSmallSite}
 use Rattle.sk_holes.specs.Needs.{HasItsSites, are_narrow}
-use Rattle.sk_chosen.specs.Meeting.{IsMetUnder}
-use Rattle.sk_chosen.proofs.Meeting.{choices_meet}
+use Rattle.sk_holes_choice_laws.specs.Meeting.{IsMetUnder}
+use Rattle.sk_holes_choice_laws.proofs.Meeting.{choices_meet}
 use Rattle.sk_oblig.specs.Formulas.{IsAskable}
 use Rattle.sk_clause.specs.declared.lit.Lit.{Lit}
 use Rattle.sk_cnf.specs.declared.growing.Encoded.{Encoded}
-use Rattle.sk_query.specs.declared.query.Query.{Query}
+use Rattle.sk_oblig_queries.specs.declared.query.Query.{Query}
 use Rattle.sk_loop_laws.specs.Honest.{Honest}
 use Rattle.sk_loop_laws.specs.Shown.{AreSpent, Learnt}
 use Rattle.sk_min.specs.Least.{IsBest, Meeting, IsKnown, IsKnownOf}
@@ -41,8 +41,8 @@ use Rattle.sk_opts.specs.declared.line.Set.{Set}
 use Rattle.sk_front.specs.declared.expansion.Expansion.{Expansion}
 use Rattle.sk_front.specs.Front.{ExpandsWithin}
 use Rattle.sk_front.proofs.FrontLaws.{one_program, one_expansion}
-use Rattle.sk_meaning.proofs.Whole.{texts_keep, texts_fit}
-use Rattle.sk_traced.proofs.Fillable.{has_its_sites, narrow_sites}
+use Rattle.sk_front_laws.proofs.Whole.{texts_keep, texts_fit}
+use Rattle.sk_trace_text.proofs.Fillable.{has_its_sites, narrow_sites}
 use Rattle.sk_app.specs.declared.completion.Completion.{Completion}
 use Rattle.sk_app.specs.Built.{IsBuilt, IsOnly}
 use Rattle.sk_app.specs.Completing.{IsLeast}

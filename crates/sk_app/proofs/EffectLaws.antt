@@ -9,16 +9,16 @@ use Rattle.sk_base.specs.declared.span.Span.{Span}
 use Rattle.sk_model.specs.declared.expanded.Expanded.{Expanded}
 use Rattle.sk_clause.specs.declared.lit.Lit.{Lit}
 use Rattle.sk_cnf.specs.declared.growing.Encoded.{Encoded}
-use Rattle.sk_query.specs.declared.query.Query.{Query}
+use Rattle.sk_oblig_queries.specs.declared.query.Query.{Query}
 use Rattle.sk_loop_laws.specs.Shown.{AreSpent}
 use Rattle.sk_model.specs.declared.expanded.Choice.{Choice}
 use Rattle.sk_model.specs.declared.expanded.Pair.{Pair}
 use Rattle.sk_model.specs.declared.outcome.Outcome.{Outcome}
-use Rattle.sk_direct.specs.declared.fault.ExecFault.{ExecFault}
+use Rattle.sk_exec.specs.declared.fault.ExecFault.{ExecFault}
 use Rattle.sk_holes.specs.declared.fault.FillFault.{FillFault}
-use Rattle.sk_traced.specs.declared.fault.TraceFault.{TraceFault}
-use Rattle.sk_traced.specs.declared.fault.TraceFault.TheVariants as reason
-use Rattle.sk_traced.specs.Traced.{IsNotTraced}
+use Rattle.sk_trace_text.specs.declared.fault.TraceFault.{TraceFault}
+use Rattle.sk_trace_text.specs.declared.fault.TraceFault.TheVariants as reason
+use Rattle.sk_trace_text.specs.Traced.{IsNotTraced}
 use Rattle.sk_app.specs.declared.direct.Way.{Way}
 use Rattle.sk_app.specs.declared.direct.Way.TheVariants as way
 use Rattle.sk_app.specs.declared.direct.Job.{Job}
@@ -31,14 +31,14 @@ use Rattle.sk_opts.specs.CommandLine.{IsLine}
 use Rattle.sk_opts.proofs.LineLaws.{lines_are_one}
 use Rattle.sk_app.specs.declared.ending.Ending.{Ending}
 use Rattle.sk_app.specs.declared.ending.Ending.TheVariants as ending
-use Rattle.sk_check.specs.declared.fault.TypeFault.{TypeFault}
-use Rattle.sk_sizes.specs.declared.fault.SizeFault.{SizeFault}
+use Rattle.sk_types_laws.specs.declared.fault.TypeFault.{TypeFault}
+use Rattle.sk_expand_sizes.specs.declared.fault.SizeFault.{SizeFault}
 use Rattle.sk_front.specs.declared.fault.TextFault.{TextFault}
 use Rattle.sk_front.specs.declared.fault.SketchFault.{SketchFault}
 use Rattle.sk_front.specs.declared.fault.SketchFault.TheVariants as sketch
 use Rattle.sk_front.specs.Front.{IsUntyped, IsTooLarge, IsCause}
-use Rattle.sk_lower.specs.declared.algebraic.AdtFault.{AdtFault}
-use Rattle.sk_lowered.specs.PlainTexts.{HasNoPlainForm, IsNotTagged, IsLoweredText, IsFaultOfLowering, IsPlacedFault}
+use Rattle.sk_adt.specs.declared.algebraic.AdtFault.{AdtFault}
+use Rattle.sk_adt_text.specs.PlainTexts.{HasNoPlainForm, IsNotTagged, IsLoweredText, IsFaultOfLowering, IsPlacedFault}
 use Rattle.sk_front.specs.Texts.{most_bytes, byte_of, HasSpan, IsTextFault}
 use Rattle.sk_front.proofs.TextLaws.{byte_within}
 use Rattle.sk_app.specs.Streams.{Appends, AppendsPrefix, TakesFew}

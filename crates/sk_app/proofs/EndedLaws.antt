@@ -6,7 +6,7 @@ use Rattle.std.specs.declared.vec.Vec.{Vec}
 use Rattle.std.proofs.lemmas.Bool.{false≢true}
 use Rattle.sk_base.specs.Stream.{Rose}
 use Rattle.sk_base.specs.declared.bounds.Budget.{Budget}
-use Rattle.sk_check.specs.declared.fault.TypeFault.{TypeFault}
+use Rattle.sk_types_laws.specs.declared.fault.TypeFault.{TypeFault}
 use Rattle.sk_opts.specs.declared.line.Set.{Set}
 use Rattle.sk_app.specs.declared.prepare.Found.TheVariants as found
 use Rattle.sk_app.specs.declared.ending.Ending.{Ending}

@@ -3,8 +3,8 @@ use Rattle.std.proofs.Common.{ℕ, List, Option, Some, None, ◌≤◌, ◌≡�
 use Rattle.std.specs.Prelude.{IfSome}
 use Rattle.sk_base.specs.Stream.{Rose}
 use Rattle.sk_base.specs.declared.bounds.Budget.{Budget}
-use Rattle.sk_check.specs.declared.fault.TypeFault.{TypeFault}
-use Rattle.sk_sizes.specs.declared.fault.SizeFault.{SizeFault}
+use Rattle.sk_types_laws.specs.declared.fault.TypeFault.{TypeFault}
+use Rattle.sk_expand_sizes.specs.declared.fault.SizeFault.{SizeFault}
 use Rattle.sk_model.specs.declared.outcome.Outcome.{Outcome}
 use Rattle.sk_model.specs.declared.outcome.Outcome.TheVariants as outcome
 use Rattle.sk_opts.specs.declared.line.Set.{Set}
@@ -13,8 +13,8 @@ use Rattle.sk_front.specs.declared.fault.SketchFault.{SketchFault}
 use Rattle.sk_front.specs.declared.fault.SketchFault.TheVariants as fault
 use Rattle.sk_front.specs.Texts.{most_bytes, HasSpan, IsTextFault}
 use Rattle.sk_front.specs.Front.{IsUntyped, IsTooLarge, IsPlacedFault}
-use Rattle.sk_traced.specs.declared.fault.TraceFault.{TraceFault}
-use Rattle.sk_traced.specs.declared.fault.TraceFault.TheVariants as reason
+use Rattle.sk_trace_text.specs.declared.fault.TraceFault.{TraceFault}
+use Rattle.sk_trace_text.specs.declared.fault.TraceFault.TheVariants as reason
 use Rattle.sk_app.specs.declared.prepare.Found.{Found}
 use Rattle.sk_app.specs.declared.prepare.Found.TheVariants as found
 use Rattle.sk_app.specs.declared.prepare.Prepared.{Prepared}

@@ -3,9 +3,9 @@ use Rattle.std.proofs.Common.{◌≡◌, ℕ, ◌≤◌, ◌<◌, ◌⊎◌, inl
 use Rattle.std.specs.Prelude.{IsTrue, IfSome}
 use Rattle.std.proofs.lemmas.Bool.{false≢true}
 use Rattle.sk_base.specs.Stream.{Rose}
-use Rattle.sk_sizes.specs.declared.fault.SizeFault.{SizeFault}
-use Rattle.sk_sizes.specs.declared.fault.SizeFault.TheVariants as size
-use Rattle.sk_check.specs.declared.fault.TypeFault.{TypeFault}
+use Rattle.sk_expand_sizes.specs.declared.fault.SizeFault.{SizeFault}
+use Rattle.sk_expand_sizes.specs.declared.fault.SizeFault.TheVariants as size
+use Rattle.sk_types_laws.specs.declared.fault.TypeFault.{TypeFault}
 use Rattle.sk_model.specs.declared.outcome.Outcome.{Outcome}
 use Rattle.sk_model.specs.declared.outcome.Outcome.TheVariants as outcome
 use Rattle.sk_opts.specs.declared.line.Set.{Set}
@@ -15,8 +15,8 @@ use Rattle.sk_front.specs.declared.fault.SketchFault.TheVariants as fault
 use Rattle.sk_front.specs.Texts.{most_bytes, IsTextFault}
 use Rattle.sk_front.specs.Front.{IsUntyped, IsTooLarge, IsFaultOfExpansion, IsFaultOfSizes, IsCause, IsSame}
 use Rattle.sk_front.proofs.FrontLaws.{one_cause}
-use Rattle.sk_traced.specs.declared.fault.TraceFault.{TraceFault}
-use Rattle.sk_traced.specs.declared.fault.TraceFault.TheVariants as reason
+use Rattle.sk_trace_text.specs.declared.fault.TraceFault.{TraceFault}
+use Rattle.sk_trace_text.specs.declared.fault.TraceFault.TheVariants as reason
 use Rattle.sk_app.specs.declared.direct.Job.{Job}
 use Rattle.sk_app.specs.Jobs.{IsStopped, IsRunOfJob}
 use Rattle.sk_app.proofs.JobLaws.{one_stop, no_stop_of_run, one_run, no_cause_of_job, no_cause_of_stop, run_is_short, stop_is_short}

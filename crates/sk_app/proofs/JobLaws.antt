@@ -9,16 +9,16 @@ use Rattle.sk_opts.specs.declared.line.Line.TheVariants as line
 use Rattle.sk_front.specs.declared.fault.SketchFault.{SketchFault}
 use Rattle.sk_front.specs.Texts.{most_bytes}
 use Rattle.sk_front.specs.Front.{IsFaultOfExpansion, IsCause}
-use Rattle.sk_direct.proofs.TextLaws.{one_fault_of_text, no_fault_of_text_run, one_text_run, no_cause_of_run, no_cause_of_fault}
-use Rattle.sk_direct.specs.declared.executing.Executed.{Executed}
-use Rattle.sk_direct.specs.declared.executing.Executed.TheVariants as executed
-use Rattle.sk_direct.specs.Direct.{IsExecuted}
-use Rattle.sk_traced.specs.declared.fault.TraceFault.{TraceFault}
-use Rattle.sk_traced.specs.declared.fault.TraceFault.TheVariants as fault
-use Rattle.sk_traced.specs.declared.tracing.Traced.{Traced}
-use Rattle.sk_traced.specs.declared.tracing.Traced.TheVariants as traced
-use Rattle.sk_traced.specs.Traced.{IsTraced}
-use Rattle.sk_traced.proofs.TextLaws as trace
+use Rattle.sk_exec.proofs.TextLaws.{one_fault_of_text, no_fault_of_text_run, one_text_run, no_cause_of_run, no_cause_of_fault}
+use Rattle.sk_exec.specs.declared.executing.Executed.{Executed}
+use Rattle.sk_exec.specs.declared.executing.Executed.TheVariants as executed
+use Rattle.sk_exec.specs.Direct.{IsExecuted}
+use Rattle.sk_trace_text.specs.declared.fault.TraceFault.{TraceFault}
+use Rattle.sk_trace_text.specs.declared.fault.TraceFault.TheVariants as fault
+use Rattle.sk_trace_text.specs.declared.tracing.Traced.{Traced}
+use Rattle.sk_trace_text.specs.declared.tracing.Traced.TheVariants as traced
+use Rattle.sk_trace_text.specs.Traced.{IsTraced}
+use Rattle.sk_trace_text.proofs.TextLaws as trace
 use Rattle.sk_app.specs.declared.direct.Way.{Way}
 use Rattle.sk_app.specs.declared.direct.Way.TheVariants as way
 use Rattle.sk_app.specs.declared.direct.Job.{Job}

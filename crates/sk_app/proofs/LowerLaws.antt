@@ -5,13 +5,13 @@ use Rattle.std.proofs.lemmas.Bool.{false≢true}
 use Rattle.sk_base.specs.Stream.{Rose}
 use Rattle.sk_base.specs.declared.span.Span.{Span}
 use Rattle.sk_opts.specs.declared.line.Set.{Set}
-use Rattle.sk_lower.specs.declared.algebraic.AdtFault.{AdtFault}
+use Rattle.sk_adt.specs.declared.algebraic.AdtFault.{AdtFault}
 use Rattle.sk_front.specs.declared.fault.SketchFault.{SketchFault}
 use Rattle.sk_front.specs.declared.fault.SketchFault.TheVariants as fault
 use Rattle.sk_front.specs.Texts.{most_bytes, byte_of}
 use Rattle.sk_front.specs.Front.{IsCause}
-use Rattle.sk_lowered.specs.PlainTexts.{HasNoPlainForm, IsNotTagged, IsLoweredText, IsFaultOfLowering, IsPlacedFault}
-use Rattle.sk_lowered.proofs.PlainLaws.{one_reason, form_or_reason, reason_or_cause, span_or_cause, text_or_cause, one_span_of, text_or_span_of, only_lowering}
+use Rattle.sk_adt_text.specs.PlainTexts.{HasNoPlainForm, IsNotTagged, IsLoweredText, IsFaultOfLowering, IsPlacedFault}
+use Rattle.sk_adt_text.proofs.PlainLaws.{one_reason, form_or_reason, reason_or_cause, span_or_cause, text_or_cause, one_span_of, text_or_span_of, only_lowering}
 use Rattle.sk_app.specs.declared.ending.Ending.{Ending}
 use Rattle.sk_app.specs.declared.ending.Ending.TheVariants as ending
 use Rattle.sk_app.specs.Ends.{IsDelivered, delivered, cut, no_room, Writes, WritesPart, writes_nothing, EndsLowered, EndsNotLowered, EndsNotTagged, EndsRefused, EndsLong}

@@ -2,9 +2,9 @@
 use Rattle.std.proofs.Common.{ℕ, List, ◌≤◌, ◌<◌, length, arith}
 use Rattle.sk_base.specs.declared.bounds.Bounds.{Bounds}
 use Rattle.sk_base.specs.declared.bounds.Budget.{Budget}
-use Rattle.sk_check.specs.declared.fault.TypeFault.{TypeFault}
-use Rattle.sk_check.specs.declared.fault.Rule.TheVariants as rule
-use Rattle.sk_sizes.specs.declared.fault.SizeFault.{SizeFault}
+use Rattle.sk_types_laws.specs.declared.fault.TypeFault.{TypeFault}
+use Rattle.sk_types_laws.specs.declared.fault.Rule.TheVariants as rule
+use Rattle.sk_expand_sizes.specs.declared.fault.SizeFault.{SizeFault}
 use Rattle.sk_model.specs.declared.expanded.Expanded.{Expanded}
 use Rattle.sk_opts.specs.declared.line.Set.{Set}
 use Rattle.sk_front.specs.declared.fault.TextFault.{TextFault}

@@ -12,18 +12,18 @@ use Rattle.sk_opts.specs.CommandLine.{IsLine}
 use Rattle.sk_model.specs.declared.expanded.Choice.{Choice}
 use Rattle.sk_model.specs.declared.expanded.Pair.{Pair}
 use Rattle.sk_model.specs.declared.outcome.Outcome.{Outcome}
-use Rattle.sk_query.specs.declared.query.Query.{Query}
+use Rattle.sk_oblig_queries.specs.declared.query.Query.{Query}
 use Rattle.sk_loop_laws.specs.Shown.{AreSpent}
 use Rattle.sk_front.specs.declared.fault.SketchFault.{SketchFault}
 use Rattle.sk_front.specs.declared.fault.SketchFault.TheVariants as fault
 use Rattle.sk_front.specs.Front.{IsFaultOfExpansion}
 use Rattle.sk_front.specs.Texts.{HasSpan}
-use Rattle.sk_lower.specs.declared.algebraic.AdtFault.{AdtFault}
-use Rattle.sk_lowered.specs.PlainTexts.{HasNoPlainForm, IsNotTagged, IsLoweredText, IsFaultOfLowering, IsPlacedFault}
-use Rattle.sk_check.specs.declared.fault.TypeFault.{TypeFault}
-use Rattle.sk_sizes.specs.declared.fault.SizeFault.{SizeFault}
-use Rattle.sk_sizes.specs.declared.fault.SizeFault.TheVariants as size
-use Rattle.sk_traced.specs.declared.fault.TraceFault.{TraceFault}
+use Rattle.sk_adt.specs.declared.algebraic.AdtFault.{AdtFault}
+use Rattle.sk_adt_text.specs.PlainTexts.{HasNoPlainForm, IsNotTagged, IsLoweredText, IsFaultOfLowering, IsPlacedFault}
+use Rattle.sk_types_laws.specs.declared.fault.TypeFault.{TypeFault}
+use Rattle.sk_expand_sizes.specs.declared.fault.SizeFault.{SizeFault}
+use Rattle.sk_expand_sizes.specs.declared.fault.SizeFault.TheVariants as size
+use Rattle.sk_trace_text.specs.declared.fault.TraceFault.{TraceFault}
 use Rattle.sk_app.specs.declared.direct.Way.TheVariants as way
 use Rattle.sk_app.specs.declared.direct.Job.{Job}
 use Rattle.sk_app.specs.Jobs.{IsStopped, IsRunOfJob}

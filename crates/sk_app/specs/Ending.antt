@@ -2,22 +2,22 @@
 use Rattle.std.specs.Prelude.{ℕ, List, [], ◌++◌, Option, None, Some, codes}
 use Rattle.std.specs.Fmt.{decimal}
 use Rattle.sk_base.specs.declared.span.Span.{Span}
-use Rattle.sk_lower.specs.declared.algebraic.AdtFault.{AdtFault}
-use Rattle.sk_lower.specs.declared.algebraic.AdtFault.TheVariants as adt
+use Rattle.sk_adt.specs.declared.algebraic.AdtFault.{AdtFault}
+use Rattle.sk_adt.specs.declared.algebraic.AdtFault.TheVariants as adt
 use Rattle.sk_lexer.specs.declared.fault.LexFault.TheVariants as lex
 use Rattle.sk_parser.specs.declared.fault.ParseFault.TheVariants as parse
-use Rattle.sk_check.specs.declared.fault.Rule.{Rule}
-use Rattle.sk_check.specs.declared.fault.Rule.TheVariants as rule
-use Rattle.sk_check.specs.declared.fault.TypeFault.{TypeFault}
+use Rattle.sk_types_laws.specs.declared.fault.Rule.{Rule}
+use Rattle.sk_types_laws.specs.declared.fault.Rule.TheVariants as rule
+use Rattle.sk_types_laws.specs.declared.fault.TypeFault.{TypeFault}
 use Rattle.sk_model.specs.declared.expanded.Choice.{Choice}
-use Rattle.sk_sizes.specs.declared.fault.SizeFault.{SizeFault}
-use Rattle.sk_sizes.specs.declared.fault.SizeFault.TheVariants as size
-use Rattle.sk_texts.specs.Messages.{Refusal, refusal_status, refusal_message}
-use Rattle.sk_texts.specs.Messages as said
+use Rattle.sk_expand_sizes.specs.declared.fault.SizeFault.{SizeFault}
+use Rattle.sk_expand_sizes.specs.declared.fault.SizeFault.TheVariants as size
+use Rattle.sk_app_texts.specs.Messages.{Refusal, refusal_status, refusal_message}
+use Rattle.sk_app_texts.specs.Messages as said
 use Rattle.sk_front.specs.declared.fault.TextFault.{TextFault}
 use Rattle.sk_front.specs.declared.fault.TextFault.TheVariants.{Lex, Parse}
-use Rattle.sk_direct.specs.declared.fault.ExecFault.{ExecFault}
-use Rattle.sk_direct.specs.declared.fault.ExecFault.TheVariants as exec
+use Rattle.sk_exec.specs.declared.fault.ExecFault.{ExecFault}
+use Rattle.sk_exec.specs.declared.fault.ExecFault.TheVariants as exec
 use Rattle.sk_holes.specs.declared.fault.FillFault.{FillFault}
 use Rattle.sk_holes.specs.declared.fault.FillFault.TheVariants as hole
 use Rattle.sk_app.specs.declared.ending.Ending.{Ending}

@@ -2,14 +2,14 @@
 use Rattle.std.specs.Prelude.{ℕ, List}
 use Rattle.sk_model.specs.declared.outcome.Outcome.{Outcome}
 use Rattle.sk_opts.specs.declared.line.Set.{Set}
-use Rattle.sk_direct.specs.declared.executing.Executed.{Executed}
-use Rattle.sk_direct.specs.declared.executing.Executed.TheVariants as executed
-use Rattle.sk_direct.specs.Direct.{IsNotRun, IsRunText}
-use Rattle.sk_traced.specs.declared.fault.TraceFault.{TraceFault}
-use Rattle.sk_traced.specs.declared.fault.TraceFault.TheVariants as fault
-use Rattle.sk_traced.specs.declared.tracing.Traced.{Traced}
-use Rattle.sk_traced.specs.declared.tracing.Traced.TheVariants as traced
-use Rattle.sk_traced.specs.Traced.{IsNotTraced, IsTraceText}
+use Rattle.sk_exec.specs.declared.executing.Executed.{Executed}
+use Rattle.sk_exec.specs.declared.executing.Executed.TheVariants as executed
+use Rattle.sk_exec.specs.Direct.{IsNotRun, IsRunText}
+use Rattle.sk_trace_text.specs.declared.fault.TraceFault.{TraceFault}
+use Rattle.sk_trace_text.specs.declared.fault.TraceFault.TheVariants as fault
+use Rattle.sk_trace_text.specs.declared.tracing.Traced.{Traced}
+use Rattle.sk_trace_text.specs.declared.tracing.Traced.TheVariants as traced
+use Rattle.sk_trace_text.specs.Traced.{IsNotTraced, IsTraceText}
 use Rattle.sk_app.specs.declared.direct.Way.{Way}
 use Rattle.sk_app.specs.declared.direct.Way.TheVariants as way
 use Rattle.sk_app.specs.declared.direct.Job.{Job}

@@ -6,7 +6,7 @@ use Rattle.sk_base.specs.declared.bounds.Budget.{Budget}
 use Rattle.sk_model.specs.declared.expanded.Expanded.{Expanded}
 use Rattle.sk_opts.specs.declared.line.Set.{Set}
 use Rattle.sk_opts.specs.Ranges.{AreInRanges}
-use Rattle.sk_sites.specs.Small.{AreSmall}
+use Rattle.sk_expand_sites.specs.Small.{AreSmall}
 use Rattle.sk_front.specs.Texts.{most_bytes, HasSpan, IsTextFault}
 use Rattle.sk_front.specs.Front.{IsUntyped, IsTooLarge}
 use Rattle.sk_app.specs.declared.complete.Building.{Building}

@@ -9,7 +9,7 @@ use Rattle.sk_model.specs.declared.expanded.Pair.{Pair}
 use Rattle.sk_model.specs.declared.expanded.Expanded.{Expanded}
 use Rattle.sk_model.specs.Fill.{fill}
 use Rattle.sk_print.specs.Layout.{layout}
-use Rattle.sk_texts.specs.ValueTexts.{value_text}
+use Rattle.sk_app_texts.specs.ValueTexts.{value_text}
 use Rattle.sk_app.specs.ResultText.{spaced}
 
 -- Pairs

@@ -7,7 +7,7 @@ use Rattle.sk_tree.specs.Tokens.{AreTokens}
 use Rattle.sk_tree.specs.Depth.{tree_depth, most_levels}
 use Rattle.sk_tree.specs.Reads.{Reads, HasTooManyStrings, HasBadAlternative}
 use Rattle.sk_prog.specs.declared.prog.Prog.{Prog}
-use Rattle.sk_types.specs.Types.{Types}
+use Rattle.sk_types_rules.specs.Types.{Types}
 use Rattle.sk_model.specs.declared.expanded.Expanded.{Expanded}
 use Rattle.sk_model.specs.Expand.{expand}
 use Rattle.sk_model.specs.Limits.{IsWithinLimits}

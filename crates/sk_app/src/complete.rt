@@ -11,12 +11,12 @@ use crate::ending::Ending;
 use crate::prepare::Found;
 use crate::result_text::{completed, spent_conflicts, spent_rounds};
 use sk_base::{Bounds, Budget};
-use sk_check::TypeFault;
+use sk_expand_sizes::SizeFault;
 use sk_front::{SketchFault, TextFault, sized_expansion_of};
 use sk_min::{Least, least};
 use sk_model::Expanded;
 use sk_opts::Set;
-use sk_sizes::SizeFault;
+use sk_types_laws::TypeFault;
 use std::alloc::{AllocError, Global};
 
 /// What is built of a text.

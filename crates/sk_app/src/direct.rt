@@ -1,7 +1,7 @@
 //! The lines `exec` and `trace`: they run a function of the text of a source.
 
 ghost use Rattle.std.specs.Prelude.{◌≡◌, ◌≤◌, length, IfOk, IfErr};
-ghost use Rattle.sk_check.specs.declared.fault.TypeFault.{TypeFault};
+ghost use Rattle.sk_types_laws.specs.declared.fault.TypeFault.{TypeFault};
 ghost use Rattle.sk_opts.specs.Ranges.{IsInRanges};
 ghost use Rattle.sk_front.specs.Texts.{most_bytes, HasSpan};
 ghost use Rattle.sk_front.specs.Front.{IsFaultOfExpansion, IsPlacedFault};
@@ -13,11 +13,11 @@ use crate::ending::Ending;
 use crate::output::deliver;
 use crate::text::{Reading, read_text};
 use sk_base::{List, Name, Sink, Source};
-use sk_direct::{Executed, execute};
+use sk_exec::{Executed, execute};
 use sk_front::SketchFault;
 use sk_model::Outcome;
 use sk_opts::Set;
-use sk_traced::{TraceFault, Traced, trace_text};
+use sk_trace_text::{TraceFault, Traced, trace_text};
 use std::alloc::Global;
 
 /// How a function is run.

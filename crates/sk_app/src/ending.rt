@@ -2,23 +2,23 @@
 
 ghost use Rattle.std.specs.Prelude.{◌≡◌, ◌++◌, codes, IfOk, OnOk};
 ghost use Rattle.std.specs.Fmt.{decimal};
-ghost use Rattle.sk_texts.specs.Messages.{rule_number, refusal_status, refusal_message};
+ghost use Rattle.sk_app_texts.specs.Messages.{rule_number, refusal_status, refusal_message};
 ghost use Rattle.sk_front.specs.declared.fault.TextFault.TheVariants.{Lex, Parse};
 ghost use Rattle.sk_app.specs.Ending.{text_refusal, rule_of, type_refusal, size_refusal, exec_refusal, fill_refusal, adt_status, adt_message, tag_message, spent_status, status_of, message_of};
 
+use sk_adt::AdtFault;
 use sk_base::{List, Name, Span, push_number};
-use sk_check::{Rule, TypeFault};
 use sk_clause::Log;
 use sk_cnf::Encoded;
-use sk_direct::ExecFault;
+use sk_exec::ExecFault;
+use sk_expand_sizes::SizeFault;
 use sk_front::TextFault;
 use sk_holes::FillFault;
 use sk_lexer::LexFault;
-use sk_lower::AdtFault;
 use sk_model::{Choice, Pair};
+use sk_oblig_queries::Query;
 use sk_parser::ParseFault;
-use sk_query::Query;
-use sk_sizes::SizeFault;
+use sk_types_laws::{Rule, TypeFault};
 use std::alloc::{AllocError, Global};
 
 /// How `run` ends.

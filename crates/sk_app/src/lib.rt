@@ -17,7 +17,7 @@ mod text;
 
 pub use command::run;
 pub use ending::{Ending, message, status};
-pub use sk_direct::ExecFault;
+pub use sk_exec::ExecFault;
 pub use sk_front::TextFault;
 pub use sk_holes::FillFault;
 pub use std_streams::{StdSink, StdSource};

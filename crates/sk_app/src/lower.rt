@@ -9,8 +9,8 @@ use crate::direct::refusal;
 use crate::ending::Ending;
 use crate::output::deliver;
 use crate::text::{Reading, read_text};
+use sk_adt_text::{Lowering, lowered_text};
 use sk_base::{Sink, Source};
-use sk_lowered::{Lowering, lowered_text};
 use sk_opts::Set;
 use std::alloc::Global;
 

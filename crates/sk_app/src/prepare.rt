@@ -9,10 +9,10 @@ use crate::complete::complete;
 use crate::ending::Ending;
 use crate::text::{Reading, read_text};
 use sk_base::{Budget, Source};
-use sk_check::TypeFault;
+use sk_expand_sizes::SizeFault;
 use sk_front::TextFault;
 use sk_opts::Set;
-use sk_sizes::SizeFault;
+use sk_types_laws::TypeFault;
 use std::alloc::{AllocError, Global};
 
 /// What a text comes to.

@@ -6,9 +6,9 @@ ghost use Rattle.sk_app.specs.ResultText.{spaced};
 ghost use Rattle.sk_app.specs.SpentText.{argument_text, choice_line, input_line, pair_lines, spent_lines, best_lines, OfRounds, OfConflicts};
 
 use sk_base::push_number;
+use sk_exec_values::push_value;
 use sk_model::{Choice, Input, Pair};
 use sk_prog::Value;
-use sk_values::push_value;
 use std::alloc::{AllocError, Global};
 
 /// Appends each number with a space before it.

@@ -4,7 +4,7 @@ use Rattle.std.specs.Prelude.{slice_get}
 use Rattle.sk_prog.specs.declared.prog.Fun.{Fun}
 use Rattle.sk_model.specs.Parts.{one_if, rank}
 use Rattle.sk_model.specs.Expand.{are_ordinary, ordinary_count}
-use Rattle.sk_copy.specs.Ranks.{ranks_from, count_true}
+use Rattle.sk_expand_copies.specs.Ranks.{ranks_from, count_true}
 
 ranks_get : (k : ℕ) (bs : List Bool) (n r : ℕ) → slice_get (ranks_from k bs) n ≡ Some r → r ≡ k + rank bs n
 ranks_get k [] n r at = cc

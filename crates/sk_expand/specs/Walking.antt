@@ -14,7 +14,7 @@ use Rattle.sk_prog.specs.declared.prog.Fun.{Fun}
 use Rattle.sk_model.specs.Parts.{total}
 use Rattle.sk_model.specs.Expand.{Walk, ◌>>=◌, CallWalk, in_order, if_any, eform_walk, expr_step, field_step, walk_expr, walk_value, form_walk, stmt_step, walk_stmt, walk_stmts, copy_of, one_less, all_left, calls_walk, are_ordinary, ordinary_count}
 use Rattle.sk_expand.specs.declared.walker.Walker.{Walker}
-use Rattle.sk_copy.specs.Ranks.{ranks_from}
+use Rattle.sk_expand_copies.specs.Ranks.{ranks_from}
 
 -- one walk and then another
 abbrev pub followed : {A B : Type 0} → Walk A → (A → Walk B) → Walk B

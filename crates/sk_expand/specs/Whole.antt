@@ -10,8 +10,8 @@ use Rattle.sk_model.specs.Expand.{all_funs, walk_funs, expand_prog, ordinary_cou
 use Rattle.sk_expand.specs.declared.stop.Stop.{Stop}
 use Rattle.sk_expand.specs.declared.stop.Stop.TheVariants.{TooLarge, NoMemory}
 use Rattle.sk_expand.specs.declared.program.Whole.{Whole}
-use Rattle.sk_sizes.specs.declared.fault.SizeFault.{SizeFault}
-use Rattle.sk_sizes.specs.declared.fault.SizeFault.TheVariants.{Copies, Sites, Steps, News, Memory}
+use Rattle.sk_expand_sizes.specs.declared.fault.SizeFault.{SizeFault}
+use Rattle.sk_expand_sizes.specs.declared.fault.SizeFault.TheVariants.{Copies, Sites, Steps, News, Memory}
 
 -- these are the functions of the expansion, and with the constants they have no more nodes than there may be
 pub record Are (fs : List Fun) (p : Prog) (bounds : Bounds) : Type 0 where

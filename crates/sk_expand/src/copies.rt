@@ -5,7 +5,7 @@ ghost use Rattle.sk_model.specs.Slots.{with_body};
 ghost use Rattle.sk_expand.specs.Walking.{nothing};
 
 use sk_base::{List, Name, Span, push_number};
-use sk_copy::{copy_name, copy_params, slots_needed};
+use sk_expand_copies::{copy_name, copy_params, slots_needed};
 use sk_prog::{Elem, Fun, FunId, FunKind, PEForm, PExpr, PForm, PStmt, Ty};
 use std::alloc::{AllocError, Global};
 

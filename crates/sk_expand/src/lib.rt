@@ -11,4 +11,4 @@ mod stop;
 mod walker;
 
 pub use program::expand;
-pub use sk_sizes::SizeFault;
+pub use sk_expand_sizes::SizeFault;

@@ -8,9 +8,9 @@ ghost use Rattle.sk_expand.specs.Made.{Gives, GivesList};
 ghost use Rattle.sk_expand.specs.Nodes.{fun_nodes};
 ghost use Rattle.sk_expand.specs.Walking.{HasNumbers};
 ghost use Rattle.sk_expand.specs.Whole.{IsFunctions, IsWhole, HasCause, TooManyNodes, TooManySites, IsOrMemory};
-ghost use Rattle.sk_sizes.specs.declared.fault.SizeFault.TheVariants.{Copies, Sites};
-ghost use Rattle.sk_copy.specs.Ranks.{ranks_from};
-ghost use Rattle.sk_sites.specs.Small.{AreSmall};
+ghost use Rattle.sk_expand_sizes.specs.declared.fault.SizeFault.TheVariants.{Copies, Sites};
+ghost use Rattle.sk_expand_copies.specs.Ranks.{ranks_from};
+ghost use Rattle.sk_expand_sites.specs.Small.{AreSmall};
 
 use crate::building::Building;
 use crate::copies::{is_generator, ordinary};
@@ -18,11 +18,11 @@ use crate::counting::take_consts;
 use crate::stop::Stop;
 use crate::walker::Walker;
 use sk_base::{Bounds, List};
-use sk_copy::{copy_consts, copy_structs, number_functions};
+use sk_expand_copies::{copy_consts, copy_structs, number_functions};
+use sk_expand_sites::{SitesFault, sites_of};
+use sk_expand_sizes::SizeFault;
 use sk_model::Expanded;
 use sk_prog::{Fun, FunId, Prog};
-use sk_sites::{SitesFault, sites_of};
-use sk_sizes::SizeFault;
 use std::alloc::{AllocError, Global};
 
 /// How many nodes an expansion may have.

@@ -3,8 +3,8 @@ ghost use Rattle.std.specs.Prelude.{◌≡◌, ◌-◌, ◌^◌, min};
 ghost use Rattle.sk_model.specs.Expand.{most_copies, copies_held};
 
 use sk_base::Bounds;
+use sk_expand_sites::hole_bits;
 use sk_prog::PEForm;
-use sk_sites::hole_bits;
 
 /// A number, or the greatest one of so many bits where that is smaller.
 #[tactic(auto, using(crate::proofs::Widths::wide))]

@@ -15,7 +15,7 @@ use crate::counting::take_expr;
 use crate::repeats::{copies_held, most_copies};
 use crate::stop::Stop;
 use sk_base::{Bounds, Boxed, List, Name, Span, at};
-use sk_copy::{copy_expr, copy_name};
+use sk_expand_copies::{copy_expr, copy_name};
 use sk_prog::{BinOp, Fun, FunId, PEForm, PExpr, PField, PForm, PStmt, StructId, Ty};
 use std::alloc::{AllocError, Global};
 

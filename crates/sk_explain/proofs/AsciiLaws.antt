@@ -11,11 +11,11 @@ use Rattle.std.proofs.lemmas.List.Sums.{count_by-le-length}
 use Rattle.std.proofs.lemmas.List.{length-take}
 use Rattle.sk_base.specs.declared.span.Span.{Span}
 use Rattle.sk_app.specs.declared.ending.Ending.{Ending}
-use Rattle.sk_place.specs.declared.places.Place.{Place}
-use Rattle.sk_place.specs.declared.spots.Spot.{Spot}
-use Rattle.sk_place.specs.Lines.{is_feed, IsPlace, IsLineOf}
-use Rattle.sk_place.specs.Spots.{pad, marks, line_text, mark_text, excerpt_text, place_text, longest_shown}
-use Rattle.sk_notes.specs.Notes.{is_note}
+use Rattle.sk_explain_places.specs.declared.places.Place.{Place}
+use Rattle.sk_explain_places.specs.declared.spots.Spot.{Spot}
+use Rattle.sk_explain_places.specs.Lines.{is_feed, IsPlace, IsLineOf}
+use Rattle.sk_explain_places.specs.Spots.{pad, marks, line_text, mark_text, excerpt_text, place_text, longest_shown}
+use Rattle.sk_explain_notes.specs.Notes.{is_note}
 use Rattle.sk_explain.specs.declared.explanation.Explanation.{Explanation}
 use Rattle.sk_explain.specs.Explained.{span_of, IsShown, IsSpot, IsExplanation, head_text, shown_text, title_text, layout, IsExplained}
 

@@ -10,11 +10,11 @@ use Rattle.sk_lexer.specs.declared.fault.LexFault.{LexFault}
 use Rattle.sk_lexer.specs.declared.fault.LexFault.TheVariants as lex
 use Rattle.sk_parser.specs.declared.fault.ParseFault.{ParseFault}
 use Rattle.sk_parser.specs.declared.fault.ParseFault.TheVariants as parse
-use Rattle.sk_lower.specs.declared.algebraic.AdtFault.{AdtFault}
-use Rattle.sk_lower.specs.declared.algebraic.AdtFault.TheVariants as adt
-use Rattle.sk_place.specs.declared.spots.Spot.{Spot}
-use Rattle.sk_place.specs.Spots.{IsSpotOf, place_text, excerpt_text}
-use Rattle.sk_notes.specs.Notes.{is_note}
+use Rattle.sk_adt.specs.declared.algebraic.AdtFault.{AdtFault}
+use Rattle.sk_adt.specs.declared.algebraic.AdtFault.TheVariants as adt
+use Rattle.sk_explain_places.specs.declared.spots.Spot.{Spot}
+use Rattle.sk_explain_places.specs.Spots.{IsSpotOf, place_text, excerpt_text}
+use Rattle.sk_explain_notes.specs.Notes.{is_note}
 use Rattle.sk_explain.specs.declared.explanation.Explanation.{Explanation}
 
 -- The bytes that an ending names: of a fault of a text that it is told at a byte, one that is empty

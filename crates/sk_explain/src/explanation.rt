@@ -2,18 +2,18 @@
 ghost use Rattle.std.specs.Prelude.{◌≡◌, ◌++◌, IfOk, OnOk};
 ghost use Rattle.sk_explain.specs.Explained.{point, lex_span, parse_span, adt_span, some_span, span_of, IsShown, IsSpot, IsExplanation, head_text, shown_text, title_text, layout, IsExplained};
 
+use sk_adt::AdtFault;
 use sk_app::{Ending, TextFault};
 use sk_base::{Name, Span};
-use sk_lexer::LexFault;
-use sk_lower::AdtFault;
-use sk_notes::{Note, Told, tell_not_built, tell_words};
-use sk_parser::ParseFault;
-use sk_place::{Spot, push_excerpt, push_place, spot_of};
-use sk_told::{
+use sk_explain_causes::{
     push_not_written, push_passed_over, push_warnings, tell_failed, tell_none, tell_not_filled,
     tell_not_lowered, tell_not_run, tell_not_tagged, tell_size, tell_skipped, tell_spent,
     tell_text, tell_type,
 };
+use sk_explain_notes::{Note, Told, tell_not_built, tell_words};
+use sk_explain_places::{Spot, push_excerpt, push_place, spot_of};
+use sk_lexer::LexFault;
+use sk_parser::ParseFault;
 use std::alloc::{AllocError, Global};
 
 /// What there is to tell of an ending.

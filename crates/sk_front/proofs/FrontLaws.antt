@@ -5,8 +5,8 @@ use Rattle.std.specs.Prelude.{IsTrue, not, ◌||◌, Result, Ok, Err, IfOk, IfEr
 use Rattle.sk_base.specs.declared.bounds.Bounds.{Bounds}
 use Rattle.sk_tree.specs.declared.item.Tree.{Tree}
 use Rattle.sk_prog.specs.declared.prog.Prog.{Prog}
-use Rattle.sk_types.specs.Types.{Types}
-use Rattle.sk_check.proofs.WholeComplete.{once}
+use Rattle.sk_types_rules.specs.Types.{Types}
+use Rattle.sk_types_laws.proofs.WholeComplete.{once}
 use Rattle.sk_model.specs.declared.expanded.Expanded.{Expanded}
 use Rattle.sk_model.specs.Expand.{expand}
 use Rattle.sk_model.specs.Nodes.{nodes}
@@ -16,9 +16,9 @@ use Rattle.sk_model.specs.News.{news}
 use Rattle.sk_expand.specs.Whole.{HasCause}
 use Rattle.sk_opts.specs.declared.line.Set.{Set}
 use Rattle.sk_opts.specs.BoundsOf.{bounds_of}
-use Rattle.sk_sizes.specs.declared.fault.SizeFault.{SizeFault}
-use Rattle.sk_sizes.specs.declared.fault.SizeFault.TheVariants as size
-use Rattle.sk_sizes.specs.Sizes.{is_copies, is_sites, is_steps, is_news}
+use Rattle.sk_expand_sizes.specs.declared.fault.SizeFault.{SizeFault}
+use Rattle.sk_expand_sizes.specs.declared.fault.SizeFault.TheVariants as size
+use Rattle.sk_expand_sizes.specs.Sizes.{is_copies, is_sites, is_steps, is_news}
 use Rattle.sk_front.specs.declared.fault.SketchFault.{SketchFault}
 use Rattle.sk_front.specs.declared.fault.SketchFault.TheVariants as fault
 use Rattle.sk_front.specs.declared.fault.TextFault.{TextFault}

@@ -7,15 +7,15 @@ use Rattle.sk_tree.specs.declared.item.Tree.{Tree}
 use Rattle.sk_tree.specs.Shapes.{shape_of}
 use Rattle.sk_tree.specs.Tokens.{Divides, token_of, tokens_of, AreTokens, Fault, BadByte, OpenComment, LiteralTooLarge, OpenString, IsFirstFault}
 use Rattle.sk_tree.specs.Reads.{HasTooManyStrings, HasBadAlternative}
-use Rattle.sk_check.specs.declared.fault.TypeFault.{TypeFault}
-use Rattle.sk_check.specs.declared.fault.Typing.{Typing}
-use Rattle.sk_check.specs.declared.fault.Typing.TheVariants as typing
-use Rattle.sk_program.specs.Places.{tree_has, nowhere, IsPlaced}
+use Rattle.sk_types_laws.specs.declared.fault.TypeFault.{TypeFault}
+use Rattle.sk_types_laws.specs.declared.fault.Typing.{Typing}
+use Rattle.sk_types_laws.specs.declared.fault.Typing.TheVariants as typing
+use Rattle.sk_types.specs.Places.{tree_has, nowhere, IsPlaced}
 use Rattle.sk_lexer.specs.declared.fault.LexFault.{LexFault}
 use Rattle.sk_lexer.specs.declared.fault.LexFault.TheVariants as lex
 use Rattle.sk_lexer.proofs.Pieces.{one_list, one_fault, not_both}
-use Rattle.sk_reading.specs.Laws.{ReadsWithin}
-use Rattle.sk_reading.proofs.ReadLaws.{one}
+use Rattle.sk_parser_laws.specs.Laws.{ReadsWithin}
+use Rattle.sk_parser_laws.proofs.ReadLaws.{one}
 use Rattle.sk_parser.specs.declared.fault.ParseFault.{ParseFault}
 use Rattle.sk_parser.specs.declared.fault.ParseFault.TheVariants as parse
 use Rattle.sk_parser.specs.Parses.{IsTreeOf, ReadsAsNone, ReadsWithTooMany, ReadsWithBad, is_no_reading, is_too_many, is_bad, place_of as fault_place, greatest_end}

@@ -3,7 +3,7 @@ use Rattle.std.specs.Prelude.{ℕ, ⊤, ◌≤◌, ◌<◌, ◌≡◌, List, len
 use Rattle.sk_base.specs.declared.bounds.Bounds.{Bounds}
 use Rattle.sk_tree.specs.declared.item.Tree.{Tree}
 use Rattle.sk_prog.specs.declared.prog.Prog.{Prog}
-use Rattle.sk_types.specs.Types.{Types}
+use Rattle.sk_types_rules.specs.Types.{Types}
 use Rattle.sk_model.specs.declared.expanded.Expanded.{Expanded}
 use Rattle.sk_model.specs.Expand.{expand}
 use Rattle.sk_model.specs.Nodes.{nodes}
@@ -13,9 +13,9 @@ use Rattle.sk_model.specs.Limits.{most_nodes, most_sites, most_steps, most_news,
 use Rattle.sk_opts.specs.declared.line.Set.{Set}
 use Rattle.sk_opts.specs.BoundsOf.{bounds_of}
 use Rattle.sk_opts.specs.Ranges.{AreInRanges}
-use Rattle.sk_sites.specs.Small.{AreSmall}
-use Rattle.sk_sizes.specs.declared.fault.SizeFault.{SizeFault}
-use Rattle.sk_sizes.specs.declared.fault.SizeFault.TheVariants as size
+use Rattle.sk_expand_sites.specs.Small.{AreSmall}
+use Rattle.sk_expand_sizes.specs.declared.fault.SizeFault.{SizeFault}
+use Rattle.sk_expand_sizes.specs.declared.fault.SizeFault.TheVariants as size
 use Rattle.sk_front.specs.declared.fault.SketchFault.{SketchFault}
 use Rattle.sk_front.specs.declared.fault.SketchFault.TheVariants as fault
 use Rattle.sk_front.specs.declared.program.Typed.{Typed}

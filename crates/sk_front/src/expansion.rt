@@ -14,10 +14,10 @@ use crate::fault::SketchFault;
 use crate::program::program_of;
 use sk_base::Bounds;
 use sk_expand::expand;
+use sk_expand_sizes::{SizeFault, sizes};
 use sk_model::Expanded;
 use sk_opts::Set;
 use sk_prog::Prog;
-use sk_sizes::{SizeFault, sizes};
 use sk_tree::Tree;
 use std::alloc::Global;
 

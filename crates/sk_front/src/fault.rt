@@ -2,10 +2,10 @@
 ghost use Rattle.std.specs.Prelude.{◌≡◌};
 ghost use Rattle.sk_front.specs.declared.fault.SketchFault.TheVariants.{Memory};
 
-use sk_check::TypeFault;
+use sk_expand_sizes::SizeFault;
 use sk_lexer::LexFault;
 use sk_parser::ParseFault;
-use sk_sizes::SizeFault;
+use sk_types_laws::TypeFault;
 use std::alloc::AllocError;
 use thiserror::Error;
 

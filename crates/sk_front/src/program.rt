@@ -2,7 +2,7 @@
 
 ghost use Rattle.std.specs.Prelude.{ℕ, ◌≡◌, ◌≤◌, ◌⊎◌, length, IfOk, IfErr, MatchResult};
 ghost use Rattle.sk_base.specs.declared.bounds.Bounds.{Bounds};
-ghost use Rattle.sk_program.specs.Places.{nowhere};
+ghost use Rattle.sk_types.specs.Places.{nowhere};
 ghost use Rattle.sk_tree.specs.declared.item.Tree.{Tree};
 ghost use Rattle.sk_prog.specs.declared.prog.Prog.{Prog};
 ghost use Rattle.sk_opts.specs.Ranges.{IsInRanges};
@@ -13,11 +13,11 @@ ghost use Rattle.sk_front.specs.Front.{IsTypedAs, IsTyped, Means, IsFaultOfProgr
 use crate::fault::SketchFault;
 use crate::tree::tree_of;
 use sk_base::{Bounds, Span};
-use sk_check::{TypeFault, Typing};
 use sk_opts::{Set, bounds};
 use sk_prog::Prog;
-use sk_program::check;
 use sk_tree::Tree;
+use sk_types::check;
+use sk_types_laws::{TypeFault, Typing};
 use std::alloc::Global;
 
 /// The tree of a text, its bounds, and the program that it means.

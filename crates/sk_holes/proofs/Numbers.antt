@@ -2,7 +2,7 @@
 use Rattle.std.proofs.Common.{◌≡◌, ℕ, zero, suc, ◌+◌, Bool, List, [], ◌∷◌, refl, ap, ◌∙◌, arith}
 use Rattle.sk_model.specs.Parts.{one_if, rank}
 use Rattle.sk_holes.specs.Table.{numbered}
-use Rattle.sk_copy.specs.Ranks.{ranks_from, count_true}
+use Rattle.sk_expand_copies.specs.Ranks.{ranks_from, count_true}
 
 ranks_are : (k : ℕ) (bs : List Bool) (n : ℕ) → numbered (ranks_from k bs) (k + count_true bs) n ≡ k + rank bs n
 ranks_are k [] zero = refl

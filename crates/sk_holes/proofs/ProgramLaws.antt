@@ -19,11 +19,11 @@ use Rattle.sk_holes.specs.declared.fault.FillFault.{FillFault}
 use Rattle.sk_holes.specs.declared.fault.FillFault.TheVariants.{WrongLength, OutOfRange, Memory}
 use Rattle.sk_holes.specs.Range.{Tests, IsRefused, IsFirstOut, IsWrongLengthOrMemory, IsOutOrMemory, first_out}
 use Rattle.sk_holes.proofs.RangeLaws.{none_is_out}
-use Rattle.sk_copy.specs.Ranks.{ranks_from, count_true}
+use Rattle.sk_expand_copies.specs.Ranks.{ranks_from, count_true}
 use Rattle.sk_holes.specs.Table.{numbered}
-use Rattle.sk_standing.specs.declared.met.Paid.{Paid}
-use Rattle.sk_standing.specs.Met.{payment}
-use Rattle.sk_standing.specs.Functions.{minimize_paid, sites_in}
+use Rattle.sk_holes_standing.specs.declared.met.Paid.{Paid}
+use Rattle.sk_holes_standing.specs.Met.{payment}
+use Rattle.sk_holes_standing.specs.Functions.{minimize_paid, sites_in}
 use Rattle.sk_holes.specs.Whole.{filled_by}
 use Rattle.sk_holes.specs.Needs.{HasItsSites, is_narrow, are_narrow, are_numbers}
 use Rattle.sk_holes.proofs.StmtCounts.{body_sited}

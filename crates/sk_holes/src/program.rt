@@ -5,7 +5,7 @@ ghost use Rattle.sk_model.specs.Parts.{total};
 ghost use Rattle.sk_model.specs.Sites.{sites};
 ghost use Rattle.sk_model.specs.Fill.{InRange, before_body, fill, fill_fun, fill_funs};
 ghost use Rattle.sk_holes.specs.Filling.{Reaches, number, stmts};
-ghost use Rattle.sk_standing.specs.Functions.{minimize_paid, sites_in};
+ghost use Rattle.sk_holes_standing.specs.Functions.{minimize_paid, sites_in};
 ghost use Rattle.sk_holes.specs.Whole.{filled_by};
 ghost use Rattle.sk_holes.specs.Needs.{HasItsSites, are_narrow, are_numbers};
 ghost use Rattle.sk_holes.specs.Range.{IsRefused, IsFirstOut, IsWrongLengthOrMemory, IsOutOrMemory};
@@ -14,10 +14,12 @@ use crate::fault::FillFault;
 use crate::filler::Filler;
 use crate::range::test_range;
 use sk_base::List;
-use sk_copy::{copy_consts, copy_name, copy_params, copy_structs, number_functions, slots_needed};
+use sk_expand_copies::{
+    copy_consts, copy_name, copy_params, copy_structs, number_functions, slots_needed,
+};
+use sk_holes_standing::{Paid, Stood, Walker, what_stands};
 use sk_model::{Choice, Expanded};
 use sk_prog::{Elem, Fun, FunKind, PEForm, PExpr, PForm, PStmt, Prog, Ty};
-use sk_standing::{Paid, Stood, Walker, what_stands};
 use std::alloc::{AllocError, Global};
 
 /// `minimize(v);` for a minrepeat that pays v.

@@ -7,8 +7,8 @@ use Rattle.sk_prog.specs.declared.value.Value.{Value}
 use Rattle.sk_prog.specs.declared.expr.BinOp.{BinOp}
 use Rattle.sk_prog.specs.declared.expr.BinOp.TheVariants as op
 use Rattle.std.proofs.Common.{◌≢◌}
-use Rattle.sk_path.specs.declared.log.Log.{Log}
-use Rattle.sk_path.specs.Recording.{Recorded, Going, Goes, Fails, Skips, Traced, and_then, ◌>>=◌, pure, fail, lift}
+use Rattle.sk_interp_laws.specs.declared.log.Log.{Log}
+use Rattle.sk_interp_laws.specs.Recording.{Recorded, Going, Goes, Fails, Skips, Traced, and_then, ◌>>=◌, pure, fail, lift}
 use Rattle.sk_model.specs.Operators.{operator}
 use Rattle.std.proofs.lemmas.List.{drop_all}
 use Rattle.std.proofs.lemmas.Bool.{lt-ltb}
@@ -18,14 +18,14 @@ use Rattle.sk_prog.specs.declared.expr.PExpr.{PExpr}
 use Rattle.sk_prog.specs.declared.expr.PField.{PField}
 use Rattle.sk_prog.specs.declared.expr.PEForm.TheVariants as eform
 use Rattle.sk_model.specs.Heap.{allocate}
-use Rattle.sk_path.proofs.Forms.{does_index, does_slice, does_call, does_new, does_braces, field_does, field_does_is}
+use Rattle.sk_interp_laws.proofs.Forms.{does_index, does_slice, does_call, does_new, does_braces, field_does, field_does_is}
 use Rattle.sk_model.specs.Eval.{indexed, sliced, Called}
-use Rattle.sk_path.specs.Eval.{binary, Does, copy_back, ref_args, fields_in_order}
+use Rattle.sk_interp_laws.specs.Eval.{binary, Does, copy_back, ref_args, fields_in_order}
 use Rattle.sk_model.specs.Exec.{Flow, Onward, Returns}
-use Rattle.sk_path.specs.Exec.{holds, turns, unless_returned, exec_all}
+use Rattle.sk_interp_laws.specs.Exec.{holds, turns, unless_returned, exec_all}
 use Rattle.sk_model.specs.Run.{first_slots, result_of, refs_from, most_calls}
-use Rattle.sk_path.specs.Run.{calls, body_of, in_frame}
-use Rattle.sk_path.specs.Kept.{kept}
+use Rattle.sk_interp_laws.specs.Run.{calls, body_of, in_frame}
+use Rattle.sk_interp_laws.specs.Kept.{kept}
 use Rattle.sk_prog.specs.declared.prog.Prog.{Prog}
 use Rattle.sk_prog.specs.declared.prog.Fun.{Fun}
 use Rattle.sk_prog.specs.declared.prog.ParamDef.{ParamDef}

@@ -18,12 +18,12 @@ use Rattle.sk_model.specs.Eval.{literal, padded_at}
 use Rattle.sk_model.specs.Exec.{Flow}
 use Rattle.sk_model.specs.Step as step
 use Rattle.sk_model.proofs.Layers.{layer_unary, layer_cond, layer_pad, layer_of_declare, layer_of_assign, layer_of_reorder}
-use Rattle.sk_path.specs.declared.log.Log.{Log}
-use Rattle.sk_path.specs.Recording.{Recorded, Fails, Traced, pure, lift}
-use Rattle.sk_path.specs.Eval.{Does, does_form, choose}
-use Rattle.sk_path.specs.Exec.{assign, exec_form}
-use Rattle.sk_path.specs.Kept.{kept}
-use Rattle.sk_path.proofs.Forms.{does_number, does_member, does_to_int}
+use Rattle.sk_interp_laws.specs.declared.log.Log.{Log}
+use Rattle.sk_interp_laws.specs.Recording.{Recorded, Fails, Traced, pure, lift}
+use Rattle.sk_interp_laws.specs.Eval.{Does, does_form, choose}
+use Rattle.sk_interp_laws.specs.Exec.{assign, exec_form}
+use Rattle.sk_interp_laws.specs.Kept.{kept}
+use Rattle.sk_interp_laws.proofs.Forms.{does_number, does_member, does_to_int}
 use Rattle.sk_interp.specs.declared.activation.Activation.{Activation}
 use Rattle.sk_interp.specs.declared.stop.Stop.{Stop}
 use Rattle.sk_interp.specs.Records.{Records, Computes}

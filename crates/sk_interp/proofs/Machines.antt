@@ -2,10 +2,10 @@
 use Rattle.std.proofs.Common.{◌≡◌, false, refl, ap}
 use Rattle.sk_model.specs.Step.{State, Comp}
 use Rattle.sk_model.specs.Step as step
-use Rattle.sk_path.specs.declared.log.Log.{Log}
-use Rattle.sk_path.specs.declared.step.Step.{Step}
-use Rattle.sk_path.specs.Recording.{Goes, lifted}
-use Rattle.sk_path.specs.Kept.{has_room, kept}
+use Rattle.sk_interp_laws.specs.declared.log.Log.{Log}
+use Rattle.sk_interp_laws.specs.declared.step.Step.{Step}
+use Rattle.sk_interp_laws.specs.Recording.{Goes, lifted}
+use Rattle.sk_interp_laws.specs.Kept.{has_room, kept}
 use Rattle.sk_interp.specs.declared.stop.Stop.{Stop}
 use Rattle.sk_interp.specs.declared.stop.Stop.TheVariants.{Failed, Skipped, NoMemory}
 use Rattle.sk_interp.specs.Gives.{Stops}

@@ -7,8 +7,8 @@ use Rattle.sk_prog.specs.declared.value.Value.{Value}
 use Rattle.sk_prog.specs.declared.value.Value.TheVariants as value
 use Rattle.sk_prog.specs.declared.expr.BinOp.{BinOp}
 use Rattle.sk_prog.specs.declared.expr.BinOp.TheVariants as op
-use Rattle.sk_path.specs.declared.log.Log.{Log}
-use Rattle.sk_path.specs.Recording.{Recorded, Goes, Fails, lift}
+use Rattle.sk_interp_laws.specs.declared.log.Log.{Log}
+use Rattle.sk_interp_laws.specs.Recording.{Recorded, Goes, Fails, lift}
 use Rattle.sk_model.specs.Operators.{divided, operator, on_operands, operand}
 use Rattle.sk_model.specs.Eval.{unfilled}
 use Rattle.sk_prog.specs.declared.ty.Elem.TheVariants as elem

@@ -14,15 +14,15 @@ use Rattle.sk_prog.specs.declared.expr.PEForm.{PEForm}
 use Rattle.sk_prog.specs.declared.expr.PEForm.TheVariants as eform
 use Rattle.sk_model.specs.Step.{Comp}
 use Rattle.sk_model.specs.Step as step
-use Rattle.sk_path.specs.declared.log.Log.{Log}
-use Rattle.sk_path.specs.Recording.{Recorded, Going, Goes, Fails, Skips, Traced, and_then, fail, lifted, lift}
+use Rattle.sk_interp_laws.specs.declared.log.Log.{Log}
+use Rattle.sk_interp_laws.specs.Recording.{Recorded, Going, Goes, Fails, Skips, Traced, and_then, fail, lifted, lift}
 use Rattle.sk_model.specs.Values.{element}
 use Rattle.sk_model.specs.Operators.{Operand, Number, OneBit, Bits, Reference, operand, divided, number_operator, bit_operator, bits_operator, shift, on_operands, operator, to_int}
 use Rattle.sk_model.specs.Heap.{blank, record_at, Root, Variable, Field, Location, at_root, read_root, read_field}
 use Rattle.sk_model.specs.Eval.{or_fail, indexed, add_index}
-use Rattle.sk_path.specs.Eval.{Does, binary}
+use Rattle.sk_interp_laws.specs.Eval.{Does, binary}
 use Rattle.sk_interp.specs.declared.activation.Activation.{Activation}
-use Rattle.sk_path.proofs.Forms.{does_number, does_var, does_const, does_paren, does_member, does_index, does_binary, does_to_int}
+use Rattle.sk_interp_laws.proofs.Forms.{does_number, does_var, does_const, does_paren, does_member, does_index, does_binary, does_to_int}
 use Rattle.sk_interp.specs.Calling.{does_in, calls_in}
 use Rattle.sk_interp.specs.Paths.{part, load, Keeps, IsSteady, IsPath, is_arithmetic}
 

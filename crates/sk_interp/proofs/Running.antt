@@ -8,12 +8,12 @@ use Rattle.sk_prog.specs.declared.prog.Prog.{Prog}
 use Rattle.sk_model.specs.declared.outcome.Outcome.TheVariants as outcome
 use Rattle.sk_model.specs.Eval.{Called}
 use Rattle.sk_model.specs.Run.{nowhere, start, run}
-use Rattle.sk_path.specs.declared.log.Log.{Log}
-use Rattle.sk_path.specs.Recording.{Recorded, Going, Goes, Fails, Skips}
-use Rattle.sk_path.specs.Run.{calls, log_of, outcome_of}
-use Rattle.sk_path.specs.Path.{path}
-use Rattle.sk_path.specs.Kept.{empty_log, kept, log_of_steps}
-use Rattle.sk_path.proofs.Runs.{logged_is_run, log_keeps_first}
+use Rattle.sk_interp_laws.specs.declared.log.Log.{Log}
+use Rattle.sk_interp_laws.specs.Recording.{Recorded, Going, Goes, Fails, Skips}
+use Rattle.sk_interp_laws.specs.Run.{calls, log_of, outcome_of}
+use Rattle.sk_interp_laws.specs.Path.{path}
+use Rattle.sk_interp_laws.specs.Kept.{empty_log, kept, log_of_steps}
+use Rattle.sk_interp_laws.proofs.Runs.{logged_is_run, log_keeps_first}
 
 module _ (most : ℕ) (prog : Prog) (f : FunId) (args : List Value) (b : Bounds) where
   abbrev pub first : Going Log Called

@@ -19,12 +19,12 @@ use Rattle.sk_model.specs.Heap.{allocate}
 use Rattle.sk_model.specs.Eval as model
 use Rattle.sk_model.specs.Exec as steps
 use Rattle.sk_model.specs.Run.{most_calls}
-use Rattle.sk_path.specs.declared.log.Log.{Log}
-use Rattle.sk_path.specs.Recording.{Traced, ◌>>=◌, pure, fail, lift}
-use Rattle.sk_path.specs.Eval as traced
-use Rattle.sk_path.specs.Exec as told
-use Rattle.sk_path.specs.Run.{calls, in_frame}
-use Rattle.sk_path.specs.Kept.{kept}
+use Rattle.sk_interp_laws.specs.declared.log.Log.{Log}
+use Rattle.sk_interp_laws.specs.Recording.{Traced, ◌>>=◌, pure, fail, lift}
+use Rattle.sk_interp_laws.specs.Eval as traced
+use Rattle.sk_interp_laws.specs.Exec as told
+use Rattle.sk_interp_laws.specs.Run.{calls, in_frame}
+use Rattle.sk_interp_laws.specs.Kept.{kept}
 
 -- one after the other
 abbrev pub followed : {A B : Type 0} → Traced Log A → (A → Traced Log B) → Traced Log B

@@ -13,9 +13,9 @@ use Rattle.sk_model.specs.Step as step
 use Rattle.sk_model.specs.Values.{element}
 use Rattle.sk_model.specs.Heap.{Location, read_root}
 use Rattle.sk_model.specs.Eval.{or_fail}
-use Rattle.sk_path.specs.declared.log.Log.{Log}
-use Rattle.sk_path.specs.Recording.{Recorded, Going, Goes, Fails, Skips, ◌>>=◌, lift}
-use Rattle.sk_path.specs.Eval.{Does}
+use Rattle.sk_interp_laws.specs.declared.log.Log.{Log}
+use Rattle.sk_interp_laws.specs.Recording.{Recorded, Going, Goes, Fails, Skips, ◌>>=◌, lift}
+use Rattle.sk_interp_laws.specs.Eval.{Does}
 
 -- the part of a value that these indexes name from the outside in; none where an index is outside of its array
 abbrev pub part : List ℤ → Value → Option Value

@@ -1,8 +1,8 @@
 -- What the code gives of a machine, as a step of a run with its log. Of want of memory nothing is said.
 use Rattle.std.specs.Prelude.{◌≡◌, Result, Ok, Err}
 use Rattle.sk_model.specs.Step.{Comp}
-use Rattle.sk_path.specs.declared.log.Log.{Log}
-use Rattle.sk_path.specs.Recording.{Recorded, Going, Goes, Fails, Skips, lift}
+use Rattle.sk_interp_laws.specs.declared.log.Log.{Log}
+use Rattle.sk_interp_laws.specs.Recording.{Recorded, Going, Goes, Fails, Skips, lift}
 use Rattle.sk_interp.specs.declared.stop.Stop.{Stop}
 use Rattle.sk_interp.specs.declared.stop.Stop.TheVariants.{Failed, Skipped, NoMemory}
 

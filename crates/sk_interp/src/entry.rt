@@ -2,8 +2,8 @@
 
 ghost use Rattle.std.specs.Prelude.{◌≡◌, ◌≤◌, IfOk};
 ghost use Rattle.sk_model.specs.Run.{run};
-ghost use Rattle.sk_path.specs.Path.{path};
-ghost use Rattle.sk_path.specs.Kept.{log_of_steps};
+ghost use Rattle.sk_interp_laws.specs.Path.{path};
+ghost use Rattle.sk_interp_laws.specs.Kept.{log_of_steps};
 
 use crate::activation::Activation;
 use crate::call::MOST_CALLS;
@@ -11,8 +11,8 @@ use crate::machine::Machine;
 use crate::memory::copy_row;
 use crate::stop::Stop;
 use sk_base::{Bounds, Span};
+use sk_interp_laws::Log;
 use sk_model::Outcome;
-use sk_path::Log;
 use sk_prog::{FunId, Prog, Value};
 use std::alloc::{AllocError, Global};
 

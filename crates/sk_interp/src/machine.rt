@@ -1,15 +1,15 @@
 //! What a run works on: its memory, and the log of its steps.
 
 ghost use Rattle.std.specs.Prelude.{◌≡◌, IfOk};
-ghost use Rattle.sk_path.specs.declared.step.What.TheVariants as what;
+ghost use Rattle.sk_interp_laws.specs.declared.step.What.TheVariants as what;
 ghost use Rattle.sk_model.specs.Step.{pure};
 ghost use Rattle.sk_model.specs.Values.{zero_of};
 ghost use Rattle.sk_model.specs.Heap.{read, read_field, write, store, allocate};
 ghost use Rattle.sk_model.specs.Exec.{onward};
 ghost use Rattle.sk_model.specs.Run.{start};
-ghost use Rattle.sk_path.specs.Recording.{lift};
-ghost use Rattle.sk_path.specs.Exec.{truth, stored, going, pay};
-ghost use Rattle.sk_path.specs.Kept.{empty_log, kept};
+ghost use Rattle.sk_interp_laws.specs.Recording.{lift};
+ghost use Rattle.sk_interp_laws.specs.Exec.{truth, stored, going, pay};
+ghost use Rattle.sk_interp_laws.specs.Kept.{empty_log, kept};
 ghost use Rattle.sk_interp.specs.Records.{Records, RecordsAs};
 ghost use Rattle.sk_interp.specs.Calling.{flow_of};
 ghost use Rattle.sk_interp.specs.Paths.{load};
@@ -23,7 +23,7 @@ use crate::row::Row;
 use crate::stop::Stop;
 use crate::value::{copy, zero_of};
 use sk_base::Span;
-use sk_path::{Log, Step, What};
+use sk_interp_laws::{Log, Step, What};
 use sk_prog::{Prog, StructId, Ty, Value};
 use std::alloc::{AllocError, Global};
 use std::marker::Model;
@@ -54,8 +54,8 @@ pub struct Machine {
 }
 
 impl Model for Machine {
-    ghost use Rattle.sk_path.specs.Recording.{Recorded};
-    ghost use Rattle.sk_path.specs.declared.log.Log as logs;
+    ghost use Rattle.sk_interp_laws.specs.Recording.{Recorded};
+    ghost use Rattle.sk_interp_laws.specs.declared.log.Log as logs;
     ghost use Rattle.std.specs.Coded.{codes};
     ghost use Rattle.sk_prog.specs.contracts.value.Value as held;
 

@@ -8,10 +8,10 @@ use Rattle.sk_model.specs.declared.expanded.Input.{Input}
 use Rattle.sk_model.specs.Fill.{InRange}
 use Rattle.sk_cnf.specs.declared.growing.Encoded.{Encoded}
 use Rattle.sk_cnf.specs.Formula.{Tight}
-use Rattle.sk_query.specs.declared.query.Query.{Query}
-use Rattle.sk_query.specs.declared.query.Query.TheVariants as query
-use Rattle.sk_query.specs.Queries.{AsksFor, IsBad}
-use Rattle.sk_query.proofs.Nothing.{nothing_bad}
+use Rattle.sk_oblig_queries.specs.declared.query.Query.{Query}
+use Rattle.sk_oblig_queries.specs.declared.query.Query.TheVariants as query
+use Rattle.sk_oblig_queries.specs.Queries.{AsksFor, IsBad}
+use Rattle.sk_oblig_queries.proofs.Nothing.{nothing_bad}
 use Rattle.sk_oblig.specs.Formulas.{IsAskable}
 use Rattle.sk_loop_laws.specs.Shown.{Completes}
 use Rattle.sk_loop_laws.proofs.Completing.{none_bad_completes}

@@ -8,7 +8,7 @@ use Rattle.sk_model.specs.declared.expanded.Choice.{Choice}
 use Rattle.sk_model.specs.declared.expanded.Expanded.{Expanded}
 use Rattle.sk_model.specs.declared.expanded.Input.{Input}
 use Rattle.sk_model.specs.declared.expanded.Pair.{Pair}
-use Rattle.sk_query.specs.Queries.{IsBad, IsWanted}
+use Rattle.sk_oblig_queries.specs.Queries.{IsBad, IsWanted}
 use Rattle.sk_loop_laws.specs.Honest.{Grown, IsRound, inputs_of}
 use Rattle.sk_loop_laws.specs.Shown.{HasRoom}
 use Rattle.sk_loop_laws.proofs.Lists.{get_front, take_front}

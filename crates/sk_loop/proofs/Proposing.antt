@@ -13,12 +13,12 @@ use Rattle.sk_model.specs.declared.expanded.Pair.{Pair}
 use Rattle.sk_model.specs.declared.expanded.Site.{Site}
 use Rattle.sk_holes.specs.Needs.{are_narrow, is_narrow}
 use Rattle.sk_cnf.specs.declared.growing.Encoded.{Encoded}
-use Rattle.sk_query.specs.declared.query.Query.{Query}
-use Rattle.sk_query.specs.declared.query.Query.TheVariants as query
-use Rattle.sk_query.specs.Queries.{AsksFor, IsWanted}
-use Rattle.sk_query.specs.Laws.{AreSmall}
-use Rattle.sk_query.proofs.Nothing.{nothing_wanted}
-use Rattle.sk_asking.specs.declared.asking.Asking.{Asking}
+use Rattle.sk_oblig_queries.specs.declared.query.Query.{Query}
+use Rattle.sk_oblig_queries.specs.declared.query.Query.TheVariants as query
+use Rattle.sk_oblig_queries.specs.Queries.{AsksFor, IsWanted}
+use Rattle.sk_oblig_queries.specs.Laws.{AreSmall}
+use Rattle.sk_oblig_queries.proofs.Nothing.{nothing_wanted}
+use Rattle.sk_oblig_asking.specs.declared.asking.Asking.{Asking}
 use Rattle.sk_oblig.specs.Formulas.{IsAskable}
 use Rattle.sk_loop_laws.specs.Honest.{Honest, inputs_of}
 use Rattle.sk_loop_laws.specs.Shown.{Learnt, NonePasses, limit_of}

@@ -3,7 +3,7 @@ use Rattle.std.specs.Prelude.{ℕ, ◌≡◌, ◌<◌, List, length, All}
 use Rattle.sk_clause.specs.declared.lit.Lit.{Lit}
 use Rattle.sk_clause.specs.Meaning.{EachFollows, IsConsistent, Meets, NoneIncludes, valuation}
 use Rattle.sk_cnf.specs.declared.growing.Encoded.{Encoded}
-use Rattle.sk_query.specs.Laws.{CannotBeMet}
+use Rattle.sk_oblig_queries.specs.Laws.{CannotBeMet}
 use Rattle.sk_loop_laws.specs.Laws.{with_learnt}
 use Rattle.sk_loop.specs.declared.solving.Answered.{Answered}
 use Rattle.sk_loop.specs.declared.solving.Answered.TheVariants as answered

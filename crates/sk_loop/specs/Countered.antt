@@ -7,9 +7,9 @@ use Rattle.sk_cnf.specs.declared.growing.Encoded.{Encoded}
 use Rattle.sk_cnf.specs.Formula.{Tight}
 use Rattle.sk_model.specs.declared.expanded.Choice.{Choice}
 use Rattle.sk_model.specs.declared.expanded.Expanded.{Expanded}
-use Rattle.sk_query.specs.declared.query.Query.{Query}
-use Rattle.sk_query.specs.declared.query.Query.TheVariants as query
-use Rattle.sk_query.specs.Queries.{AsksFor, IsBad}
+use Rattle.sk_oblig_queries.specs.declared.query.Query.{Query}
+use Rattle.sk_oblig_queries.specs.declared.query.Query.TheVariants as query
+use Rattle.sk_oblig_queries.specs.Queries.{AsksFor, IsBad}
 use Rattle.sk_loop_laws.specs.Shown.{Completes}
 use Rattle.sk_loop.specs.declared.countered.Countered.{Countered}
 use Rattle.sk_loop.specs.declared.countered.Countered.TheVariants as countered

@@ -5,7 +5,7 @@ use Rattle.sk_base.specs.declared.bounds.Budget.{Budget}
 use Rattle.sk_model.specs.declared.expanded.Expanded.{Expanded}
 use Rattle.sk_model.specs.declared.expanded.Pair.{Pair}
 use Rattle.sk_cnf.specs.Standing.{Begins}
-use Rattle.sk_query.specs.Queries.{IsWanted}
+use Rattle.sk_oblig_queries.specs.Queries.{IsWanted}
 use Rattle.sk_loop_laws.specs.Honest.{Grown, inputs_of}
 use Rattle.sk_loop_laws.specs.Shown.{HasRoom}
 use Rattle.sk_loop.specs.declared.session.Session.{Session}

@@ -5,11 +5,11 @@ use Rattle.sk_model.specs.declared.expanded.Expanded.{Expanded}
 use Rattle.sk_model.specs.declared.expanded.Input.{Input}
 use Rattle.sk_clause.specs.Problem.{Problem}
 use Rattle.sk_cnf.specs.Formula.{Tight}
-use Rattle.sk_query.specs.declared.query.Query.TheVariants as query
-use Rattle.sk_query.specs.Queries.{AsksFor}
+use Rattle.sk_oblig_queries.specs.declared.query.Query.TheVariants as query
+use Rattle.sk_oblig_queries.specs.Queries.{AsksFor}
 use Rattle.sk_sat.specs.Solver.{State}
-use Rattle.sk_asking.specs.declared.asking.Asking.{Asking}
-use Rattle.sk_asking.specs.Asking.{Demand, IsAsking}
+use Rattle.sk_oblig_asking.specs.declared.asking.Asking.{Asking}
+use Rattle.sk_oblig_asking.specs.Asking.{Demand, IsAsking}
 use Rattle.sk_loop.specs.declared.session.Session.{Session}
 
 -- the first limit is at least the second; that there is none is above each

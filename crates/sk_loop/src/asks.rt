@@ -6,9 +6,9 @@ ghost use Rattle.sk_loop_laws.specs.Honest.{inputs_of};
 ghost use Rattle.sk_oblig.specs.Formulas.{IsAskable};
 ghost use Rattle.sk_loop.specs.Session.{Asks};
 
-use sk_asking::Asking;
 use sk_base::Bounds;
 use sk_model::{Expanded, Pair};
+use sk_oblig_asking::Asking;
 use std::alloc::AllocError;
 
 /// Asks also that the next input is passed.

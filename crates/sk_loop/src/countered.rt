@@ -10,10 +10,10 @@ use crate::solving::{Answered, answer, load};
 use sk_base::Bounds;
 use sk_clause::Log;
 use sk_cnf::Encoded;
-use sk_copies::copy_choice;
+use sk_loop_copies::copy_choice;
 use sk_model::{Choice, Expanded, Input as InputOf};
 use sk_oblig::{formula, input_of};
-use sk_query::Query;
+use sk_oblig_queries::Query;
 use sk_sat::Solver;
 use std::alloc::{AllocError, Global};
 

@@ -3,7 +3,7 @@
 use sk_clause::Log;
 use sk_cnf::Encoded;
 use sk_model::Choice as ChoiceOf;
-use sk_query::Query;
+use sk_oblig_queries::Query;
 
 /// What a search for a choice found.
 #[derive(Debug, Drop)]

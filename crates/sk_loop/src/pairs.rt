@@ -7,7 +7,7 @@ ghost use Rattle.sk_loop.specs.Rounds.{HasKept, IsTurn};
 use crate::found::Found;
 use crate::turn::Turn;
 use sk_base::{Bounds, Budget, List};
-use sk_copies::copy_input;
+use sk_loop_copies::copy_input;
 use sk_model::{Expanded, Input, Pair};
 use std::alloc::{AllocError, Global};
 

@@ -2,7 +2,7 @@
 
 ghost use Rattle.std.specs.Prelude.{◌≡◌, ◌+◌, [], None, IfOk, OnErr, OnOk, length};
 ghost use Rattle.sk_cnf.specs.Standing.{Begins};
-ghost use Rattle.sk_query.specs.Queries.{IsWanted};
+ghost use Rattle.sk_oblig_queries.specs.Queries.{IsWanted};
 ghost use Rattle.sk_oblig.specs.Formulas.{IsAskable};
 ghost use Rattle.sk_loop_laws.specs.Shown.{HasRoom};
 ghost use Rattle.sk_loop_laws.specs.Honest.{Grown, Honest, IsRound, inputs_of};
@@ -17,12 +17,12 @@ use crate::found::Found;
 use crate::pairs::{cut, inputs_of, turn_after};
 use crate::solving::{Answered, answer, load};
 use crate::turn::{Proposed, Turn};
-use sk_asking::Asking;
 use sk_base::{Bounds, Budget, List};
 use sk_clause::{Assignment, Log};
 use sk_cnf::Encoded;
 use sk_model::{Choice, Expanded, Pair};
-use sk_query::{Query, choice_of};
+use sk_oblig_asking::Asking;
+use sk_oblig_queries::{Query, choice_of};
 use sk_sat::Solver;
 use std::alloc::{AllocError, Global};
 

@@ -7,7 +7,7 @@ ghost use Rattle.sk_loop_laws.specs.Laws.{with_learnt};
 
 use sk_clause::{Assignment, Clauses, Log};
 use sk_cnf::Encoded;
-use sk_copies::copy_encoded;
+use sk_loop_copies::copy_encoded;
 use sk_sat::{Answer, Solver};
 use std::alloc::{AllocError, Global};
 

@@ -8,7 +8,7 @@ use Rattle.sk_model.specs.declared.expanded.Input.{Input}
 use Rattle.sk_model.specs.Fill.{fill}
 use Rattle.sk_model.specs.Inputs.{IsInput}
 use Rattle.sk_model.specs.Meets.{Breaks, Meets, cost_on}
-use Rattle.sk_query.specs.Queries.{IsOver}
+use Rattle.sk_oblig_queries.specs.Queries.{IsOver}
 use Rattle.sk_loop_laws.specs.Laws.{NoneBadCompletes, CompletesHasNoneBad, CompletesIsWanted}
 
 -- what is not over the limit is within it

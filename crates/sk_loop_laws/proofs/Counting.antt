@@ -20,7 +20,7 @@ use Rattle.sk_model.specs.declared.expanded.Obligation.TheVariants as obligation
 use Rattle.sk_model.specs.declared.expanded.Pair.{Pair}
 use Rattle.sk_model.specs.Inputs.{args_in_range, IsInput}
 use Rattle.sk_model.specs.Obligations.{of_kind, of_reference, of_fun, obligations_from, obligations}
-use Rattle.sk_query.specs.Widths.{params_of_fun, params_of}
+use Rattle.sk_oblig_queries.specs.Widths.{params_of_fun, params_of}
 use Rattle.sk_loop_laws.specs.Counts.{args_count, harness_inputs, reference_inputs, inputs_count}
 use Rattle.sk_loop_laws.specs.Honest.{inputs_of}
 use Rattle.sk_loop_laws.specs.Laws.{RoundsAreFew}

@@ -11,7 +11,7 @@ use Rattle.sk_model.specs.declared.expanded.Pair.{Pair}
 use Rattle.sk_model.specs.Fill.{fill}
 use Rattle.sk_model.specs.Inputs.{IsInput}
 use Rattle.sk_model.specs.Meets.{Breaks, cost_on}
-use Rattle.sk_query.specs.Queries.{IsOver}
+use Rattle.sk_oblig_queries.specs.Queries.{IsOver}
 use Rattle.sk_loop_laws.specs.Honest.{inputs_of, CostsMore, IsHonest, Honest, IsRound}
 use Rattle.sk_loop_laws.specs.Laws.{GrownIsHonest, InputsAreDistinct, HonestAreInputs}
 use Rattle.sk_loop_laws.proofs.Lists.{all_at, get_front, take_front, pair_at, earlier_at}

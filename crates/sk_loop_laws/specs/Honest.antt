@@ -8,7 +8,7 @@ use Rattle.sk_model.specs.declared.expanded.Pair.{Pair}
 use Rattle.sk_model.specs.Fill.{InRange, fill}
 use Rattle.sk_model.specs.Inputs.{IsInput}
 use Rattle.sk_model.specs.Meets.{Breaks, cost_on}
-use Rattle.sk_query.specs.Queries.{IsBad, IsWanted}
+use Rattle.sk_oblig_queries.specs.Queries.{IsBad, IsWanted}
 
 -- the inputs of pairs, in order
 abbrev pub inputs_of : List Pair → List Input

@@ -11,9 +11,9 @@ use Rattle.sk_model.specs.declared.expanded.Input.{Input}
 use Rattle.sk_model.specs.declared.expanded.Pair.{Pair}
 use Rattle.sk_model.specs.Fill.{InRange}
 use Rattle.sk_model.specs.Inputs.{IsInput}
-use Rattle.sk_chosen.specs.Meeting.{IsMetUnder}
-use Rattle.sk_query.specs.declared.query.Query.{Query}
-use Rattle.sk_query.specs.Queries.{AsksFor, IsBad, IsWanted}
+use Rattle.sk_holes_choice_laws.specs.Meeting.{IsMetUnder}
+use Rattle.sk_oblig_queries.specs.declared.query.Query.{Query}
+use Rattle.sk_oblig_queries.specs.Queries.{AsksFor, IsBad, IsWanted}
 use Rattle.sk_loop_laws.specs.Counts.{inputs_count}
 use Rattle.sk_loop_laws.specs.Honest.{Honest, Grown, inputs_of}
 use Rattle.sk_loop_laws.specs.Shown.{Completes}

@@ -13,9 +13,9 @@ use Rattle.sk_model.specs.declared.expanded.Pair.{Pair}
 use Rattle.sk_model.specs.Fill.{InRange, fill}
 use Rattle.sk_model.specs.Inputs.{IsInput}
 use Rattle.sk_model.specs.Meets.{Meets, cost_on}
-use Rattle.sk_query.specs.declared.query.Query.{Query}
-use Rattle.sk_query.specs.declared.query.Query.TheVariants as query
-use Rattle.sk_query.specs.Queries.{AsksFor, IsWanted}
+use Rattle.sk_oblig_queries.specs.declared.query.Query.{Query}
+use Rattle.sk_oblig_queries.specs.declared.query.Query.TheVariants as query
+use Rattle.sk_oblig_queries.specs.Queries.{AsksFor, IsWanted}
 use Rattle.sk_loop_laws.specs.Honest.{Honest, inputs_of}
 
 -- A choice in range whose filling meets its obligations, and costs at most the limit on each input.

@@ -8,14 +8,14 @@ use Rattle.sk_model.specs.declared.expanded.Input.{Input}
 use Rattle.sk_model.specs.declared.expanded.Pair.{Pair}
 use Rattle.sk_model.specs.Fill.{InRange, fill}
 use Rattle.sk_model.specs.Meets.{Breaks, Meets, IsGreatestCost, cost_on}
-use Rattle.sk_query.specs.declared.query.Query.{Query}
-use Rattle.sk_query.specs.declared.query.Query.TheVariants as query
-use Rattle.sk_query.specs.Queries.{IsWanted}
+use Rattle.sk_oblig_queries.specs.declared.query.Query.{Query}
+use Rattle.sk_oblig_queries.specs.declared.query.Query.TheVariants as query
+use Rattle.sk_oblig_queries.specs.Queries.{IsWanted}
 use Rattle.sk_loop_laws.specs.Honest.{Honest, inputs_of}
 use Rattle.sk_loop_laws.specs.Shown.{AreSpent, Learnt, limit_of}
-use Rattle.sk_costs.specs.Free.{is_free}
+use Rattle.sk_min_costs.specs.Free.{is_free}
 use Rattle.sk_min.specs.declared.answer.Least.{Least}
-use Rattle.sk_costs.specs.Free.{is_free}
+use Rattle.sk_min_costs.specs.Free.{is_free}
 use Rattle.sk_min.specs.declared.answer.Least.TheVariants as least
 
 -- A choice in range whose filling meets its obligations.

@@ -11,7 +11,7 @@ use Rattle.sk_loop.specs.declared.session.Session.{Session}
 use Rattle.sk_loop.specs.Session.{IsReady}
 use Rattle.sk_loop_laws.specs.Honest.{Honest, inputs_of}
 use Rattle.sk_loop_laws.specs.Shown.{AreSpent, Completes, Learnt}
-use Rattle.sk_costs.specs.Free.{is_free}
+use Rattle.sk_min_costs.specs.Free.{is_free}
 use Rattle.sk_min.specs.declared.search.Costlier.{Costlier}
 use Rattle.sk_min.specs.declared.search.Costlier.TheVariants as costlier
 use Rattle.sk_min.specs.declared.search.Raised.{Raised}

@@ -4,7 +4,7 @@ use sk_base::List;
 use sk_clause::Log;
 use sk_cnf::Encoded;
 use sk_model::{Choice, Pair};
-use sk_query::Query;
+use sk_oblig_queries::Query;
 
 /// What the search for a least completion found, with the pairs of a choice and an input that speaks against it.
 #[derive(Debug, Drop)]

@@ -12,8 +12,8 @@ use crate::answer::Least;
 use crate::raise::raise;
 use crate::search::{Raised, State, Turn};
 use sk_base::{Bounds, Budget, List};
-use sk_costs::is_free;
 use sk_loop::{Found, Session};
+use sk_min_costs::is_free;
 use sk_model::{Choice, Expanded, Pair};
 use std::alloc::{AllocError, Global};
 

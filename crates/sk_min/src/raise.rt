@@ -6,15 +6,15 @@ ghost use Rattle.sk_loop_laws.specs.Shown.{AreSpent};
 ghost use Rattle.sk_model.specs.Fill.{InRange};
 ghost use Rattle.sk_model.specs.Inputs.{IsInput};
 ghost use Rattle.sk_oblig.specs.Formulas.{IsAskable};
-ghost use Rattle.sk_query.specs.Queries.{IsBad};
+ghost use Rattle.sk_oblig_queries.specs.Queries.{IsBad};
 ghost use Rattle.sk_min.specs.Least.{Meeting, greatest_on};
 ghost use Rattle.sk_min.specs.Search.{IsCostlier, IsCostly, IsRaisedTo};
 
 use crate::answer::Least;
 use crate::search::{Costlier, Raised};
 use sk_base::{Bounds, Budget, List};
-use sk_copies::copy_choice;
 use sk_loop::{Countered, counter};
+use sk_loop_copies::copy_choice;
 use sk_model::{Choice, Expanded, Input, Pair};
 use sk_oblig::cost_of;
 use std::alloc::{AllocError, Global};

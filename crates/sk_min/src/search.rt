@@ -6,7 +6,7 @@ use sk_clause::Log;
 use sk_cnf::Encoded;
 use sk_loop::Session;
 use sk_model::{Choice, Pair};
-use sk_query::Query;
+use sk_oblig_queries::Query;
 
 /// The session of a search, the pairs so far, and the last choice that is known to meet every obligation.
 #[derive(Drop)]

@@ -9,14 +9,14 @@ use Rattle.sk_model.specs.declared.expanded.Input.{Input}
 use Rattle.sk_model.specs.declared.expanded.Obligation.{Obligation}
 use Rattle.sk_model.specs.Obligations.{obligations}
 use Rattle.sk_model.specs.Fill.{InRange}
-use Rattle.sk_query.specs.declared.query.Query.{Query}
-use Rattle.sk_query.specs.declared.query.Query.TheVariants as query
-use Rattle.sk_query.specs.Numbers.{numbers_said}
-use Rattle.sk_query.specs.Widths.{params_of, params_if, params_at, obligations_widths, numbers_before}
-use Rattle.sk_query.specs.Said.{args_said}
-use Rattle.sk_query.specs.Queries.{IsBad, input_of_query}
+use Rattle.sk_oblig_queries.specs.declared.query.Query.{Query}
+use Rattle.sk_oblig_queries.specs.declared.query.Query.TheVariants as query
+use Rattle.sk_oblig_queries.specs.Numbers.{numbers_said}
+use Rattle.sk_oblig_queries.specs.Widths.{params_of, params_if, params_at, obligations_widths, numbers_before}
+use Rattle.sk_oblig_queries.specs.Said.{args_said}
+use Rattle.sk_oblig_queries.specs.Queries.{IsBad, input_of_query}
 use Rattle.sk_oblig_laws.proofs.Ranges.{starts_said, starts_at}
-use Rattle.sk_checks.specs.Checks.{IsBadUnder}
+use Rattle.sk_oblig_checks.specs.Checks.{IsBadUnder}
 use Rattle.sk_oblig.specs.Nodes.{has_inputs}
 use Rattle.sk_oblig.specs.Formulas.{IsAskable}
 use Rattle.sk_oblig.proofs.Whole.{bad_of}

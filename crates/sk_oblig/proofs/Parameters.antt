@@ -9,11 +9,11 @@ use Rattle.sk_prog.specs.declared.prog.Prog.{Prog}
 use Rattle.sk_model.specs.declared.expanded.Obligation.{Obligation}
 use Rattle.sk_model.specs.Obligations.{obligations}
 use Rattle.sk_model.specs.Inputs.{fun_of, args_in_range, IsInput}
-use Rattle.sk_query.specs.Widths.{elem_width, elem_of, numbers_of, ty_widths, params_widths, params_of, params_of_fun, params_if, params_at}
-use Rattle.sk_query.specs.Said.{args_said, input_said}
+use Rattle.sk_oblig_queries.specs.Widths.{elem_width, elem_of, numbers_of, ty_widths, params_widths, params_of, params_of_fun, params_if, params_at}
+use Rattle.sk_oblig_queries.specs.Said.{args_said, input_said}
 use Rattle.sk_oblig_laws.specs.Laws.{StartsBelow, is_plain, are_plain}
 use Rattle.sk_oblig_laws.proofs.Ranges.{plain_in_range}
-use Rattle.sk_arguments.specs.Arguments.{count_of}
+use Rattle.sk_oblig_arguments.specs.Arguments.{count_of}
 use Rattle.sk_oblig.specs.Nodes.{has_inputs, is_plain_fun}
 
 pub plain_next : (ps : List ParamDef) (i : ℕ) (p : ParamDef) → i < length ps → p ≡ get_or ps i p → is_plain p.ty ≡ true → are_plain ps ≡ are_plain (drop i ps) → are_plain ps ≡ are_plain (drop (i + 1) ps)

@@ -10,11 +10,11 @@ use Rattle.sk_dag.specs.declared.node.BoolId.{BoolId}
 use Rattle.sk_dag.specs.Graph.{Graph, Grows, HasBool}
 use Rattle.sk_dag.specs.Eval.{bool_value, Keeps}
 use Rattle.sk_arr.proofs.Makers.{Keeps-refl}
-use Rattle.sk_folded.proofs.LowBits.{above_whole}
+use Rattle.sk_sym_folds.proofs.LowBits.{above_whole}
 use Rattle.sk_model.specs.declared.expanded.Site.{Site}
 use Rattle.sk_model.specs.Fill.{Fits}
-use Rattle.sk_query.specs.Numbers.{first_power, bits_of_size}
-use Rattle.sk_query.specs.Widths.{sites_widths}
+use Rattle.sk_oblig_queries.specs.Numbers.{first_power, bits_of_size}
+use Rattle.sk_oblig_queries.specs.Widths.{sites_widths}
 use Rattle.sk_oblig_laws.specs.Laws.{StartsBelow}
 use Rattle.sk_oblig.specs.Nodes.{Within, SaysInRange}
 

@@ -15,12 +15,12 @@ use Rattle.sk_model.specs.declared.expanded.Expanded.{Expanded}
 use Rattle.sk_model.specs.declared.expanded.Obligation.{Obligation}
 use Rattle.sk_model.specs.Fill.{InRange}
 use Rattle.sk_prog.specs.declared.prog.ParamDef.{ParamDef}
-use Rattle.sk_query.specs.Widths.{params_widths, params_of, obligations_widths}
-use Rattle.sk_query.specs.Said.{args_said}
+use Rattle.sk_oblig_queries.specs.Widths.{params_widths, params_of, obligations_widths}
+use Rattle.sk_oblig_queries.specs.Said.{args_said}
 use Rattle.sk_oblig_laws.specs.Laws.{HasNumbers, StartsBelow}
 use Rattle.sk_oblig_laws.proofs.Ranges.{starts_split, has_later}
-use Rattle.sk_arguments.specs.Arguments.{AreArguments, count_of}
-use Rattle.sk_checks.specs.Checks.{IsCheck}
+use Rattle.sk_oblig_arguments.specs.Arguments.{AreArguments, count_of}
+use Rattle.sk_oblig_checks.specs.Checks.{IsCheck}
 use Rattle.sk_oblig.specs.Nodes.{SaysBad, SaysAnyBad, BadOf, AnyBad, has_inputs}
 use Rattle.sk_oblig.proofs.Parameters.{widths_count}
 

@@ -25,22 +25,22 @@ use Rattle.sk_prog.specs.declared.ty.Elem.{Elem}
 use Rattle.sk_prog.specs.declared.ty.Elem.TheVariants as elem
 use Rattle.sk_prog.specs.declared.prog.ParamDef.{ParamDef}
 use Rattle.sk_prog.specs.declared.prog.Prog.{Prog}
-use Rattle.sk_chosen.specs.Meeting.{IsBrokenUnder, cost_of_obligation_under, BreaksUnder, cost_under, IsMetUnder}
+use Rattle.sk_holes_choice_laws.specs.Meeting.{IsBrokenUnder, cost_of_obligation_under, BreaksUnder, cost_under, IsMetUnder}
 use Rattle.sk_cnf.specs.declared.leaf.Leaf.{Leaf}
 use Rattle.sk_cnf.specs.declared.growing.Encoded.{Encoded}
 use Rattle.sk_cnf.specs.Formula.{AreTrue, IsEncoding}
 use Rattle.sk_cnf.specs.Leaves.{Says}
-use Rattle.sk_query.specs.declared.query.Query.{Query}
-use Rattle.sk_query.specs.declared.query.Query.TheVariants as query
-use Rattle.sk_query.specs.Numbers.{bits_of_size, numbers_said}
-use Rattle.sk_query.specs.Widths.{elem_width, elem_of, numbers_of, ty_widths, sites_widths, params_widths, params_of, params_if, params_at, obligations_widths, numbers_before}
-use Rattle.sk_query.specs.Said.{args_said, input_said, choice_said}
-use Rattle.sk_query.specs.Queries.{IsOver, IsBad, AsksFor, bits_of_query, leaves_of_query}
+use Rattle.sk_oblig_queries.specs.declared.query.Query.{Query}
+use Rattle.sk_oblig_queries.specs.declared.query.Query.TheVariants as query
+use Rattle.sk_oblig_queries.specs.Numbers.{bits_of_size, numbers_said}
+use Rattle.sk_oblig_queries.specs.Widths.{elem_width, elem_of, numbers_of, ty_widths, sites_widths, params_widths, params_of, params_if, params_at, obligations_widths, numbers_before}
+use Rattle.sk_oblig_queries.specs.Said.{args_said, input_said, choice_said}
+use Rattle.sk_oblig_queries.specs.Queries.{IsOver, IsBad, AsksFor, bits_of_query, leaves_of_query}
 use Rattle.sk_sym.specs.Outcome.{choice_of}
 use Rattle.sk_oblig_laws.specs.Laws.{StartsBelow}
 use Rattle.sk_oblig_laws.proofs.Saying.{holes_say, inputs_say}
 use Rattle.sk_oblig_laws.proofs.Ranges.{starts_said, starts_at, has_all}
-use Rattle.sk_checks.specs.Checks.{IsBadUnder}
+use Rattle.sk_oblig_checks.specs.Checks.{IsBadUnder}
 use Rattle.sk_oblig.specs.Nodes.{SaysInRange, BadBy, SaysAllFine, BadOf, SaysAnyBad, has_inputs}
 use Rattle.sk_oblig.specs.Formulas.{IsAskable, IsRoot, Puts, SaysWanted, at_most_one, env_of}
 use Rattle.sk_oblig.proofs.Ranges.{both_true, fits_within, within_fits, bits_least}

@@ -11,16 +11,16 @@ use Rattle.sk_model.specs.declared.expanded.Input.{Input}
 use Rattle.sk_model.specs.declared.expanded.Obligation.{Obligation}
 use Rattle.sk_model.specs.Fill.{InRange}
 use Rattle.sk_holes.specs.Needs.{HasItsSites, are_narrow}
-use Rattle.sk_chosen.specs.Meeting.{IsMetUnder}
+use Rattle.sk_holes_choice_laws.specs.Meeting.{IsMetUnder}
 use Rattle.sk_cnf.specs.declared.leaf.Leaf.{Leaf}
 use Rattle.sk_cnf.specs.declared.growing.Encoded.{Encoded}
 use Rattle.sk_cnf.specs.Formula.{Extends, Tight}
 use Rattle.sk_cnf.specs.Leaves.{Says}
-use Rattle.sk_query.specs.declared.query.Query.{Query}
-use Rattle.sk_query.specs.declared.query.Query.TheVariants as query
-use Rattle.sk_query.specs.Numbers.{numbers_said}
-use Rattle.sk_query.specs.Queries.{Holds, IsBad, widths_of_query}
-use Rattle.sk_query.specs.Widths.{sites_widths}
+use Rattle.sk_oblig_queries.specs.declared.query.Query.{Query}
+use Rattle.sk_oblig_queries.specs.declared.query.Query.TheVariants as query
+use Rattle.sk_oblig_queries.specs.Numbers.{numbers_said}
+use Rattle.sk_oblig_queries.specs.Queries.{Holds, IsBad, widths_of_query}
+use Rattle.sk_oblig_queries.specs.Widths.{sites_widths}
 use Rattle.sk_sym.specs.Outcome.{choice_of}
 use Rattle.sk_oblig_laws.specs.Laws.{StartsBelow, choice_env, input_env}
 use Rattle.sk_oblig.specs.Nodes.{BadBy}

@@ -14,13 +14,13 @@ use Rattle.sk_model.specs.declared.expanded.Obligation.{Obligation}
 use Rattle.sk_model.specs.declared.expanded.Site.{Site}
 use Rattle.sk_model.specs.Fill.{InRange}
 use Rattle.sk_model.specs.Inputs.{fun_of}
-use Rattle.sk_chosen.specs.Meeting.{BreaksUnder, cost_under}
-use Rattle.sk_query.specs.Queries.{IsOver}
-use Rattle.sk_query.specs.Said.{args_said}
-use Rattle.sk_query.specs.Widths.{sites_widths, params_widths, params_of, obligations_widths}
+use Rattle.sk_holes_choice_laws.specs.Meeting.{BreaksUnder, cost_under}
+use Rattle.sk_oblig_queries.specs.Queries.{IsOver}
+use Rattle.sk_oblig_queries.specs.Said.{args_said}
+use Rattle.sk_oblig_queries.specs.Widths.{sites_widths, params_widths, params_of, obligations_widths}
 use Rattle.sk_sym.specs.Outcome.{choice_of}
 use Rattle.sk_oblig_laws.specs.Laws.{HasNumbers, StartsBelow, are_plain}
-use Rattle.sk_checks.specs.Checks.{IsBadUnder}
+use Rattle.sk_oblig_checks.specs.Checks.{IsBadUnder}
 
 -- each value is below the size of its site
 abbrev pub Within : List Site → List ℕ → Type 0

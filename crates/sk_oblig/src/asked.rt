@@ -4,17 +4,17 @@ ghost use Rattle.std.specs.Prelude.{◌≡◌, ◌-◌, ◌≤◌, ◌+◌, true
 ghost use Rattle.sk_dag.specs.Eval.{Keeps};
 ghost use Rattle.sk_holes.specs.Needs.{HasItsSites};
 ghost use Rattle.sk_model.specs.Fill.{InRange};
-ghost use Rattle.sk_query.specs.Widths.{params_of as takes};
-ghost use Rattle.sk_arguments.specs.Arguments.{count_of};
+ghost use Rattle.sk_oblig_queries.specs.Widths.{params_of as takes};
+ghost use Rattle.sk_oblig_arguments.specs.Arguments.{count_of};
 ghost use Rattle.sk_oblig.specs.Nodes.{SaysAnyBad, SaysBad, has_inputs as has};
 
 use crate::plain::{count_of, has_inputs, params_of};
-use sk_arguments::arguments;
 use sk_base::Bounds;
-use sk_checks::check;
 use sk_dag::{BoolId, Dag};
-use sk_folded::{flag, or};
 use sk_model::{Choice, Expanded, Obligation};
+use sk_oblig_arguments::arguments;
+use sk_oblig_checks::check;
+use sk_sym_folds::{flag, or};
 use std::alloc::{AllocError, Global};
 
 // Whether the numbers of the input from a scalar on speak against a choice by an obligation that has inputs.

@@ -6,7 +6,7 @@ ghost use Rattle.sk_holes.specs.Needs.{HasItsSites};
 ghost use Rattle.sk_model.specs.Fill.{InRange};
 ghost use Rattle.sk_model.specs.Obligations.{obligations};
 ghost use Rattle.sk_cnf.specs.Formula.{AreLeaves, Tight};
-ghost use Rattle.sk_query.specs.Queries.{AsksFor};
+ghost use Rattle.sk_oblig_queries.specs.Queries.{AsksFor};
 ghost use Rattle.sk_oblig.specs.Nodes.{SaysAnyBad};
 ghost use Rattle.sk_oblig.specs.Formulas.{IsAskable, IsAsked, IsRoot, Puts, SaysWanted, at_most_one};
 
@@ -16,10 +16,10 @@ use crate::wanted::all_fine;
 use sk_base::{Bounds, List};
 use sk_cnf::{Encoded, Leaf, encode};
 use sk_dag::{BoolId, Dag};
-use sk_folded::and;
 use sk_model::{Choice, Expanded, Input};
-use sk_query::{Query, leaves_of, obligations};
+use sk_oblig_queries::{Query, leaves_of, obligations};
 use sk_simplify::simplify;
+use sk_sym_folds::and;
 use std::alloc::{AllocError, Global};
 
 // Whether an input of an obligation speaks against a choice.

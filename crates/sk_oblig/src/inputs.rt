@@ -4,8 +4,8 @@ ghost use Rattle.std.specs.Prelude.{◌≡◌, slice_get, Some, IfOk, IfSome};
 ghost use Rattle.sk_clause.specs.Meaning.{Meets, valuation};
 ghost use Rattle.sk_model.specs.Fill.{InRange};
 ghost use Rattle.sk_model.specs.Obligations.{obligations};
-ghost use Rattle.sk_query.specs.Queries.{AsksFor, IsBad};
-ghost use Rattle.sk_query.specs.declared.query.Query.TheVariants as query_form;
+ghost use Rattle.sk_oblig_queries.specs.Queries.{AsksFor, IsBad};
+ghost use Rattle.sk_oblig_queries.specs.declared.query.Query.TheVariants as query_form;
 ghost use Rattle.sk_oblig.specs.Formulas.{IsAskable, IsAsked, AsksInput, IsAnswer};
 
 use crate::judging::speaks;
@@ -13,7 +13,7 @@ use crate::plain::has_inputs;
 use sk_base::Bounds;
 use sk_cnf::Encoded;
 use sk_model::{Choice, Expanded, Input, Obligation};
-use sk_query::{Query, bits_of_names, input_of_bits, obligations};
+use sk_oblig_queries::{Query, bits_of_names, input_of_bits, obligations};
 use std::alloc::{AllocError, Global};
 
 // The input of an obligation that the bits of a query say, if it speaks against the choice.

@@ -1,11 +1,11 @@
 //! The parameters of obligations, and whether they hold references.
 
 ghost use Rattle.std.specs.Prelude.{◌≡◌, ◌+◌, IfSome};
-ghost use Rattle.sk_arguments.specs.Arguments.{count_of};
+ghost use Rattle.sk_oblig_arguments.specs.Arguments.{count_of};
 ghost use Rattle.sk_model.specs.Inputs.{fun_of};
 ghost use Rattle.sk_oblig.specs.Nodes.{has_inputs};
 ghost use Rattle.sk_oblig_laws.specs.Laws.{are_plain, is_plain, is_reference};
-ghost use Rattle.sk_query.specs.Widths.{elem_of, numbers_of, params_of};
+ghost use Rattle.sk_oblig_queries.specs.Widths.{elem_of, numbers_of, params_of};
 
 use sk_model::Obligation;
 use sk_prog::{Elem, FunId, ParamDef, Prog, Ty};

@@ -5,12 +5,12 @@ ghost use Rattle.sk_dag.specs.declared.env.Env.{Env};
 ghost use Rattle.sk_dag.specs.Graph.{Graph, Grows, HasBool};
 ghost use Rattle.sk_dag.specs.Eval.{bool_value, Keeps};
 ghost use Rattle.sk_dag.specs.Word.{bit_of};
-ghost use Rattle.sk_query.specs.Numbers.{bits_of_size};
+ghost use Rattle.sk_oblig_queries.specs.Numbers.{bits_of_size};
 ghost use Rattle.sk_oblig.specs.Nodes.{SaysInRange};
 
 use sk_dag::{BoolId, Dag};
-use sk_folded::{and, flag, not, or};
 use sk_model::Site;
+use sk_sym_folds::{and, flag, not, or};
 use std::alloc::AllocError;
 
 // A number of bits with which each number up to the greatest can be written.
@@ -59,7 +59,7 @@ fn exceeds_bit(
 }
 
 // Whether the number of the lowest bits of a site's value is above that of `k`.
-#[tactic(auto, using(sk_folded::proofs::LowBits::matching))]
+#[tactic(auto, using(sk_sym_folds::proofs::LowBits::matching))]
 fn exceeds_low(dag: &mut Dag, site: u32, width: u32, k: u64) -> Result<BoolId, AllocError>
     requires { width < 65 }
     ensures keeps { Keeps dag.old dag.new }

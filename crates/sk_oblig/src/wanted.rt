@@ -6,12 +6,12 @@ ghost use Rattle.sk_holes.specs.Needs.{HasItsSites};
 ghost use Rattle.sk_model.specs.Obligations.{obligations};
 ghost use Rattle.sk_oblig.specs.Nodes.{SaysAllFine, SaysFine};
 
-use sk_arguments::constants;
 use sk_base::Bounds;
-use sk_checks::check;
 use sk_dag::{BoolId, Dag};
-use sk_folded::{and, flag, not};
 use sk_model::{Expanded, Input, Obligation};
+use sk_oblig_arguments::constants;
+use sk_oblig_checks::check;
+use sk_sym_folds::{and, flag, not};
 use std::alloc::{AllocError, Global};
 
 // Whether an input of an obligation does not speak against the choice.

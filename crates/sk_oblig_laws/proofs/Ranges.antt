@@ -24,9 +24,9 @@ use Rattle.sk_dag.specs.declared.env.Env.{Env}
 use Rattle.sk_dag.specs.Eval.{entry}
 use Rattle.sk_gates.specs.Words.{number}
 use Rattle.sk_gates.proofs.WordLaws.{number_below}
-use Rattle.sk_query.specs.Numbers.{numbers_said}
-use Rattle.sk_query.specs.Widths.{elem_width, elem_of, numbers_of, ty_widths, params_widths, params_of, obligations_widths}
-use Rattle.sk_query.specs.Said.{first_of, elem_said, row_said, rows_said, value_said, args_said}
+use Rattle.sk_oblig_queries.specs.Numbers.{numbers_said}
+use Rattle.sk_oblig_queries.specs.Widths.{elem_width, elem_of, numbers_of, ty_widths, params_widths, params_of, obligations_widths}
+use Rattle.sk_oblig_queries.specs.Said.{first_of, elem_said, row_said, rows_said, value_said, args_said}
 use Rattle.sk_oblig_laws.specs.Laws.{is_reference, is_plain, are_plain, StartsBelow, HasNumbers, PlainIsInRange}
 use Rattle.sk_oblig_laws.proofs.Saying.{number_at}
 

@@ -13,8 +13,8 @@ use Rattle.sk_gates.specs.Words.{digit, number}
 use Rattle.sk_cnf.specs.declared.leaf.Leaf.{Leaf}
 use Rattle.sk_cnf.specs.declared.leaf.Leaf.TheVariants.{Hole, Input}
 use Rattle.sk_cnf.specs.Leaves.{same_leaf, leaf_bit, bit_or_false, number_of, hole_number, input_number, Says}
-use Rattle.sk_query.specs.Numbers.{numbers_said, leaves_from}
-use Rattle.sk_query.proofs.Steps.{number_next}
+use Rattle.sk_oblig_queries.specs.Numbers.{numbers_said, leaves_from}
+use Rattle.sk_oblig_queries.proofs.Steps.{number_next}
 
 split : (n k : ℕ) → (n < k) ⊎ (k ≤ n)
 split zero zero = inr (omega arith)

@@ -10,9 +10,9 @@ use Rattle.sk_prog.specs.declared.ty.Elem.TheVariants as elem
 use Rattle.sk_prog.specs.declared.ty.Ty.{Ty}
 use Rattle.sk_prog.specs.declared.prog.ParamDef.{ParamDef}
 use Rattle.sk_model.specs.Inputs.{args_in_range}
-use Rattle.sk_query.specs.Numbers.{numbers_said, leaves_from}
-use Rattle.sk_query.specs.Widths.{elem_of, numbers_of, params_widths}
-use Rattle.sk_query.specs.Said.{args_said}
+use Rattle.sk_oblig_queries.specs.Numbers.{numbers_said, leaves_from}
+use Rattle.sk_oblig_queries.specs.Widths.{elem_of, numbers_of, params_widths}
+use Rattle.sk_oblig_queries.specs.Said.{args_said}
 
 -- the environment whose choice is these numbers, and whose input is 0 everywhere
 abbrev pub choice_env : List ℕ → Env

@@ -17,7 +17,7 @@ use Rattle.sk_tree.specs.declared.stmt.Form.TheOpen as F
 use Rattle.sk_tree.specs.declared.stmt.Form.TheViews.{roll-Form}
 use Rattle.sk_tree.specs.declared.stmt.Form.TheFolds.{map-Form, fold-Form, fold-roll-Form, fold-roll-Stmt}
 use Rattle.sk_tree.specs.Patterns.{Patterns, any_patterns, eform_patterns, expr_patterns, form_patterns, stmt_patterns}
-use Rattle.sk_reading.specs.Faults.{set_patterns}
+use Rattle.sk_parser_laws.specs.Faults.{set_patterns}
 
 -- Expressions
 

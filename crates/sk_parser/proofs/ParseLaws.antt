@@ -4,10 +4,10 @@ use Rattle.sk_tree.specs.declared.token.Token.{Token}
 use Rattle.sk_tree.specs.declared.item.Tree.{Tree}
 use Rattle.sk_parser.specs.declared.fault.ParseFault.{ParseFault}
 use Rattle.sk_parser.specs.declared.fault.ParseFault.TheVariants as fault
-use Rattle.sk_reading.specs.Faults.{Tally, tally_of}
-use Rattle.sk_reading.specs.Laws.{ReadsWithin}
+use Rattle.sk_parser_laws.specs.Faults.{Tally, tally_of}
+use Rattle.sk_parser_laws.specs.Laws.{ReadsWithin}
 use Rattle.sk_parser.specs.Parses.{IsTreeOf, ReadsAsNone, ReadsWithTooMany, ReadsWithBad, is_memory, is_no_reading, is_too_many, is_bad, Exactly, Answers}
-use Rattle.sk_reading.proofs.ReadLaws.{read_is, same_tree, reads_none, many_is, few_is, bad_is, good_is}
+use Rattle.sk_parser_laws.proofs.ReadLaws.{read_is, same_tree, reads_none, many_is, few_is, bad_is, good_is}
 
 whole : (ts : List Token) (tree : Tree) → IsTreeOf ts tree → ReadsWithin ts tree
 whole ts tree i = record { reads = i.reads; within = i.within }

@@ -4,8 +4,8 @@ use Rattle.sk_tree.specs.declared.token.Token.{Token}
 use Rattle.sk_tree.specs.declared.item.Tree.{Tree}
 use Rattle.sk_parser.specs.declared.fault.ParseFault.{ParseFault}
 use Rattle.sk_parser.specs.declared.fault.ParseFault.TheVariants as fault
-use Rattle.sk_reading.specs.Faults.{tally_of}
-use Rattle.sk_reading.specs.ItemReader.{tree_at}
+use Rattle.sk_parser_laws.specs.Faults.{tally_of}
+use Rattle.sk_parser_laws.specs.ItemReader.{tree_at}
 use Rattle.sk_parser.specs.Parses.{Checks, Answers}
 
 pub answers_of : (ts : List Token) (tree : Tree) (r : Result Tree ParseFault) → tree_at ts ≡ Some tree → Checks tree r → Answers ts r

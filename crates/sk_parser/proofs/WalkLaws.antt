@@ -4,8 +4,8 @@ use Rattle.std.proofs.Math.Seq.{drop-cons}
 use Rattle.std.proofs.lemmas.List.{at_drop_all}
 use Rattle.sk_tree.specs.declared.pattern.Pattern.{Pattern}
 use Rattle.sk_tree.specs.Patterns.{Patterns}
-use Rattle.sk_reading.specs.Faults.{Tally, seen, all_seen}
-use Rattle.sk_reading.proofs.Walks.{all_seen_none, all_seen_one, all_seen_both}
+use Rattle.sk_parser_laws.specs.Faults.{Tally, seen, all_seen}
+use Rattle.sk_parser_laws.proofs.Walks.{all_seen_none, all_seen_one, all_seen_both}
 
 -- Forms with no part, with a pattern, and with several parts, where this is what patterns they have
 

@@ -6,9 +6,9 @@ use Rattle.sk_tree.specs.Depth.{tree_depth, most_levels}
 use Rattle.sk_tree.specs.Reads.{Reads, HasTooManyStrings, HasBadAlternative}
 use Rattle.sk_parser.specs.declared.fault.ParseFault.{ParseFault}
 use Rattle.sk_parser.specs.declared.fault.ParseFault.TheVariants as fault
-use Rattle.sk_reading.specs.Faults.{no_faults, tally_of}
-use Rattle.sk_reading.specs.Laws.{ReadsWithin}
-use Rattle.sk_reading.specs.ItemReader.{tree_at}
+use Rattle.sk_parser_laws.specs.Faults.{no_faults, tally_of}
+use Rattle.sk_parser_laws.specs.Laws.{ReadsWithin}
+use Rattle.sk_parser_laws.specs.ItemReader.{tree_at}
 
 -- The tokens read as the tree, which is at most 256 deep, and none of its patterns has a fault.
 pub record IsTreeOf (tokens : List Token) (tree : Tree) : Type 0 where

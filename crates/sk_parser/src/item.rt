@@ -1,15 +1,15 @@
 //! Items and whole texts read from tokens: `tree_at` of specs is the function on lists that this code computes.
 ghost use Rattle.std.specs.Prelude.{◌≡◌, Some, None, option_map};
-ghost use Rattle.sk_reading.specs.Readers.{Gives, repeated};
-ghost use Rattle.sk_reading.specs.ExprReader.{ends_row};
-ghost use Rattle.sk_reading.specs.StmtReader.{ends_block};
-ghost use Rattle.sk_reading.specs.ItemReader.{pragma_at, next_member, struct_at, const_at, ref_at, param_at, next_param, any_params_at, params_at, kind_at, result_at, implements_at, body_at, named_fun_at, fun_at, gets_ahead, int_item_at, item_at, next_item, ends_text, tree_at};
+ghost use Rattle.sk_parser_laws.specs.Readers.{Gives, repeated};
+ghost use Rattle.sk_parser_laws.specs.ExprReader.{ends_row};
+ghost use Rattle.sk_parser_laws.specs.StmtReader.{ends_block};
+ghost use Rattle.sk_parser_laws.specs.ItemReader.{pragma_at, next_member, struct_at, const_at, ref_at, param_at, next_param, any_params_at, params_at, kind_at, result_at, implements_at, body_at, named_fun_at, fun_at, gets_ahead, int_item_at, item_at, next_item, ends_text, tree_at};
 
 use sk_base::{List, Name};
-use sk_exprs::ends_row;
-use sk_exprs::token::{begins, begins_key, copy, key_at, mark_at, text_at, word_at};
-use sk_reading::Stop;
-use sk_stmts::{ends_block, stmts_at, ty_at, value_at};
+use sk_parser_exprs::ends_row;
+use sk_parser_exprs::token::{begins, begins_key, copy, key_at, mark_at, text_at, word_at};
+use sk_parser_laws::Stop;
+use sk_parser_stmts::{ends_block, stmts_at, ty_at, value_at};
 use sk_tree::{Field, FunItem, FunKind, Item, Key, Kind, Mark, Param, Stmt, Token, Tree, TyTree};
 use std::alloc::Global;
 
@@ -24,7 +24,7 @@ const PARAM_LEVELS: u32 = 252;
 const CONST_LEVELS: u32 = 254;
 
 // Behind `pragma`.
-#[tactic(auto, unfolding(sk_reading::specs::ItemReader::pragma_at))]
+#[tactic(auto, unfolding(sk_parser_laws::specs::ItemReader::pragma_at))]
 fn pragma_at<'a>(alloc: Global, tokens: &'a [Token]) -> Result<(Item, &'a [Token]), Stop>
     ensures { Gives (λ x. (x.0, x.1.now)) result (pragma_at tokens.now) }
 {
@@ -43,7 +43,7 @@ fn pragma_at<'a>(alloc: Global, tokens: &'a [Token]) -> Result<(Item, &'a [Token
 }
 
 // A field of a struct.
-#[tactic(auto, unfolding(sk_reading::specs::ItemReader::next_member))]
+#[tactic(auto, unfolding(sk_parser_laws::specs::ItemReader::next_member))]
 fn next_member<'a>(
     alloc: Global,
     fields: List<Field>,
@@ -82,7 +82,7 @@ fn members_at<'a>(
 }
 
 // Behind `struct`.
-#[tactic(auto, unfolding(sk_reading::specs::ItemReader::struct_at))]
+#[tactic(auto, unfolding(sk_parser_laws::specs::ItemReader::struct_at))]
 fn struct_at<'a>(alloc: Global, tokens: &'a [Token]) -> Result<(Item, &'a [Token]), Stop>
     ensures { Gives (λ x. (x.0, x.1.now)) result (struct_at tokens.now) }
 {
@@ -101,7 +101,7 @@ fn struct_at<'a>(alloc: Global, tokens: &'a [Token]) -> Result<(Item, &'a [Token
 }
 
 // A constant, behind its `int`.
-#[tactic(auto, unfolding(sk_reading::specs::ItemReader::const_at))]
+#[tactic(auto, unfolding(sk_parser_laws::specs::ItemReader::const_at))]
 fn const_at<'a>(alloc: Global, tokens: &'a [Token]) -> Result<(Item, &'a [Token]), Stop>
     ensures { Gives (λ x. (x.0, x.1.now)) result (const_at tokens.now) }
 {
@@ -121,7 +121,7 @@ fn const_at<'a>(alloc: Global, tokens: &'a [Token]) -> Result<(Item, &'a [Token]
 }
 
 // `ref`, where it stands.
-#[tactic(auto, unfolding(sk_reading::specs::ItemReader::ref_at))]
+#[tactic(auto, unfolding(sk_parser_laws::specs::ItemReader::ref_at))]
 fn ref_at(tokens: &[Token]) -> Option<(bool, &[Token])>
     ensures { option_map (λ x. (x.0, x.1.now)) result ≡ ref_at tokens.now }
 {
@@ -136,7 +136,7 @@ fn ref_at(tokens: &[Token]) -> Option<(bool, &[Token])>
 }
 
 // One parameter more.
-#[tactic(auto, unfolding(sk_reading::specs::ItemReader::param_at))]
+#[tactic(auto, unfolding(sk_parser_laws::specs::ItemReader::param_at))]
 fn param_at<'a>(
     alloc: Global,
     params: List<Param>,
@@ -158,7 +158,7 @@ fn param_at<'a>(
 }
 
 // A parameter behind a comma.
-#[tactic(auto, unfolding(sk_reading::specs::ItemReader::next_param))]
+#[tactic(auto, unfolding(sk_parser_laws::specs::ItemReader::next_param))]
 fn next_param<'a>(
     alloc: Global,
     params: List<Param>,
@@ -190,7 +190,7 @@ fn more_params<'a>(
 }
 
 // Any number of parameters.
-#[tactic(auto, unfolding(sk_reading::specs::ItemReader::any_params_at))]
+#[tactic(auto, unfolding(sk_parser_laws::specs::ItemReader::any_params_at))]
 fn any_params_at<'a>(alloc: Global, tokens: &'a [Token]) -> Result<(List<Param>, &'a [Token]), Stop>
     ensures { Gives (λ x. (x.0, x.1.now)) result (any_params_at tokens.now) }
 {
@@ -204,7 +204,7 @@ fn any_params_at<'a>(alloc: Global, tokens: &'a [Token]) -> Result<(List<Param>,
 }
 
 // Parameters up to a closing parenthesis, and the tokens after it.
-#[tactic(auto, unfolding(sk_reading::specs::ItemReader::params_at))]
+#[tactic(auto, unfolding(sk_parser_laws::specs::ItemReader::params_at))]
 fn params_at<'a>(alloc: Global, tokens: &'a [Token]) -> Result<(List<Param>, &'a [Token]), Stop>
     ensures { Gives (λ x. (x.0, x.1.now)) result (params_at tokens.now) }
 {
@@ -216,7 +216,7 @@ fn params_at<'a>(alloc: Global, tokens: &'a [Token]) -> Result<(List<Param>, &'a
 }
 
 // `harness` or `generator`, where it stands.
-#[tactic(auto, unfolding(sk_reading::specs::ItemReader::kind_at))]
+#[tactic(auto, unfolding(sk_parser_laws::specs::ItemReader::kind_at))]
 fn kind_at(tokens: &[Token]) -> (FunKind, &[Token])
     ensures { (result.0, result.1.now) ≡ kind_at tokens.now }
 {
@@ -231,7 +231,7 @@ fn kind_at(tokens: &[Token]) -> (FunKind, &[Token])
 }
 
 // A type, or `void`.
-#[tactic(auto, unfolding(sk_reading::specs::ItemReader::result_at))]
+#[tactic(auto, unfolding(sk_parser_laws::specs::ItemReader::result_at))]
 fn result_at<'a>(alloc: Global, tokens: &'a [Token]) -> Result<(Option<TyTree>, &'a [Token]), Stop>
     ensures { Gives (λ x. (x.0, x.1.now)) result (result_at tokens.now) }
 {
@@ -246,7 +246,7 @@ fn result_at<'a>(alloc: Global, tokens: &'a [Token]) -> Result<(Option<TyTree>, 
 }
 
 // `implements` with its name, where it stands.
-#[tactic(auto, unfolding(sk_reading::specs::ItemReader::implements_at))]
+#[tactic(auto, unfolding(sk_parser_laws::specs::ItemReader::implements_at))]
 fn implements_at<'a>(
     alloc: Global,
     tokens: &'a [Token],
@@ -267,7 +267,7 @@ fn implements_at<'a>(
 }
 
 // A block of statements.
-#[tactic(auto, unfolding(sk_reading::specs::ItemReader::body_at))]
+#[tactic(auto, unfolding(sk_parser_laws::specs::ItemReader::body_at))]
 fn body_at<'a>(alloc: Global, tokens: &'a [Token]) -> Result<(List<Stmt>, &'a [Token]), Stop>
     ensures { Gives (λ x. (x.0, x.1.now)) result (body_at tokens.now) }
 {
@@ -279,7 +279,7 @@ fn body_at<'a>(alloc: Global, tokens: &'a [Token]) -> Result<(List<Stmt>, &'a [T
 }
 
 // A function, behind its result.
-#[tactic(auto, unfolding(sk_reading::specs::ItemReader::named_fun_at))]
+#[tactic(auto, unfolding(sk_parser_laws::specs::ItemReader::named_fun_at))]
 fn named_fun_at<'a>(
     alloc: Global,
     kind: FunKind,
@@ -312,7 +312,7 @@ fn named_fun_at<'a>(
 }
 
 // A function.
-#[tactic(auto, unfolding(sk_reading::specs::ItemReader::fun_at))]
+#[tactic(auto, unfolding(sk_parser_laws::specs::ItemReader::fun_at))]
 fn fun_at<'a>(alloc: Global, tokens: &'a [Token]) -> Result<(Item, &'a [Token]), Stop>
     ensures { Gives (λ x. (x.0, x.1.now)) result (fun_at tokens.now) }
 {
@@ -323,7 +323,7 @@ fn fun_at<'a>(alloc: Global, tokens: &'a [Token]) -> Result<(Item, &'a [Token]),
 }
 
 // Whether `=` follows the first token, as behind the `int` of a constant.
-#[tactic(auto, unfolding(sk_reading::specs::ItemReader::gets_ahead))]
+#[tactic(auto, unfolding(sk_parser_laws::specs::ItemReader::gets_ahead))]
 fn gets_ahead(tokens: &[Token]) -> bool
     ensures { result ≡ gets_ahead tokens.now }
 {
@@ -334,7 +334,7 @@ fn gets_ahead(tokens: &[Token]) -> bool
 }
 
 // What begins with `int`: a constant, or a function.
-#[tactic(auto, unfolding(sk_reading::specs::ItemReader::int_item_at))]
+#[tactic(auto, unfolding(sk_parser_laws::specs::ItemReader::int_item_at))]
 fn int_item_at<'a>(
     alloc: Global,
     start: &'a [Token],
@@ -350,7 +350,7 @@ fn int_item_at<'a>(
 }
 
 // The item at the front.
-#[tactic(auto, unfolding(sk_reading::specs::ItemReader::item_at))]
+#[tactic(auto, unfolding(sk_parser_laws::specs::ItemReader::item_at))]
 fn item_at<'a>(alloc: Global, tokens: &'a [Token]) -> Result<(Item, &'a [Token]), Stop>
     ensures { Gives (λ x. (x.0, x.1.now)) result (item_at tokens.now) }
 {
@@ -366,7 +366,7 @@ fn item_at<'a>(alloc: Global, tokens: &'a [Token]) -> Result<(Item, &'a [Token])
 }
 
 // One item more.
-#[tactic(auto, unfolding(sk_reading::specs::ItemReader::next_item))]
+#[tactic(auto, unfolding(sk_parser_laws::specs::ItemReader::next_item))]
 fn next_item<'a>(
     alloc: Global,
     items: List<Item>,
@@ -381,7 +381,7 @@ fn next_item<'a>(
 }
 
 // Whether no token is left.
-#[tactic(auto, unfolding(sk_reading::specs::ItemReader::ends_text))]
+#[tactic(auto, unfolding(sk_parser_laws::specs::ItemReader::ends_text))]
 fn ends_text(tokens: &[Token]) -> bool
     ensures { result ≡ ends_text tokens.now }
 {
@@ -409,7 +409,7 @@ fn items_at<'a>(
 }
 
 /// The tree of all the tokens.
-#[tactic(auto, unfolding(sk_reading::specs::ItemReader::tree_at))]
+#[tactic(auto, unfolding(sk_parser_laws::specs::ItemReader::tree_at))]
 pub fn tree_at(alloc: Global, tokens: &[Token]) -> Result<Tree, Stop>
     ensures { Gives (λ tree. tree) result (tree_at tokens.now) }
 {

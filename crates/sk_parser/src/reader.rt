@@ -5,7 +5,7 @@ ghost use Rattle.sk_parser.specs.Parses.{IsTreeOf, ReadsAsNone, ReadsWithTooMany
 use crate::fault::ParseFault;
 use crate::item::tree_at;
 use crate::walk::faults_of;
-use sk_reading::Stop;
+use sk_parser_laws::Stop;
 use sk_tree::{Token, Tree};
 use std::alloc::Global;
 
@@ -44,7 +44,7 @@ fn read(alloc: Global, tokens: &[Token]) -> Result<Tree, ParseFault>
 }
 
 // The tree, if its patterns have no fault.
-#[tactic(auto, unfolding(sk_reading::specs::Faults::tally_of))]
+#[tactic(auto, unfolding(sk_parser_laws::specs::Faults::tally_of))]
 fn checked(alloc: Global, tokens: &[Token], tree: Tree) -> Result<Tree, ParseFault>
     ensures checks { Checks tree result }
     ensures place { IfErr result (λ e. place_of e ≤ greatest_end tokens.now) }

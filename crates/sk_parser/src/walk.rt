@@ -2,18 +2,18 @@
 ghost use Rattle.std.specs.Prelude.{◌≡◌, ◌++◌, [], true, map, flat_map, option_map, IfOk};
 ghost use Rattle.sk_tree.specs.Spelt.{is_there};
 ghost use Rattle.sk_tree.specs.Patterns.{join, any_patterns, expr_patterns, ty_patterns, declared_patterns, stmt_patterns, field_patterns, param_patterns, fun_patterns, item_patterns, patterns_of};
-ghost use Rattle.sk_reading.specs.StringReader.{strings_at};
-ghost use Rattle.sk_reading.specs.Faults.{no_faults, strings_seen, seen, all_seen, set_patterns};
+ghost use Rattle.sk_parser_laws.specs.StringReader.{strings_at};
+ghost use Rattle.sk_parser_laws.specs.Faults.{no_faults, strings_seen, seen, all_seen, set_patterns};
 ghost use Rattle.sk_parser.specs.Met.{tally};
 
 use sk_base::{Boxed, List};
-use sk_exprs::strings_at;
-use sk_reading::Stop;
-use sk_spell::{PatternFault, strings};
+use sk_parser_exprs::strings_at;
+use sk_parser_laws::Stop;
 use sk_tree::{
     Declared, EForm, Expr, Field, Form, FunItem, Item, NewField, Param, Pattern, Stmt, Token, Tree,
     TyTree,
 };
+use sk_tree_spell::{PatternFault, strings};
 use std::alloc::{AllocError, Global};
 
 /// Where the first pattern of each fault stands, as far as the walk has come.
@@ -47,7 +47,7 @@ fn read_all(alloc: Global, found: &[List<Token>]) -> Result<bool, AllocError>
 }
 
 // With the strings of a pattern that stands there.
-#[tactic(auto, unfolding(sk_reading::specs::Faults::strings_seen))]
+#[tactic(auto, unfolding(sk_parser_laws::specs::Faults::strings_seen))]
 fn see_strings(
     alloc: Global,
     faults: Faults,
@@ -67,7 +67,7 @@ fn see_strings(
 }
 
 // With a pattern that stands there.
-#[tactic(auto, unfolding(sk_reading::specs::Faults::seen))]
+#[tactic(auto, unfolding(sk_parser_laws::specs::Faults::seen))]
 fn see(alloc: Global, faults: Faults, at: u32, pattern: &Pattern) -> Result<Faults, AllocError>
     ensures { IfOk result (λ more. tally more ≡ seen (tally faults) pattern.now) }
 {
@@ -162,7 +162,7 @@ fn see_sets(alloc: Global, faults: Faults, fields: &[NewField]) -> Result<Faults
 }
 
 // With the patterns of an expression, where there is one.
-#[tactic(auto, using(sk_reading::proofs::Walks::all_seen_none))]
+#[tactic(auto, using(sk_parser_laws::proofs::Walks::all_seen_none))]
 fn see_perhaps(alloc: Global, faults: Faults, expr: &Option<Expr>) -> Result<Faults, AllocError>
     ensures { IfOk result (λ more. tally more ≡ all_seen (tally faults) (any_patterns expr_patterns expr.now)) }
 {
@@ -173,7 +173,7 @@ fn see_perhaps(alloc: Global, faults: Faults, expr: &Option<Expr>) -> Result<Fau
 }
 
 // With the patterns of a type.
-#[tactic(auto, using(sk_reading::proofs::Walks::join_map))]
+#[tactic(auto, using(sk_parser_laws::proofs::Walks::join_map))]
 fn see_ty(alloc: Global, faults: Faults, ty: &TyTree) -> Result<Faults, AllocError>
     ensures { IfOk result (λ more. tally more ≡ all_seen (tally faults) (ty_patterns ty.now)) }
 {
@@ -193,7 +193,7 @@ fn see_names(alloc: Global, faults: Faults, names: &[Declared]) -> Result<Faults
 }
 
 // With the patterns of a declaration.
-#[tactic(auto, using(sk_reading::proofs::Walks::all_seen_both))]
+#[tactic(auto, using(sk_parser_laws::proofs::Walks::all_seen_both))]
 fn see_declaration(
     alloc: Global,
     faults: Faults,
@@ -208,7 +208,7 @@ fn see_declaration(
 }
 
 // With the patterns of an assignment.
-#[tactic(auto, using(sk_reading::proofs::Walks::all_seen_both))]
+#[tactic(auto, using(sk_parser_laws::proofs::Walks::all_seen_both))]
 fn see_assignment(
     alloc: Global,
     faults: Faults,
@@ -223,7 +223,7 @@ fn see_assignment(
 }
 
 // With the patterns of a step.
-#[tactic(auto, using(sk_reading::proofs::Walks::all_seen_both))]
+#[tactic(auto, using(sk_parser_laws::proofs::Walks::all_seen_both))]
 fn see_step(
     alloc: Global,
     faults: Faults,
@@ -285,7 +285,7 @@ fn see_stmt(alloc: Global, faults: Faults, stmt: &Stmt) -> Result<Faults, AllocE
 
 // With the patterns of what stands behind an `else`, where there is one.
 #[cycle(stmt_faults)]
-#[tactic(auto, using(sk_reading::proofs::Walks::all_seen_none))]
+#[tactic(auto, using(sk_parser_laws::proofs::Walks::all_seen_none))]
 fn see_other(
     alloc: Global,
     faults: Faults,
@@ -334,7 +334,7 @@ fn see_params(alloc: Global, faults: Faults, params: &[Param]) -> Result<Faults,
 }
 
 // With the patterns of the type of a result.
-#[tactic(auto, using(sk_reading::proofs::Walks::all_seen_none))]
+#[tactic(auto, using(sk_parser_laws::proofs::Walks::all_seen_none))]
 fn see_answer(alloc: Global, faults: Faults, ty: &Option<TyTree>) -> Result<Faults, AllocError>
     ensures { IfOk result (λ more. tally more ≡ all_seen (tally faults) (any_patterns ty_patterns ty.now)) }
 {
@@ -345,7 +345,7 @@ fn see_answer(alloc: Global, faults: Faults, ty: &Option<TyTree>) -> Result<Faul
 }
 
 // With the patterns of a body.
-#[tactic(auto, using(sk_reading::proofs::Walks::join_map))]
+#[tactic(auto, using(sk_parser_laws::proofs::Walks::join_map))]
 fn see_body(alloc: Global, faults: Faults, body: &[Stmt]) -> Result<Faults, AllocError>
     ensures { IfOk result (λ more. tally more ≡ all_seen (tally faults) (flat_map stmt_patterns body.now)) }
 {
@@ -354,7 +354,7 @@ fn see_body(alloc: Global, faults: Faults, body: &[Stmt]) -> Result<Faults, Allo
 }
 
 // With the patterns of a function.
-#[tactic(auto, using(sk_reading::proofs::Walks::all_seen_both))]
+#[tactic(auto, using(sk_parser_laws::proofs::Walks::all_seen_both))]
 fn see_fun(alloc: Global, faults: Faults, fun: &FunItem) -> Result<Faults, AllocError>
     ensures { IfOk result (λ more. tally more ≡ all_seen (tally faults) (fun_patterns fun.now)) }
 {
@@ -365,7 +365,7 @@ fn see_fun(alloc: Global, faults: Faults, fun: &FunItem) -> Result<Faults, Alloc
 }
 
 // With the patterns of an item.
-#[tactic(auto, using(sk_reading::proofs::Walks::all_seen_none))]
+#[tactic(auto, using(sk_parser_laws::proofs::Walks::all_seen_none))]
 fn see_item(alloc: Global, faults: Faults, item: &Item) -> Result<Faults, AllocError>
     ensures { IfOk result (λ more. tally more ≡ all_seen (tally faults) (item_patterns item.now)) }
 {

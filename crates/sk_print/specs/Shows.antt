@@ -7,7 +7,7 @@ use Rattle.sk_tree.specs.Tokens.{AreTokens}
 use Rattle.sk_tree.specs.Reads.{Reads}
 use Rattle.sk_prog.specs.declared.prog.Prog.{Prog}
 use Rattle.sk_prog.specs.Spanless.{spanless}
-use Rattle.sk_types.specs.Types.{Types}
+use Rattle.sk_types_rules.specs.Types.{Types}
 
 pub record Shows (text : List ℕ) (bounds : Bounds) (prog : Prog) : Type 0 where
   pub tokens : List Token

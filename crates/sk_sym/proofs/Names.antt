@@ -16,10 +16,10 @@ use Rattle.sk_arr.specs.Answers.{shapes_value}
 use Rattle.sk_arr.proofs.Values.{value_bit, value_int, value_reference, value_array, map_push, all_push}
 use Rattle.sk_heap.specs.declared.slot.Slot.{Slot}
 use Rattle.sk_prog.specs.declared.value.Value.{Value}
-use Rattle.sk_seen.specs.Values.{place_of, holds_in, value_of, IsLive, AllLive}
-use Rattle.sk_seen.proofs.Parts.{live_bit, live_int, live_null, live_array, live_nil}
-use Rattle.sk_seen.proofs.Values.{value_agrees, values_agree}
-use Rattle.sk_seen.proofs.Heaps.{values_are}
+use Rattle.sk_heap_laws.specs.Values.{place_of, holds_in, value_of, IsLive, AllLive}
+use Rattle.sk_heap_laws.proofs.Parts.{live_bit, live_int, live_null, live_array, live_nil}
+use Rattle.sk_heap_laws.proofs.Values.{value_agrees, values_agree}
+use Rattle.sk_heap_laws.proofs.Heaps.{values_are}
 use Rattle.sk_sym_state.specs.Seen.{IsWorth, AreWorth}
 use Rattle.sk_sym.specs.Outcome.{NamesNone, AllNameNone}
 

@@ -23,8 +23,8 @@ use Rattle.sk_model.specs.Exec.{Flow, Onward, Returns, unless_returned, one_by_o
 use Rattle.sk_model.specs.Stands.{Payment as Amount}
 use Rattle.sk_model.specs.Fill.{minimize_of, before_body}
 use Rattle.sk_model.proofs.Forms.{exec_minimize, does_number}
-use Rattle.sk_paid.specs.declared.payment.Payment.{Payment}
-use Rattle.sk_paid.specs.Payments.{amounts, ArePayments}
+use Rattle.sk_sym_choices.specs.declared.payment.Payment.{Payment}
+use Rattle.sk_sym_choices.specs.Payments.{amounts, ArePayments}
 use Rattle.sk_sym_state.specs.declared.setting.Setting.{Setting}
 use Rattle.sk_sym_state.specs.declared.state.SymState.{SymState}
 use Rattle.sk_sym_state.specs.Stands.{StateStands}

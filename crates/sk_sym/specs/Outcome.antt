@@ -21,8 +21,8 @@ use Rattle.sk_model.specs.declared.outcome.Outcome.{Outcome}
 use Rattle.sk_model.specs.declared.outcome.Outcome.TheVariants as outcome
 use Rattle.sk_model.specs.Fill.{InRange}
 use Rattle.sk_model.specs.Open.{run_open}
-use Rattle.sk_folded.specs.Chosen.{chosen_values}
-use Rattle.sk_seen.specs.Values.{IsLive, AllLive}
+use Rattle.sk_sym_folds.specs.Chosen.{chosen_values}
+use Rattle.sk_heap_laws.specs.Values.{IsLive, AllLive}
 use Rattle.sk_sym_state.specs.declared.state.Ended.{Ended}
 use Rattle.sk_sym_state.specs.declared.state.SymState.{SymState}
 use Rattle.sk_sym_state.specs.Seen.{IsWorth, AreWorth}

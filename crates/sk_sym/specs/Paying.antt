@@ -10,8 +10,8 @@ use Rattle.sk_model.specs.Step.{Comp}
 use Rattle.sk_model.specs.Exec.{Flow, one_by_one, pay}
 use Rattle.sk_model.specs.Stands.{standing, all_paid}
 use Rattle.sk_model.specs.Stands.{Payment as Amount}
-use Rattle.sk_paid.specs.declared.payment.Payment.{Payment}
-use Rattle.sk_paid.specs.Payments.{amounts}
+use Rattle.sk_sym_choices.specs.declared.payment.Payment.{Payment}
+use Rattle.sk_sym_choices.specs.Payments.{amounts}
 use Rattle.sk_sym_state.specs.declared.setting.Setting.{Setting}
 use Rattle.sk_sym_state.specs.Meaning.{choice_at}
 

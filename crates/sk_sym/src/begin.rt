@@ -11,8 +11,8 @@ ghost use Rattle.sk_sym.specs.Beginning.{IsBeginning, AreConstants};
 use sk_arr::copy_shape;
 use sk_base::List;
 use sk_dag::{BoolId, CostId, Dag, Shape};
-use sk_folded::flag;
 use sk_heap::SymHeap;
+use sk_sym_folds::flag;
 use sk_sym_state::{Frame, SymState};
 use std::alloc::{AllocError, Global};
 

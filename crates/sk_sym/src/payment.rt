@@ -7,15 +7,15 @@ ghost use Rattle.sk_dag.specs.Graph.{Graph, Grows, HasBool, HasWord};
 ghost use Rattle.sk_dag.specs.Eval.{bool_value, word_value, Keeps};
 ghost use Rattle.sk_model.specs.Parts.{value};
 ghost use Rattle.sk_holes.specs.Needs.{HasItsSites};
-ghost use Rattle.sk_paid.specs.Payments.{AllOwed};
+ghost use Rattle.sk_sym_choices.specs.Payments.{AllOwed};
 ghost use Rattle.sk_sym_state.specs.Stands.{StateStands};
 ghost use Rattle.sk_sym_state.specs.Meaning.{Executes, ExecutesOn, choice_at};
 ghost use Rattle.sk_sym.specs.Paying.{AreAmounts, pays, first_paid, program_pays};
 
 use sk_dag::{Dag, WordId};
-use sk_folded::{hole_number, mux, word};
-use sk_paid::{Payment, payments};
 use sk_prog::FunKind;
+use sk_sym_choices::{Payment, payments};
+use sk_sym_folds::{hole_number, mux, word};
 use sk_sym_state::{Setting, SymState};
 use sk_sym_steps::pay;
 use std::alloc::AllocError;

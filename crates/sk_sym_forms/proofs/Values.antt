@@ -13,9 +13,9 @@ use Rattle.sk_prog.specs.declared.value.Value.{Value}
 use Rattle.sk_prog.specs.declared.value.Value.TheVariants as value
 use Rattle.sk_model.specs.declared.expanded.Choice.{Choice}
 use Rattle.sk_model.specs.Step.{pure}
-use Rattle.sk_seen.specs.Values.{place_of, holds_in, value_of}
-use Rattle.sk_seen.proofs.Parts.{of_int}
-use Rattle.sk_literals.specs.Given.{IsGiven, IsMade, IsChosen}
+use Rattle.sk_heap_laws.specs.Values.{place_of, holds_in, value_of}
+use Rattle.sk_heap_laws.proofs.Parts.{of_int}
+use Rattle.sk_sym_literals.specs.Given.{IsGiven, IsMade, IsChosen}
 use Rattle.sk_sym_state.specs.declared.setting.Setting.{Setting}
 use Rattle.sk_sym_state.specs.declared.state.SymState.{SymState}
 use Rattle.sk_sym_state.specs.Seen.{IsWorth}

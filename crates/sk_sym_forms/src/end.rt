@@ -9,10 +9,10 @@ ghost use Rattle.sk_sym_state.specs.Meaning.{Executes};
 
 use sk_base::Span;
 use sk_dag::Dag;
-use sk_folded::flag;
-use sk_literals::zero_of;
 use sk_prog::Ty;
+use sk_sym_folds::flag;
 use sk_sym_frames::give;
+use sk_sym_literals::zero_of;
 use sk_sym_state::{Setting, SymState};
 use std::alloc::AllocError;
 

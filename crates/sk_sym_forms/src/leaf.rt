@@ -11,8 +11,8 @@ ghost use Rattle.sk_sym_state.specs.Stands.{StateStands};
 ghost use Rattle.sk_sym_state.specs.Meaning.{Evaluates, choice_at};
 
 use sk_dag::{Dag, Shape};
-use sk_literals::{bit, const_value, hole_value, literal, null};
 use sk_prog::{ConstDef, ConstId, Prog, Ty};
+use sk_sym_literals::{bit, const_value, hole_value, literal, null};
 use sk_sym_state::{Setting, SymState};
 use std::alloc::AllocError;
 

@@ -12,9 +12,9 @@ ghost use Rattle.sk_sym_forms.specs.Forms.{single_does};
 
 use sk_base::Span;
 use sk_dag::{Dag, Shape};
-use sk_literals::padded_at;
 use sk_prog::{StructId, Ty, UnOp};
 use sk_sym_leaves::{convert, operate_one};
+use sk_sym_literals::padded_at;
 use sk_sym_state::{Setting, SymState};
 use sk_sym_steps::read_field;
 use std::alloc::AllocError;

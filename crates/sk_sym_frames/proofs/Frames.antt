@@ -17,8 +17,8 @@ use Rattle.sk_model.specs.Heap.{blank}
 use Rattle.sk_model.specs.Eval.{Called}
 use Rattle.sk_model.specs.Exec.{Flow, Onward, Returns}
 use Rattle.sk_model.specs.Run.{result_of, refs_from, first_slots, in_frame}
-use Rattle.sk_seen.specs.Heaps.{HeapGrows, HeapLive, heap_value}
-use Rattle.sk_seen.proofs.Grown.{HeapGrows-refl}
+use Rattle.sk_heap_laws.specs.Heaps.{HeapGrows, HeapLive, heap_value}
+use Rattle.sk_heap_laws.proofs.Grown.{HeapGrows-refl}
 use Rattle.sk_sym_state.specs.declared.setting.Setting.{Setting}
 use Rattle.sk_sym_state.specs.declared.state.Ended.{Ended}
 use Rattle.sk_sym_state.specs.declared.state.Frame.{Frame}

@@ -16,7 +16,7 @@ use Rattle.sk_prog.specs.declared.prog.ParamDef.{ParamDef}
 use Rattle.sk_heap.specs.declared.slot.Slot.{Slot}
 use Rattle.sk_model.specs.Heap.{blank}
 use Rattle.sk_model.specs.Run.{refs_from}
-use Rattle.sk_seen.specs.Values.{place_of, holds_in, value_of, value_in, IsLive}
+use Rattle.sk_heap_laws.specs.Values.{place_of, holds_in, value_of, value_in, IsLive}
 use Rattle.sk_sym_state.specs.Seen.{AreWorth}
 use Rattle.sk_sym_state.specs.Shows.{AreFrontOf}
 use Rattle.sk_sym_frames.specs.Ended.{AreRefs}

@@ -20,9 +20,9 @@ use Rattle.sk_heap.specs.declared.slot.Slot.{Slot}
 use Rattle.sk_model.specs.Values.{zero_of}
 use Rattle.sk_model.specs.Exec.{Onward, Returns}
 use Rattle.sk_model.specs.Run.{result_of, refs_from}
-use Rattle.sk_seen.specs.Values.{place_of, holds_in, value_of, IsLive, AllLive}
-use Rattle.sk_seen.proofs.Heaps.{values_are}
-use Rattle.sk_literals.specs.Given.{IsGiven as IsAlwaysWorth}
+use Rattle.sk_heap_laws.specs.Values.{place_of, holds_in, value_of, IsLive, AllLive}
+use Rattle.sk_heap_laws.proofs.Heaps.{values_are}
+use Rattle.sk_sym_literals.specs.Given.{IsGiven as IsAlwaysWorth}
 use Rattle.sk_sym_state.specs.declared.state.Ended.{Ended}
 use Rattle.sk_sym_state.specs.Seen.{IsWorth, AreWorth}
 use Rattle.sk_sym_state.specs.Stands.{EndedStands}

@@ -10,9 +10,9 @@ ghost use Rattle.sk_sym_frames.specs.Ended.{AreRefs, IsResult, IsEnd, IsEitherRe
 use sk_arr::copy_shape;
 use sk_base::List;
 use sk_dag::{BoolId, Dag, Shape};
-use sk_folded::known_bool;
-use sk_literals::zero_of;
 use sk_prog::{Fun, ParamDef, Ty};
+use sk_sym_folds::known_bool;
+use sk_sym_literals::zero_of;
 use sk_sym_state::{Ended, join_shapes};
 use std::alloc::{AllocError, Global};
 

@@ -15,8 +15,8 @@ ghost use Rattle.sk_sym_frames.specs.Frames.{IsEntered, IsLeft, CallerStands, Go
 use crate::ended::{end_of, given, latest};
 use sk_base::List;
 use sk_dag::{BoolId, Dag, Shape};
-use sk_folded::{flag, or};
 use sk_prog::Fun;
+use sk_sym_folds::{flag, or};
 use sk_sym_state::{Ended, Frame, Setting, SymState};
 use std::alloc::AllocError;
 

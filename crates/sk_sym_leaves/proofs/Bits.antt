@@ -10,8 +10,8 @@ use Rattle.sk_dag.specs.EvalShape.{shape_value}
 use Rattle.sk_arr.proofs.Values.{value_bit}
 use Rattle.sk_heap.specs.declared.slot.Slot.{Slot}
 use Rattle.sk_prog.specs.declared.value.Value.{Value}
-use Rattle.sk_seen.specs.Values.{place_of, holds_in, value_of}
-use Rattle.sk_seen.proofs.Parts.{of_bit}
+use Rattle.sk_heap_laws.specs.Values.{place_of, holds_in, value_of}
+use Rattle.sk_heap_laws.proofs.Parts.{of_bit}
 use Rattle.sk_sym_state.specs.Seen.{IsWorth}
 use Rattle.sk_sym_state.specs.Branching.{IsBit}
 

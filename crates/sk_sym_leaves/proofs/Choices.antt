@@ -12,9 +12,9 @@ use Rattle.sk_heap.specs.declared.slot.Slot.{Slot}
 use Rattle.sk_prog.specs.declared.value.Value.{Value}
 use Rattle.sk_model.specs.Step.{Comp}
 use Rattle.sk_model.specs.Eval.{choose}
-use Rattle.sk_seen.specs.Heaps.{HeapGrows}
-use Rattle.sk_seen.specs.Values.{place_of, holds_in, value_of, IsLive}
-use Rattle.sk_seen.proofs.Grown.{HeapGrows-refl, HeapGrows-trans}
+use Rattle.sk_heap_laws.specs.Heaps.{HeapGrows}
+use Rattle.sk_heap_laws.specs.Values.{place_of, holds_in, value_of, IsLive}
+use Rattle.sk_heap_laws.proofs.Grown.{HeapGrows-refl, HeapGrows-trans}
 use Rattle.sk_sym_state.specs.declared.branch.Side.{Side}
 use Rattle.sk_sym_state.specs.declared.setting.Setting.{Setting}
 use Rattle.sk_sym_state.specs.declared.state.SymState.{SymState}

@@ -16,9 +16,9 @@ use Rattle.sk_prog.specs.declared.value.Value.{Value}
 use Rattle.sk_prog.specs.declared.value.Value.TheVariants as value
 use Rattle.sk_model.specs.Step.{State, Step, Goes, Fails, Skips, Comp, and_then, ◌>>=◌, pure}
 use Rattle.sk_model.specs.Eval.{Does as Meaning, in_order}
-use Rattle.sk_seen.specs.Values.{place_of, holds_in, value_of, value_in, IsLive}
-use Rattle.sk_seen.proofs.Parts.{of_array, live_array}
-use Rattle.sk_seen.proofs.Heaps.{values_are}
+use Rattle.sk_heap_laws.specs.Values.{place_of, holds_in, value_of, value_in, IsLive}
+use Rattle.sk_heap_laws.proofs.Parts.{of_array, live_array}
+use Rattle.sk_heap_laws.proofs.Heaps.{values_are}
 use Rattle.sk_sym_state.specs.declared.setting.Setting.{Setting}
 use Rattle.sk_sym_state.specs.declared.state.SymState.{SymState}
 use Rattle.sk_sym_state.specs.Seen.{IsWorth, AreWorth}

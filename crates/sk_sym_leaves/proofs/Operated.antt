@@ -16,10 +16,10 @@ use Rattle.sk_prog.specs.declared.expr.UnOp.{UnOp}
 use Rattle.sk_model.specs.Step.{State, Comp}
 use Rattle.sk_model.specs.Eval.{indexed, sliced}
 use Rattle.sk_model.specs.Operators.{operator, unary_operator, to_int}
-use Rattle.sk_seen.specs.Values.{holds_in, value_in, AllLive}
-use Rattle.sk_seen.proofs.Parts.{live_nil, live_cons}
-use Rattle.sk_operate.specs.Answers.{IsOperated}
-use Rattle.sk_operate.specs.Worth.{worth, answered}
+use Rattle.sk_heap_laws.specs.Values.{holds_in, value_in, AllLive}
+use Rattle.sk_heap_laws.proofs.Parts.{live_nil, live_cons}
+use Rattle.sk_sym_operators.specs.Answers.{IsOperated}
+use Rattle.sk_sym_operators.specs.Worth.{worth, answered}
 use Rattle.sk_sym_state.specs.declared.setting.Setting.{Setting}
 use Rattle.sk_sym_state.specs.declared.state.SymState.{SymState}
 use Rattle.sk_sym_state.specs.Seen.{IsWorth}

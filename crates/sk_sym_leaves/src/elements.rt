@@ -9,7 +9,7 @@ ghost use Rattle.sk_sym_steps.specs.Steps.{EvaluatesOn, AreTwo};
 
 use sk_base::Span;
 use sk_dag::{Dag, Shape};
-use sk_operate::{indexed, sliced};
+use sk_sym_operators::{indexed, sliced};
 use sk_sym_state::{Setting, SymState};
 use std::alloc::AllocError;
 

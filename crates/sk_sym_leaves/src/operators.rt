@@ -10,8 +10,8 @@ ghost use Rattle.sk_sym_steps.specs.Steps.{EvaluatesOn, AreTwo};
 
 use sk_base::Span;
 use sk_dag::{Dag, Shape};
-use sk_operate::{operator, to_int, unary};
 use sk_prog::{BinOp, UnOp};
+use sk_sym_operators::{operator, to_int, unary};
 use sk_sym_state::{Setting, SymState};
 use std::alloc::AllocError;
 

@@ -15,11 +15,11 @@ use Rattle.sk_model.specs.Exec.{Flow, Onward, Returns}
 use Rattle.sk_sym_state.specs.declared.branch.Side.{Side}
 use Rattle.sk_sym_state.specs.declared.state.SymState.{SymState}
 use Rattle.sk_sym_state.specs.declared.setting.Setting.{Setting}
-use Rattle.sk_seen.specs.Heaps.{HeapGrows}
+use Rattle.sk_heap_laws.specs.Heaps.{HeapGrows}
 use Rattle.sk_sym_state.specs.Shows.{AreFrontOf, Shows, SeesFlow, Sees, Carries, Stays}
 use Rattle.sk_sym_state.specs.Meaning.{IsLater, Moves, Executes, Does, ExecutesOn, DoesOn}
 use Rattle.sk_sym_state.specs.Branching.{IsBit, IsForked, AreTurned, AreJoined}
-use Rattle.sk_seen.proofs.Grown.{HeapGrows-refl, HeapGrows-trans}
+use Rattle.sk_heap_laws.proofs.Grown.{HeapGrows-refl, HeapGrows-trans}
 use Rattle.sk_sym_state.proofs.Carrying.{Carries-trans, Carries-along, failed_over, skipped_over, returned_over, shows_over, front_grown, later_keeps}
 
 and_false : (a b : Bool) → a ≡ false → (a && b) ≡ false

@@ -12,11 +12,11 @@ use Rattle.sk_model.specs.Step.{State}
 use Rattle.sk_heap.specs.declared.slot.Slot.{Slot}
 use Rattle.sk_sym_state.specs.declared.state.SymState.{SymState}
 use Rattle.sk_sym_state.specs.declared.setting.Setting.{Setting}
-use Rattle.sk_seen.specs.Heaps.{HeapGrows, HeapLive, heap_value}
+use Rattle.sk_heap_laws.specs.Heaps.{HeapGrows, HeapLive, heap_value}
 use Rattle.sk_sym_state.specs.Shows.{AreFrontOf, Shows, HasFailed, HasSkipped, EndedIs, HasReturned, Carries, AreAlong}
 use Rattle.sk_sym_state.specs.Meaning.{IsLater, Moves}
 use Rattle.sk_arr.specs.Answers.{shapes_value}
-use Rattle.sk_seen.proofs.Grown.{HeapGrows-trans, values_grow, all_live_grows}
+use Rattle.sk_heap_laws.proofs.Grown.{HeapGrows-trans, values_grow, all_live_grows}
 
 pub Carries-refl : (g : Graph) (e : Env) (s : SymState) → Carries g e s s
 Carries-refl g e s = record { failed = refl; skipped = refl; returned = refl; cost = refl; heap = λ l. refl; lives = λ h. h; ended = λ v refs h. h }

@@ -8,7 +8,7 @@ use Rattle.sk_dag.specs.Eval.{bool_value, Keeps}
 use Rattle.sk_base.specs.declared.span.Span.{Span}
 use Rattle.sk_model.specs.Step.{State, Goes, Fails, Comp}
 use Rattle.sk_model.specs.Exec.{Flow}
-use Rattle.sk_seen.proofs.Grown.{HeapGrows-refl}
+use Rattle.sk_heap_laws.proofs.Grown.{HeapGrows-refl}
 use Rattle.sk_sym_state.specs.declared.setting.Setting.{Setting}
 use Rattle.sk_sym_state.specs.declared.state.SymState.{SymState}
 use Rattle.sk_sym_state.specs.Stands.{StateStands}

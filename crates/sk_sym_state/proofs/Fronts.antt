@@ -14,8 +14,8 @@ use Rattle.sk_arr.proofs.Standing.{AllStand-keeps}
 use Rattle.sk_arr.proofs.Values.{map_push, stand_push}
 use Rattle.sk_prog.specs.declared.value.Value.{Value}
 use Rattle.sk_heap.specs.declared.slot.Slot.{Slot}
-use Rattle.sk_seen.proofs.Heaps.{values_are}
-use Rattle.sk_seen.specs.Values.{place_of, holds_in, value_of, values_in, IsLive}
+use Rattle.sk_heap_laws.proofs.Heaps.{values_are}
+use Rattle.sk_heap_laws.specs.Values.{place_of, holds_in, value_of, values_in, IsLive}
 use Rattle.sk_sym_state.specs.Shows.{AreFrontOf}
 use Rattle.sk_sym_state.specs.Branching.{AreMerged, AreFrontIn}
 

@@ -16,9 +16,9 @@ use Rattle.sk_prog.specs.declared.value.Value.{Value}
 use Rattle.sk_heap.specs.declared.slot.Slot.{Slot}
 use Rattle.sk_model.specs.Step.{State}
 use Rattle.sk_model.specs.Heap.{blank, written, read, write}
-use Rattle.sk_seen.specs.Values.{place_of, holds_in, value_of, value_in, values_in, IsLive}
-use Rattle.sk_seen.proofs.Grown.{HeapGrows-refl}
-use Rattle.sk_seen.proofs.Fields.{map_set}
+use Rattle.sk_heap_laws.specs.Values.{place_of, holds_in, value_of, value_in, values_in, IsLive}
+use Rattle.sk_heap_laws.proofs.Grown.{HeapGrows-refl}
+use Rattle.sk_heap_laws.proofs.Fields.{map_set}
 use Rattle.sk_sym_state.specs.declared.setting.Setting.{Setting}
 use Rattle.sk_sym_state.specs.declared.state.SymState.{SymState}
 use Rattle.sk_sym_state.specs.Seen.{IsWorth}

@@ -5,8 +5,8 @@ use Rattle.sk_dag.specs.declared.shape.Shape.{Shape}
 use Rattle.sk_dag.specs.Graph.{Graph}
 use Rattle.sk_prog.specs.declared.value.Value.{Value}
 use Rattle.sk_heap.specs.declared.slot.Slot.{Slot}
-use Rattle.sk_seen.specs.Heaps.{HeapGrows}
-use Rattle.sk_seen.proofs.Grown.{value_grows, values_grow, shape_live_grows, all_live_grows}
+use Rattle.sk_heap_laws.specs.Heaps.{HeapGrows}
+use Rattle.sk_heap_laws.proofs.Grown.{value_grows, values_grow, shape_live_grows, all_live_grows}
 use Rattle.sk_arr.specs.Answers.{shapes_value}
 use Rattle.sk_sym_state.specs.Seen.{IsWorth, AreWorth}
 

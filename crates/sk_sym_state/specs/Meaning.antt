@@ -12,8 +12,8 @@ use Rattle.sk_model.specs.declared.expanded.Choice.{Choice}
 use Rattle.sk_model.specs.Step.{State, Comp}
 use Rattle.sk_model.specs.Exec.{Flow}
 use Rattle.sk_model.specs.Fill.{InRange}
-use Rattle.sk_folded.specs.Chosen.{chosen_values}
-use Rattle.sk_seen.specs.Heaps.{HeapGrows}
+use Rattle.sk_sym_folds.specs.Chosen.{chosen_values}
+use Rattle.sk_heap_laws.specs.Heaps.{HeapGrows}
 use Rattle.sk_sym_state.specs.Seen.{IsWorth}
 use Rattle.sk_arr.specs.Shapes.{Stands}
 use Rattle.sk_sym_state.specs.Stands.{StateStands}

@@ -6,7 +6,7 @@ use Rattle.sk_dag.specs.Graph.{Graph}
 use Rattle.sk_arr.specs.Answers.{shapes_value}
 use Rattle.sk_prog.specs.declared.value.Value.{Value}
 use Rattle.sk_heap.specs.declared.slot.Slot.{Slot}
-use Rattle.sk_seen.specs.Values.{holds_in, value_in, values_in, AllLive, ShapeLive}
+use Rattle.sk_heap_laws.specs.Values.{holds_in, value_in, values_in, AllLive, ShapeLive}
 
 pub record IsWorth (g : Graph) (e : Env) (heap : List Slot) (r : Shape) (v : Value) : Type 0 where
   pub value : value_in g e heap r ≡ v

@@ -12,8 +12,8 @@ use Rattle.sk_heap.specs.declared.slot.Slot.{Slot}
 use Rattle.sk_model.specs.Step.{State, Step, Goes, Fails, Skips}
 use Rattle.sk_model.specs.Exec.{Flow, Onward, Returns}
 use Rattle.sk_model.specs.Run.{result_of, refs_from}
-use Rattle.sk_seen.specs.Values.{values_in}
-use Rattle.sk_seen.specs.Heaps.{heap_value, HeapLive}
+use Rattle.sk_heap_laws.specs.Values.{values_in}
+use Rattle.sk_heap_laws.specs.Heaps.{heap_value, HeapLive}
 use Rattle.sk_sym_state.specs.Seen.{ShapesLive, IsWorth, AreWorth}
 use Rattle.sk_sym_state.specs.declared.state.Ended.{Ended}
 use Rattle.sk_sym_state.specs.declared.state.SymState.{SymState}

@@ -13,7 +13,7 @@ use crate::shapes::{copies, join_shapes};
 use crate::state::SymState;
 use sk_base::List;
 use sk_dag::{BoolId, Dag, Shape};
-use sk_folded::{and, and_not, known_bool, or};
+use sk_sym_folds::{and, and_not, known_bool, or};
 use std::alloc::{AllocError, Global};
 
 /// Where a branch began, and where its two ways did.

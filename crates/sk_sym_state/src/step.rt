@@ -10,7 +10,7 @@ ghost use Rattle.sk_sym_state.specs.Meaning.{FailsWhere, SkipsWhere};
 use crate::setting::Setting;
 use crate::state::SymState;
 use sk_dag::{BoolId, Dag};
-use sk_folded::{and, and_not, or};
+use sk_sym_folds::{and, and_not, or};
 use std::alloc::AllocError;
 
 /// A path, and whether the run has ended in one way.

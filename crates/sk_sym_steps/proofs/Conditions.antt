@@ -14,8 +14,8 @@ use Rattle.sk_prog.specs.declared.value.Value.{Value}
 use Rattle.sk_prog.specs.declared.value.Value.TheVariants as value
 use Rattle.sk_model.specs.Step.{State}
 use Rattle.sk_heap.specs.declared.slot.Slot.{Slot}
-use Rattle.sk_seen.specs.Values.{place_of, holds_in, value_of}
-use Rattle.sk_seen.proofs.Parts.{of_bit}
+use Rattle.sk_heap_laws.specs.Values.{place_of, holds_in, value_of}
+use Rattle.sk_heap_laws.proofs.Parts.{of_bit}
 use Rattle.sk_sym_state.specs.declared.setting.Setting.{Setting}
 use Rattle.sk_sym_state.specs.declared.state.SymState.{SymState}
 use Rattle.sk_sym_state.specs.Seen.{IsWorth}

@@ -18,7 +18,7 @@ use Rattle.sk_prog.specs.declared.value.Value.{Value as Worth}
 use Rattle.sk_prog.specs.declared.value.Value.TheVariants as value
 use Rattle.sk_model.specs.Step.{State}
 use Rattle.sk_model.specs.Exec.{pay}
-use Rattle.sk_seen.proofs.Grown.{HeapGrows-refl}
+use Rattle.sk_heap_laws.proofs.Grown.{HeapGrows-refl}
 use Rattle.sk_sym_state.specs.declared.setting.Setting.{Setting}
 use Rattle.sk_sym_state.specs.declared.state.SymState.{SymState}
 use Rattle.sk_sym_state.specs.Stands.{StateStands}

@@ -23,9 +23,9 @@ use Rattle.sk_heap.specs.Answers.{struct_of, IsAllocated, IsFieldRead}
 use Rattle.sk_heap.specs.Heaps.{is_struct, is_of, HeapStands, RefersTo}
 use Rattle.sk_heap.proofs.Heaps.{SlotsPass-more}
 use Rattle.sk_model.specs.Heap.{read_field, allocate, zeros_of}
-use Rattle.sk_seen.specs.Values.{value_in, ShapeLive}
-use Rattle.sk_seen.proofs.Allocs.{allocated_grows, allocated_heap, unallocated_heap, allocated_value, allocated_live, allocated_heap_live}
-use Rattle.sk_seen.proofs.Fields.{read_null, read_goes, read_live}
+use Rattle.sk_heap_laws.specs.Values.{value_in, ShapeLive}
+use Rattle.sk_heap_laws.proofs.Allocs.{allocated_grows, allocated_heap, unallocated_heap, allocated_value, allocated_live, allocated_heap_live}
+use Rattle.sk_heap_laws.proofs.Fields.{read_null, read_goes, read_live}
 use Rattle.sk_sym_state.specs.declared.setting.Setting.{Setting}
 use Rattle.sk_sym_state.specs.declared.state.SymState.{SymState}
 use Rattle.sk_sym_state.specs.declared.state.Ended.{Ended}
@@ -37,7 +37,7 @@ use Rattle.sk_sym_state.proofs.Worth.{IsWorth-grown, AreWorth-grown}
 use Rattle.sk_sym_state.proofs.Carrying.{later_keeps, front_grown}
 use Rattle.sk_sym_state.proofs.Standing.{StateStands-keeps}
 use Rattle.sk_sym_state.proofs.Ends.{fails_or_goes}
-use Rattle.sk_seen.specs.Heaps.{HeapGrows}
+use Rattle.sk_heap_laws.specs.Heaps.{HeapGrows}
 use Rattle.sk_sym_steps.specs.Steps.{same_kind, is_kind, EvaluatesOn}
 
 -- the structs of the slots tell which slots are of a struct

@@ -10,7 +10,7 @@ ghost use Rattle.sk_sym_steps.specs.Steps.{asserted, assumed};
 
 use sk_base::Span;
 use sk_dag::{Dag, Shape};
-use sk_folded::not;
+use sk_sym_folds::not;
 use sk_sym_state::{Setting, SymState};
 use std::alloc::AllocError;
 

@@ -11,7 +11,7 @@ ghost use Rattle.sk_sym_state.specs.Meaning.{ExecutesOn};
 
 use sk_base::Span;
 use sk_dag::{BoolId, Dag, WordId};
-use sk_folded::{cost_add, lt, word};
+use sk_sym_folds::{cost_add, lt, word};
 use sk_sym_state::{Setting, SymState};
 use std::alloc::AllocError;
 

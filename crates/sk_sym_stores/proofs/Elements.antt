@@ -17,8 +17,8 @@ use Rattle.sk_prog.specs.declared.value.Value.{Value}
 use Rattle.sk_prog.specs.declared.value.Value.TheVariants as value
 use Rattle.sk_prog.specs.declared.value.Value.TheViews.{outs-Array}
 use Rattle.sk_model.specs.Values.{elements_of, elements, element, replaced}
-use Rattle.sk_seen.specs.Values.{value_of, IsLive, AllLive}
-use Rattle.sk_seen.proofs.Fields.{map_set}
+use Rattle.sk_heap_laws.specs.Values.{value_of, IsLive, AllLive}
+use Rattle.sk_heap_laws.proofs.Fields.{map_set}
 use Rattle.sk_sym_stores.specs.Replaced.{HasElement}
 
 -- the array as it is written where the guard always holds

@@ -29,11 +29,11 @@ use Rattle.sk_model.specs.Step.{State, Step, Goes, Fails, Skips, Comp, and_then,
 use Rattle.sk_model.specs.Heap as model
 use Rattle.sk_model.specs.Values.{replaced}
 use Rattle.sk_model.specs.Eval.{or_fail}
-use Rattle.sk_seen.specs.Values.{holds_in, value_in, ShapeLive}
-use Rattle.sk_seen.specs.Heaps.{heap_value}
-use Rattle.sk_seen.proofs.Fields.{read_null, read_goes, read_live, written_grows, unwritten_heap}
-use Rattle.sk_seen.proofs.Grown.{StaysOf-grows}
-use Rattle.sk_seen.proofs.Writes.{write_null, write_goes, written_live}
+use Rattle.sk_heap_laws.specs.Values.{holds_in, value_in, ShapeLive}
+use Rattle.sk_heap_laws.specs.Heaps.{heap_value}
+use Rattle.sk_heap_laws.proofs.Fields.{read_null, read_goes, read_live, written_grows, unwritten_heap}
+use Rattle.sk_heap_laws.proofs.Grown.{StaysOf-grows}
+use Rattle.sk_heap_laws.proofs.Writes.{write_null, write_goes, written_live}
 use Rattle.sk_sym_state.specs.declared.setting.Setting.{Setting}
 use Rattle.sk_sym_state.specs.declared.state.SymState.{SymState}
 use Rattle.sk_sym_state.specs.Seen.{IsWorth}

@@ -19,9 +19,9 @@ use Rattle.sk_prog.specs.declared.value.Value.TheVariants as value
 use Rattle.sk_model.specs.Step.{Step, Goes, Fails, Skips, Comp, and_then, ◌>>=◌, pure}
 use Rattle.sk_model.specs.Heap as model
 use Rattle.sk_model.specs.Eval.{add_index}
-use Rattle.sk_seen.specs.Heaps.{HeapGrows}
-use Rattle.sk_seen.specs.Values.{place_of, holds_in, value_of}
-use Rattle.sk_seen.proofs.Parts.{of_int}
+use Rattle.sk_heap_laws.specs.Heaps.{HeapGrows}
+use Rattle.sk_heap_laws.specs.Values.{place_of, holds_in, value_of}
+use Rattle.sk_heap_laws.proofs.Parts.{of_int}
 use Rattle.sk_sym_state.specs.declared.setting.Setting.{Setting}
 use Rattle.sk_sym_state.specs.declared.state.SymState.{SymState}
 use Rattle.sk_sym_state.specs.Seen.{IsWorth}

@@ -19,8 +19,8 @@ use Rattle.sk_prog.specs.declared.prog.Prog.{Prog}
 use Rattle.sk_model.specs.Step.{State, Step, Goes, Fails, Skips, Comp, and_then, ◌>>=◌, pure}
 use Rattle.sk_model.specs.Heap as model
 use Rattle.sk_model.specs.Eval.{Does as Meaning, fields_in_order}
-use Rattle.sk_seen.specs.Heaps.{HeapGrows}
-use Rattle.sk_seen.proofs.Fields.{set_last, index_last}
+use Rattle.sk_heap_laws.specs.Heaps.{HeapGrows}
+use Rattle.sk_heap_laws.proofs.Fields.{set_last, index_last}
 use Rattle.sk_sym_state.specs.declared.setting.Setting.{Setting}
 use Rattle.sk_sym_state.specs.declared.state.SymState.{SymState}
 use Rattle.sk_sym_state.specs.Seen.{IsWorth}

@@ -22,11 +22,11 @@ use Rattle.sk_arr.proofs.Values.{value_array, blank_array, length_map, parts_pas
 use Rattle.sk_prog.specs.declared.value.Value.{Value}
 use Rattle.sk_prog.specs.declared.value.Value.TheVariants as value
 use Rattle.sk_model.specs.Values.{replaced}
-use Rattle.sk_seen.specs.Values.{place_of, value_of, IsLive}
-use Rattle.sk_seen.proofs.Parts.{array_live, live_array}
-use Rattle.sk_operate.specs.Worth.{worth}
-use Rattle.sk_operate.proofs.Operating.{worth_array}
-use Rattle.sk_operate.proofs.Elements.{element_as, none_outside, element_live}
+use Rattle.sk_heap_laws.specs.Values.{place_of, value_of, IsLive}
+use Rattle.sk_heap_laws.proofs.Parts.{array_live, live_array}
+use Rattle.sk_sym_operators.specs.Worth.{worth}
+use Rattle.sk_sym_operators.proofs.Operating.{worth_array}
+use Rattle.sk_sym_operators.proofs.Elements.{element_as, none_outside, element_live}
 use Rattle.sk_sym_stores.specs.Locations.{AreWords}
 use Rattle.sk_sym_stores.specs.Replaced.{IsReplaced, HasElement, IsFirstIndex}
 use Rattle.sk_sym_stores.proofs.Elements.{set_at, replaced_in, map_replaced, replaced_live}

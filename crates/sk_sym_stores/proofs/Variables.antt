@@ -18,7 +18,7 @@ use Rattle.sk_model.specs.Heap as model
 use Rattle.sk_model.specs.Values.{replaced}
 use Rattle.sk_model.specs.Eval.{or_fail}
 use Rattle.sk_model.specs.Exec.{Onward, onward}
-use Rattle.sk_seen.specs.Values.{holds_in, value_in}
+use Rattle.sk_heap_laws.specs.Values.{holds_in, value_in}
 use Rattle.sk_sym_state.specs.declared.setting.Setting.{Setting}
 use Rattle.sk_sym_state.specs.declared.state.SymState.{SymState}
 use Rattle.sk_sym_state.specs.Seen.{IsWorth}

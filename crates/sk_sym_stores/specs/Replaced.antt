@@ -12,8 +12,8 @@ use Rattle.sk_arr.specs.Shapes.{blank, Alike, Stands, AllStand, SlotsPass, AllSl
 use Rattle.sk_arr.specs.Places.{is_within, replaced_at}
 use Rattle.sk_arr.specs.Answers.{shapes_value}
 use Rattle.sk_model.specs.Values.{replaced}
-use Rattle.sk_seen.specs.Values.{IsLive}
-use Rattle.sk_operate.specs.Worth.{worth}
+use Rattle.sk_heap_laws.specs.Values.{IsLive}
+use Rattle.sk_sym_operators.specs.Worth.{worth}
 
 -- The shape is the whole with the part that the indexes name replaced, and a node holds where an index leaves its array.
 -- It is of the form of the whole, names only slots that the two name, and is live where they are and no index leaves

@@ -11,8 +11,8 @@ ghost use Rattle.sk_sym_stores.specs.Replaced.{HasElement, IsFirstIndex};
 use sk_arr::{read, write_under};
 use sk_base::List;
 use sk_dag::{Dag, Shape, WordId};
-use sk_folded::flag;
-use sk_operate::{Operated, are_alike, like_all};
+use sk_sym_folds::flag;
+use sk_sym_operators::{Operated, are_alike, like_all};
 use std::alloc::{AllocError, Global};
 
 /// The first index of a list, and those behind it.

@@ -9,8 +9,8 @@ ghost use Rattle.sk_sym_stores.specs.Replaced.{IsReplaced};
 use crate::part::{element_at, first_index, row_in, with_element};
 use sk_arr::copy_shape;
 use sk_dag::{Dag, Shape, WordId};
-use sk_folded::{flag, or};
-use sk_operate::{Operated, alike};
+use sk_sym_folds::{flag, or};
+use sk_sym_operators::{Operated, alike};
 use std::alloc::{AllocError, Global};
 
 /// Another value in the place of a whole one. It has to be of its form.

@@ -29,11 +29,11 @@ use Rattle.sk_model.specs.Stands.{standing, all_paid}
 use Rattle.sk_model.specs.Heap.{blank}
 use Rattle.sk_model.specs.Run.{Bodies, result_of, refs_from, first_slots, in_frame, body_of, calls}
 use Rattle.sk_model.specs.Open.{open_stmt, open_bodies, sites_before}
-use Rattle.sk_folded.specs.Chosen.{chosen_values}
-use Rattle.sk_seen.specs.Values.{place_of, holds_in}
-use Rattle.sk_seen.specs.Heaps.{HeapGrows}
+use Rattle.sk_sym_folds.specs.Chosen.{chosen_values}
+use Rattle.sk_heap_laws.specs.Values.{place_of, holds_in}
+use Rattle.sk_heap_laws.specs.Heaps.{HeapGrows}
 use Rattle.sk_sym_state.proofs.Worth.{IsWorth-grown}
-use Rattle.sk_literals.specs.Given.{IsGiven}
+use Rattle.sk_sym_literals.specs.Given.{IsGiven}
 use Rattle.sk_sym_sites.specs.Places.{BeginsAt}
 use Rattle.sk_sym_state.specs.declared.setting.Setting.{Setting}
 use Rattle.sk_sym_state.specs.declared.state.Ended.{Ended}

@@ -17,7 +17,7 @@ use Rattle.sk_model.specs.Parts.{in_turn}
 use Rattle.sk_model.specs.Step.{State, Step, Goes, Fails, Skips, Comp, and_then, ◌>>=◌, pure}
 use Rattle.sk_model.specs.Heap.{store}
 use Rattle.sk_model.specs.Eval.{Does, ref_args, copy_back}
-use Rattle.sk_seen.specs.Values.{holds_in, value_in, values_in, IsLive}
+use Rattle.sk_heap_laws.specs.Values.{holds_in, value_in, values_in, IsLive}
 use Rattle.sk_sym_sites.specs.Counts.{expr_count}
 use Rattle.sk_sym_state.specs.declared.state.SymState.{SymState}
 use Rattle.sk_sym_state.specs.Seen.{AreWorth}

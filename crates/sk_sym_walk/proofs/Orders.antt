@@ -22,9 +22,9 @@ use Rattle.sk_model.specs.Step.{State, Comp, and_then, pure}
 use Rattle.sk_model.specs.Fill.{arrange}
 use Rattle.sk_model.specs.Exec.{Flow, Onward, unless_returned, one_by_one}
 use Rattle.sk_model.proofs.Layers.{stmt_layer}
-use Rattle.sk_paid.specs.Orders.{order}
-use Rattle.sk_paid.specs.Payments.{IsColumn}
-use Rattle.sk_paid.proofs.OrderLaws.{length_order, arranged, turn_of}
+use Rattle.sk_sym_choices.specs.Orders.{order}
+use Rattle.sk_sym_choices.specs.Payments.{IsColumn}
+use Rattle.sk_sym_choices.proofs.OrderLaws.{length_order, arranged, turn_of}
 use Rattle.sk_sym_sites.specs.Counts.{stmts_count}
 use Rattle.sk_sym_sites.proofs.Trees.{counts_body}
 use Rattle.sk_sym_state.specs.declared.state.SymState.{SymState}

@@ -19,8 +19,8 @@ use Rattle.sk_prog.specs.declared.value.Value.TheVariants as value
 use Rattle.sk_model.specs.Parts.{Part}
 use Rattle.sk_model.specs.Step.{State, Step, Goes, Fails, Skips, Comp, and_then, ◌>>=◌, pure}
 use Rattle.sk_model.specs.Exec.{Flow, Onward, Returns}
-use Rattle.sk_seen.specs.Values.{place_of, holds_in, value_of, IsLive}
-use Rattle.sk_seen.proofs.Parts.{of_bit, live_bit}
+use Rattle.sk_heap_laws.specs.Values.{place_of, holds_in, value_of, IsLive}
+use Rattle.sk_heap_laws.proofs.Parts.{of_bit, live_bit}
 use Rattle.sk_sym_state.specs.declared.setting.Setting.{Setting}
 use Rattle.sk_sym_state.specs.declared.state.SymState.{SymState}
 use Rattle.sk_sym_state.specs.Seen.{IsWorth}

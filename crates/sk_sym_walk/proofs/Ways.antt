@@ -16,8 +16,8 @@ use Rattle.sk_prog.specs.declared.value.Value.TheVariants as value
 use Rattle.sk_model.specs.Parts.{Part}
 use Rattle.sk_model.specs.Step.{State, Comp, pure}
 use Rattle.sk_model.specs.Exec.{Flow}
-use Rattle.sk_seen.specs.Heaps.{HeapGrows}
-use Rattle.sk_seen.proofs.Grown.{HeapGrows-refl, HeapGrows-trans}
+use Rattle.sk_heap_laws.specs.Heaps.{HeapGrows}
+use Rattle.sk_heap_laws.proofs.Grown.{HeapGrows-refl, HeapGrows-trans}
 use Rattle.sk_heap.specs.declared.slot.Slot.{Slot}
 use Rattle.sk_sym_state.specs.declared.branch.Side.{Side}
 use Rattle.sk_sym_state.specs.declared.setting.Setting.{Setting}

@@ -9,8 +9,8 @@ use Rattle.sk_model.specs.Parts.{Part, in_turn}
 use Rattle.sk_model.specs.Step.{Comp, pure}
 use Rattle.sk_model.specs.Fill.{arrange}
 use Rattle.sk_model.specs.Exec.{Flow, Onward, one_by_one}
-use Rattle.sk_paid.specs.Orders.{order}
-use Rattle.sk_paid.specs.Payments.{AreColumns}
+use Rattle.sk_sym_choices.specs.Orders.{order}
+use Rattle.sk_sym_choices.specs.Payments.{AreColumns}
 use Rattle.sk_sym_walk.specs.declared.activation.Activation.{Activation}
 use Rattle.sk_sym_walk.specs.Walk.{values_at, stmt_part, all_part}
 

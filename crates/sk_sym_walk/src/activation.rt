@@ -30,9 +30,9 @@ use crate::step::{
 };
 use sk_base::{Bounds, Boxed, List, Span};
 use sk_dag::{BoolId, Dag, Shape};
-use sk_folded::{and, known_bool, not, or};
-use sk_paid::orders;
 use sk_prog::{BinOp, Fun, FunId, PEForm, PExpr, PField, PForm, PStmt, ParamDef, StructId, Ty};
+use sk_sym_choices::orders;
+use sk_sym_folds::{and, known_bool, not, or};
 use sk_sym_forms::{
     Act, Double, Single, apply, apply_two, declare_zero, fail_here, give_nothing, perform,
 };

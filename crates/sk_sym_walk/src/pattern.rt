@@ -10,8 +10,8 @@ ghost use Rattle.sk_sym_walk.specs.Patterns.{AreExprs};
 
 use crate::step::size_of;
 use sk_dag::{BoolId, Dag};
-use sk_folded::{flag, not, site_above};
 use sk_prog::PExpr;
+use sk_sym_folds::{flag, not, site_above};
 use sk_sym_state::Setting;
 use std::alloc::AllocError;
 

@@ -17,9 +17,9 @@ ghost use Rattle.sk_sym_walk.specs.Orders.{IsNodeOf};
 
 use sk_base::{Boxed, List};
 use sk_dag::{BoolId, Dag, Shape};
-use sk_folded::{known_bool, site_above};
 use sk_model::Site;
 use sk_prog::{PEForm, PExpr, PStmt};
+use sk_sym_folds::{known_bool, site_above};
 use sk_sym_sites::{pass_expr, pass_stmt};
 use sk_sym_state::{Setting, Side, SymState, join_shapes};
 use std::alloc::AllocError;

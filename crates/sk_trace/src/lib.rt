@@ -5,13 +5,13 @@ mod shown;
 
 ghost use Rattle.std.specs.Prelude.{◌≡◌, ◌≤◌, IfOk, length, nat_lt, take};
 ghost use Rattle.sk_model.specs.Run.{run};
-ghost use Rattle.sk_path.specs.Path.{path};
+ghost use Rattle.sk_interp_laws.specs.Path.{path};
 ghost use Rattle.sk_trace.specs.Most.{most_steps};
 
 pub use shown::Trace;
 use sk_base::Bounds;
 use sk_interp::{Logged, run_with_log};
-use sk_path::Log;
+use sk_interp_laws::Log;
 use sk_prog::{FunId, Prog, Value};
 use std::alloc::{AllocError, Global};
 

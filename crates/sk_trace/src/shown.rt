@@ -1,6 +1,6 @@
 use sk_base::List;
+use sk_interp_laws::Step;
 use sk_model::Outcome;
-use sk_path::Step;
 
 /// A run: its first steps, whether there are others, and how it ends.
 #[derive(Debug, Drop)]

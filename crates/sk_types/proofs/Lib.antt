@@ -1,4 +1,6 @@
-pub mod Nearest
-pub mod SortLaws
-pub mod Layers
-pub mod ExampleLemmas
+pub mod TopLaws
+pub mod ItemLaws
+pub mod SignatureLaws
+pub mod FreeLaws
+pub mod WholeLaws
+pub mod CheckLaws

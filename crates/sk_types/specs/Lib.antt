@@ -1,9 +1,2 @@
-pub mod Rules
-pub mod Scope
-pub mod Plain
-pub mod Constants
-pub mod Sorts
-pub mod Types
-pub mod Erase
-pub mod WellTyped
-pub mod Examples
+pub mod Tops
+pub mod Places

@@ -1,13 +1,12 @@
-//! Which typed program a tree means: the rules of types, names and scopes.
+//! The program that a tree means: names at the top, items, bodies, and `check`.
 #![tactic(auto)]
 
-pub mod examples;
-mod rules;
-mod scope;
+mod bodies;
+mod items;
+mod meant;
+mod names;
+mod place;
+mod signature;
+mod steps;
 
-pub use rules::{
-    Class, Fit, Own, choice, class_of, element_of, fit_of, fits, flipped, hole_takes, in_range,
-    loose_takes, number_fits, number_own, number_takes, operand, operation_own, operator_of,
-    result_of, result_own, ty_eq, unary_of, unary_own,
-};
-pub use scope::{Place, Variable, is_taken, lookup};
+pub use meant::check;

@@ -1,5 +1,5 @@
 use Rattle.std.proofs.Common.{refl, subst}
-use Rattle.sk_lowered.specs.PlainTexts.{IsLowering}
+use Rattle.sk_adt_text.specs.PlainTexts.{IsLowering}
 use Rattle.sk_app.specs.declared.ending.Ending.TheVariants as ending
 use Rattle.sk_app.specs.Ends.{IsDelivered}
 use Rattle.sk_app.specs.Effects.{no_program, not_lowered, not_tagged, lowered}

@@ -1,6 +1,6 @@
 use Rattle.std.proofs.Common.{◌≡◌, drop, ◌++◌}
 use Rattle.std.specs.Prelude.{map}
-use Rattle.sk_standing.specs.Functions.{minimize_paid}
+use Rattle.sk_holes_standing.specs.Functions.{minimize_paid}
 use Rattle.sk_holes.proofs.program.minimize_all.Given as goal
 
 abbrev pub invariant-loop-p : goal.invariant-loop-p

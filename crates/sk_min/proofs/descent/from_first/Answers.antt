@@ -1,8 +1,8 @@
 use Rattle.std.proofs.Common.{IsTrue, refl, sym}
-use Rattle.sk_costs.specs.Free.{is_free}
+use Rattle.sk_min_costs.specs.Free.{is_free}
 use Rattle.sk_min.proofs.Bests.{best_at_zero}
 use Rattle.sk_min.proofs.Lowers.{state_first}
-use Rattle.sk_costs.proofs.Runs.{free_is_best}
+use Rattle.sk_min_costs.proofs.Runs.{free_is_best}
 use Rattle.sk_min.proofs.descent.from_first.Goals as goal
 
 pub returns-then-is_free : goal.returns-then-is_free

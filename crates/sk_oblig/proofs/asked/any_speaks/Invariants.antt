@@ -1,6 +1,6 @@
 use Rattle.std.proofs.Common.{◌≡◌, length, take}
 use Rattle.sk_dag.specs.Eval.{Keeps}
-use Rattle.sk_query.specs.Widths.{obligations_widths}
+use Rattle.sk_oblig_queries.specs.Widths.{obligations_widths}
 use Rattle.sk_oblig.specs.Nodes.{SaysAnyBad}
 use Rattle.sk_oblig.proofs.asked.any_speaks.Given as goal
 

@@ -1,6 +1,6 @@
 use Rattle.std.proofs.Common.{List, subst, sym}
 use Rattle.sk_model.specs.declared.expanded.Input.{Input}
-use Rattle.sk_query.specs.declared.query.Query.{Query}
+use Rattle.sk_oblig_queries.specs.declared.query.Query.{Query}
 use Rattle.sk_oblig.specs.Formulas.{IsAsked, IsRoot, SaysWanted}
 use Rattle.sk_oblig.proofs.Whole.{bad_root, bad_at_root, wanted_root}
 use Rattle.sk_oblig.proofs.formulas.root_of.Goals as goal

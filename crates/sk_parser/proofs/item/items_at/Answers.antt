@@ -1,7 +1,7 @@
 use Rattle.std.proofs.Common.{sym, ◌∙◌}
 use Rattle.std.proofs.lemmas.Result.{err_from_is_err_and}
-use Rattle.sk_reading.proofs.Loops.{fails_as, repeated_ends, repeated_stops, repeated_more}
-use Rattle.sk_reading.proofs.ItemTakes.{next_item_takes}
+use Rattle.sk_parser_laws.proofs.Loops.{fails_as, repeated_ends, repeated_stops, repeated_more}
+use Rattle.sk_parser_laws.proofs.ItemTakes.{next_item_takes}
 use Rattle.sk_parser.proofs.item.items_at.Goals as goal
 
 pub returns-in_err-more : goal.returns-in_err-more

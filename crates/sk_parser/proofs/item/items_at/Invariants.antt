@@ -1,6 +1,6 @@
 use Rattle.std.proofs.Common.{◌≡◌, length}
-use Rattle.sk_reading.specs.Readers.{repeated}
-use Rattle.sk_reading.specs.ItemReader.{ends_text, next_item}
+use Rattle.sk_parser_laws.specs.Readers.{repeated}
+use Rattle.sk_parser_laws.specs.ItemReader.{ends_text, next_item}
 use Rattle.sk_parser.proofs.item.items_at.Given as goal
 
 abbrev pub invariant-loop-alloc : goal.invariant-loop-alloc

@@ -1,7 +1,7 @@
 use Rattle.std.proofs.Common.{◌≡◌, length}
-use Rattle.sk_reading.specs.Readers.{repeated}
-use Rattle.sk_reading.specs.StmtReader.{ends_block}
-use Rattle.sk_reading.specs.ItemReader.{next_member}
+use Rattle.sk_parser_laws.specs.Readers.{repeated}
+use Rattle.sk_parser_laws.specs.StmtReader.{ends_block}
+use Rattle.sk_parser_laws.specs.ItemReader.{next_member}
 use Rattle.sk_parser.proofs.item.members_at.Given as goal
 
 abbrev pub invariant-loop-alloc : goal.invariant-loop-alloc

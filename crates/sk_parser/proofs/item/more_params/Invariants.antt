@@ -1,7 +1,7 @@
 use Rattle.std.proofs.Common.{◌≡◌, length}
-use Rattle.sk_reading.specs.Readers.{repeated}
-use Rattle.sk_reading.specs.ExprReader.{ends_row}
-use Rattle.sk_reading.specs.ItemReader.{next_param}
+use Rattle.sk_parser_laws.specs.Readers.{repeated}
+use Rattle.sk_parser_laws.specs.ExprReader.{ends_row}
+use Rattle.sk_parser_laws.specs.ItemReader.{next_param}
 use Rattle.sk_parser.proofs.item.more_params.Given as goal
 
 abbrev pub invariant-loop-alloc : goal.invariant-loop-alloc

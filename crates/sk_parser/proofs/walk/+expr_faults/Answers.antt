@@ -1,8 +1,8 @@
 use Rattle.std.proofs.Common.{◌≡◌, ap, sym}
 use Rattle.sk_tree.specs.declared.expr.EForm.TheVariants as eform
 use Rattle.sk_tree.specs.Patterns.{expr_patterns}
-use Rattle.sk_reading.specs.Faults.{all_seen, set_patterns}
-use Rattle.sk_reading.proofs.Walks.{join_map}
+use Rattle.sk_parser_laws.specs.Faults.{all_seen, set_patterns}
+use Rattle.sk_parser_laws.proofs.Walks.{join_map}
 use Rattle.sk_parser.proofs.FormPatterns.{of_true, of_false, of_null, of_number, of_word, of_hole, of_pattern, of_index, of_slice, of_binary, of_cond}
 use Rattle.sk_parser.proofs.WalkLaws.{none_seen, one_seen, two_seen, three_seen, item_seen, list_seen}
 use Rattle.sk_parser.proofs.walk.+expr_faults.Goals as goal

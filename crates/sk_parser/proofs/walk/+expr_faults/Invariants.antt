@@ -1,6 +1,6 @@
 use Rattle.std.proofs.Common.{◌≡◌, drop, map, flat_map}
 use Rattle.sk_tree.specs.Patterns.{join, expr_patterns}
-use Rattle.sk_reading.specs.Faults.{all_seen, set_patterns}
+use Rattle.sk_parser_laws.specs.Faults.{all_seen, set_patterns}
 use Rattle.sk_parser.specs.Met.{tally}
 use Rattle.sk_parser.proofs.walk.+expr_faults.Given as goal
 

@@ -1,8 +1,8 @@
 use Rattle.std.proofs.Common.{◌≡◌, ap, sym}
 use Rattle.sk_tree.specs.declared.stmt.Form.TheVariants as form
 use Rattle.sk_tree.specs.Patterns.{stmt_patterns}
-use Rattle.sk_reading.specs.Faults.{all_seen}
-use Rattle.sk_reading.proofs.Walks.{join_map}
+use Rattle.sk_parser_laws.specs.Faults.{all_seen}
+use Rattle.sk_parser_laws.proofs.Walks.{join_map}
 use Rattle.sk_parser.proofs.FormPatterns.{of_empty, of_if, of_while, of_for, of_repeat}
 use Rattle.sk_parser.proofs.WalkLaws.{none_seen, two_seen, three_seen, four_seen, item_seen, list_seen}
 use Rattle.sk_parser.proofs.walk.+stmt_faults.Goals as goal

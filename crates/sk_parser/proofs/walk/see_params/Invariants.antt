@@ -1,6 +1,6 @@
 use Rattle.std.proofs.Common.{◌≡◌, drop, flat_map}
 use Rattle.sk_tree.specs.Patterns.{param_patterns}
-use Rattle.sk_reading.specs.Faults.{all_seen}
+use Rattle.sk_parser_laws.specs.Faults.{all_seen}
 use Rattle.sk_parser.specs.Met.{tally}
 use Rattle.sk_parser.proofs.walk.see_params.Given as goal
 

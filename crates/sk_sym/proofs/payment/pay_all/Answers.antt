@@ -2,7 +2,7 @@ use Rattle.std.proofs.Common.{◌∷◌, [], get_or, arith, subst}
 use Rattle.std.proofs.lemmas.List.{take_all}
 use Rattle.sk_dag.specs.Graph.{BoolSort}
 use Rattle.sk_dag.proofs.EvalLemmas.{Keeps-trans}
-use Rattle.sk_paid.specs.declared.payment.Payment.{Payment}
+use Rattle.sk_sym_choices.specs.declared.payment.Payment.{Payment}
 use Rattle.sk_sym_state.specs.Meaning.{ExecutesOn}
 use Rattle.sk_sym.specs.Paying.{AreAmounts, pays}
 use Rattle.sk_sym.proofs.Paid.{pays_none, pays_more, as_wide}

@@ -1,6 +1,6 @@
 use Rattle.std.proofs.Common.{subst}
 use Rattle.sk_model.specs.Open.{hole_value}
-use Rattle.sk_literals.specs.Given.{IsChosen}
+use Rattle.sk_sym_literals.specs.Given.{IsChosen}
 use Rattle.sk_sym_state.specs.Meaning.{choice_at}
 use Rattle.sk_sym_forms.proofs.Values.{chosen_evaluates}
 use Rattle.sk_sym_forms.proofs.leaf.hole_here.Goals as goal

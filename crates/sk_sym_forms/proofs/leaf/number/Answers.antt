@@ -1,6 +1,6 @@
 use Rattle.std.proofs.Common.{subst}
 use Rattle.sk_model.specs.Eval.{literal}
-use Rattle.sk_literals.specs.Given.{IsGiven}
+use Rattle.sk_sym_literals.specs.Given.{IsGiven}
 use Rattle.sk_sym_forms.proofs.Values.{given_evaluates}
 use Rattle.sk_sym_forms.proofs.leaf.number.Goals as goal
 

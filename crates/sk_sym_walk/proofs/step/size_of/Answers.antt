@@ -1,5 +1,5 @@
 use Rattle.std.proofs.Common.{arith}
-use Rattle.sk_literals.proofs.Holes.{below_size}
+use Rattle.sk_sym_literals.proofs.Holes.{below_size}
 use Rattle.sk_sym_walk.proofs.step.size_of.Goals as goal
 
 pub returns : goal.returns

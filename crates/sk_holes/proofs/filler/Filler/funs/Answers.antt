@@ -3,7 +3,7 @@ use Rattle.std.proofs.Common.{◌≡◌, ◌<◌, ◌+◌, map, length, drop, �
 use Rattle.std.proofs.lemmas.List.{length-drop}
 use Rattle.sk_holes.specs.Filling.{number}
 use Rattle.sk_model.specs.Fill.{fill_funs}
-use Rattle.sk_standing.specs.Functions.{minimize_paid}
+use Rattle.sk_holes_standing.specs.Functions.{minimize_paid}
 use Rattle.sk_holes.proofs.ProgramLaws.{same_count, one_counted, one_filled, one_passed}
 use Rattle.sk_holes.proofs.filler.Filler.funs.Goals as goal
 

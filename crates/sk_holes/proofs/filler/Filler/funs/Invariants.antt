@@ -3,7 +3,7 @@ use Rattle.std.specs.Prelude.{map}
 use Rattle.sk_model.specs.Parts.{total}
 use Rattle.sk_model.specs.Fill.{fill_funs}
 use Rattle.sk_holes.specs.Filling.{number}
-use Rattle.sk_standing.specs.Functions.{minimize_paid, sites_in}
+use Rattle.sk_holes_standing.specs.Functions.{minimize_paid, sites_in}
 use Rattle.sk_holes.proofs.filler.Filler.funs.Given as goal
 
 -- what is filled so far, and the functions that are left

@@ -1,8 +1,8 @@
 use Rattle.std.proofs.Common.{◌≡◌, ◌+◌, ◌*◌, ◌-◌, ◌++◌, drop, map}
-use Rattle.sk_path.specs.Recording.{and_then, Goes}
-use Rattle.sk_path.specs.Eval.{in_order, fields_in_order, copy_back, ref_args}
-use Rattle.sk_path.specs.Exec.{turns}
-use Rattle.sk_path.specs.Kept.{kept}
+use Rattle.sk_interp_laws.specs.Recording.{and_then, Goes}
+use Rattle.sk_interp_laws.specs.Eval.{in_order, fields_in_order, copy_back, ref_args}
+use Rattle.sk_interp_laws.specs.Exec.{turns}
+use Rattle.sk_interp_laws.specs.Kept.{kept}
 use Rattle.sk_interp.specs.Calling.{does_in, each_in, field_in, exec_in, exec_all_in}
 use Rattle.sk_interp.proofs.activation.Activation.+run.Given as goal
 

@@ -1,7 +1,7 @@
 use Rattle.std.proofs.Common.{subst, sym, ◌∙◌, ap}
 use Rattle.sk_cnf.specs.declared.growing.Encoded.{Encoded}
-use Rattle.sk_query.specs.declared.query.Query.TheVariants as query
-use Rattle.sk_query.specs.Queries.{AsksFor}
+use Rattle.sk_oblig_queries.specs.declared.query.Query.TheVariants as query
+use Rattle.sk_oblig_queries.specs.Queries.{AsksFor}
 use Rattle.sk_loop_laws.specs.Honest.{inputs_of}
 use Rattle.sk_loop.specs.Answered.{IsAnswered}
 use Rattle.sk_loop.proofs.Proposing.{asks_solved, never_passes, spent_wanted}

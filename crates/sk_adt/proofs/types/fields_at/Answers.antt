@@ -1,0 +1,19 @@
+use Rattle.std.proofs.Common.{sym, ◌∙◌}
+use Rattle.std.proofs.lemmas.Result.{err_from_is_err_and}
+use Rattle.sk_parser_laws.proofs.Loops.{fails_as, repeated_ends, repeated_stops, repeated_more}
+use Rattle.sk_adt.proofs.Shorter.{fields_shrink}
+use Rattle.sk_adt.proofs.types.fields_at.Goals as goal
+
+pub returns-in_err-more : goal.returns-in_err-more
+returns-in_err-more c =
+    let p = err_from_is_err_and c.from_residual.result c.from_residual.ensures.1 in
+    rw (p.1, p.2) (fails_as _ _ _ c.loop-alloc.invariant (repeated_stops _ _ _ _ _ (sym c.loop-alloc-test.ensures) c.in_err-more.ensures))
+
+pub loop-alloc-smaller : goal.loop-alloc-smaller
+loop-alloc-smaller c = fields_shrink.takes _ _ _ _ c.in_ok-more.ensures
+
+pub loop-alloc-preserved : goal.loop-alloc-preserved
+loop-alloc-preserved c = c.loop-alloc.invariant ∙ repeated_more _ _ fields_shrink _ _ _ _ (sym c.loop-alloc-test.ensures) c.in_ok-more.ensures
+
+pub returns : goal.returns
+returns c = c.loop-alloc.invariant ∙ repeated_ends _ _ _ _ (sym c.loop-alloc-test.ensures)

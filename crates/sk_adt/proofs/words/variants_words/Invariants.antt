@@ -1,0 +1,6 @@
+use Rattle.std.proofs.Common.{◌≡◌, take, map}
+use Rattle.sk_adt.specs.Words.{variant_words}
+use Rattle.sk_adt.proofs.words.variants_words.Given as goal
+
+abbrev pub invariant-loop-variant : goal.invariant-loop-variant
+invariant-loop-variant l = l.out ≡ map variant_words (take l.variant-index l.variants)

@@ -1,8 +1,0 @@
-use Rattle.std.proofs.Common.{◌≡◌, drop}
-use Rattle.sk_types.specs.Sorts.{first_target}
-use Rattle.sk_typing.specs.Envs.{context_of}
-use Rattle.sk_bodies.proofs.target.first_target.Given as goal
-
--- none so far is a target
-abbrev pub invariant-loop-e : goal.invariant-loop-e
-invariant-loop-e l = first_target (context_of l.env) l.scope l.es ≡ first_target (context_of l.env) l.scope (drop l.e-index l.es)

@@ -1,5 +1,0 @@
-use Rattle.sk_chosen.proofs.Meeting.{choices_meet}
-use Rattle.sk_chosen.proofs.laws.choices_meet_as_fillings.Goals as goal
-
-pub returns : goal.returns
-returns c = choices_meet

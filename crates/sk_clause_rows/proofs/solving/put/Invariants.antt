@@ -1,5 +1,0 @@
-use Rattle.sk_clause.specs.Problem.{IsWithin}
-use Rattle.sk_clause_rows.proofs.solving.put.Given as goal
-
-abbrev pub invariant-loop-l : goal.invariant-loop-l
-invariant-loop-l l = IsWithin l.vars l.within.items

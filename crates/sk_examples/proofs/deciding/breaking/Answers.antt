@@ -1,5 +1,0 @@
-use Rattle.sk_examples.proofs.Computed.{breaking}
-use Rattle.sk_examples.proofs.deciding.breaking.Goals as goal
-
-pub returns : goal.returns
-returns c = breaking

@@ -1,5 +1,0 @@
-use Rattle.sk_examples.proofs.Computed.{costs}
-use Rattle.sk_examples.proofs.deciding.costs.Goals as goal
-
-pub returns : goal.returns
-returns c = costs

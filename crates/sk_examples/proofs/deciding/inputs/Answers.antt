@@ -1,5 +1,0 @@
-use Rattle.sk_examples.proofs.Computed.{inputs}
-use Rattle.sk_examples.proofs.deciding.inputs.Goals as goal
-
-pub returns : goal.returns
-returns c = inputs

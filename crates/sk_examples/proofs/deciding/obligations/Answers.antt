@@ -1,5 +1,0 @@
-use Rattle.sk_examples.proofs.Computed.{obligations_are}
-use Rattle.sk_examples.proofs.deciding.obligations.Goals as goal
-
-pub returns : goal.returns
-returns c = obligations_are

@@ -1,5 +1,0 @@
-use Rattle.sk_expanded.proofs.Fillings.{fillings_keep}
-use Rattle.sk_expanded.proofs.laws.fillings_keep_rules.Goals as goal
-
-pub returns : goal.returns
-returns c = fillings_keep

@@ -1,5 +1,0 @@
-use Rattle.sk_heap_rows.proofs.ValueLaws.{reference_found}
-use Rattle.sk_heap_rows.proofs.values.target_at.Goals as goal
-
-pub returns-in-Reference : goal.returns-in-Reference
-returns-in-Reference c = λ g heap are. reference_found (c.in_ok-shape.ensures g heap are) c.in-Reference.is

@@ -1,7 +1,0 @@
-use Rattle.std.proofs.Common.{◌≡◌, drop, None}
-use Rattle.std.specs.Prelude.{option_map}
-use Rattle.sk_lower.specs.Branches.{innermost}
-use Rattle.sk_lower.proofs.branch.innermost.Given as goal
-
-abbrev pub invariant-loop-case : goal.invariant-loop-case
-invariant-loop-case l = innermost (option_map (λ v. v.now) l.found) (drop l.case-index l.inside) l.x ≡ innermost None l.inside l.x

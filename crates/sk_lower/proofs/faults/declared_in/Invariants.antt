@@ -1,7 +1,0 @@
-use Rattle.std.proofs.Common.{◌≡◌, ◌++◌, drop, map}
-use Rattle.sk_lower.specs.Words.{each}
-use Rattle.sk_lower.specs.Faults.{declared_of, declared_in}
-use Rattle.sk_lower.proofs.faults.declared_in.Given as goal
-
-abbrev pub invariant-loop-ty : goal.invariant-loop-ty
-invariant-loop-ty l = l.out ++ each (map declared_of (drop l.ty-index l.types)) ≡ declared_in l.types

@@ -1,6 +1,0 @@
-use Rattle.std.proofs.Common.{◌≡◌, drop, map}
-use Rattle.sk_lower.specs.Faults.{sooner, soonest, stray}
-use Rattle.sk_lower.proofs.faults.no_variant.Given as goal
-
-abbrev pub invariant-loop-cases : goal.invariant-loop-cases
-invariant-loop-cases l = sooner l.best (soonest (map (stray l.known) (drop l.cases-index l.switches))) ≡ soonest (map (stray l.known) l.switches)

@@ -1,6 +1,0 @@
-use Rattle.std.proofs.Common.{◌≡◌, take, map}
-use Rattle.sk_lower.specs.declared.form.CaseForm.{out-CaseForm}
-use Rattle.sk_lower.proofs.words.case_words.Given as goal
-
-abbrev pub invariant-loop-case : goal.invariant-loop-case
-invariant-loop-case l = l.out ≡ map (λ c. (out-CaseForm c).head.word) (take l.case-index l.cases)

@@ -1,6 +1,0 @@
-use Rattle.std.proofs.Common.{◌≡◌, take, map}
-use Rattle.sk_lower.specs.Words.{variant_words}
-use Rattle.sk_lower.proofs.words.variants_words.Given as goal
-
-abbrev pub invariant-loop-variant : goal.invariant-loop-variant
-invariant-loop-variant l = l.out ≡ map variant_words (take l.variant-index l.variants)

@@ -1,5 +1,0 @@
-use Rattle.sk_meaning.proofs.Whole.{texts_fit}
-use Rattle.sk_meaning.proofs.laws.texts_are_well_formed.Goals as goal
-
-pub returns : goal.returns
-returns c = texts_fit

@@ -1,4 +1,0 @@
-use Rattle.sk_notes.proofs.words.near_command.Goals as goal
-
-pub returns : goal.returns
-returns c = c.in_ok-near.ensures

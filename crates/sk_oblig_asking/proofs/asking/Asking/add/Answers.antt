@@ -1,0 +1,9 @@
+use Rattle.sk_dag.proofs.EvalLemmas.{Grows-refl}
+use Rattle.sk_oblig_asking.proofs.Growth.{added}
+use Rattle.sk_oblig_asking.proofs.asking.Asking.add.Goals as goal
+
+pub require-requires-clause-begun : goal.require-requires-clause-begun
+require-requires-clause-begun c = (c.args.self.now.dag, c.requires.stands.1.roots, c.requires.stands.1.stands, c.in_ok-root.ensures.keeps.later c.fine_in.new.to (Grows-refl c.fine_in.new.to))
+
+pub returns-clause-asking : goal.returns-clause-asking
+returns-clause-asking c = λ demands is. added c.args.self.now _ c.args.input.now c.args.limit c.in_ok-root.root c.requires.askable is c.in_ok-root.ensures.keeps c.in_ok-root.ensures.fine c.in_ok-require.ensures.stands c.in_ok-require.ensures.tight c.in_ok-require.ensures.leaves

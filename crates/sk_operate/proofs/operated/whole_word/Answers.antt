@@ -1,5 +1,0 @@
-use Rattle.sk_operate.proofs.Computing.{surely_word}
-use Rattle.sk_operate.proofs.operated.whole_word.Goals as goal
-
-pub returns-clause-computed : goal.returns-clause-computed
-returns-clause-computed c = surely_word c.requires c.in_ok-fails.ensures.there c.in_ok-fails.ensures.keeps c.in_ok-fails.ensures.value

@@ -1,9 +1,0 @@
-use Rattle.std.proofs.Common.{refl}
-use Rattle.sk_operate.proofs.BitRows.{at_forms}
-use Rattle.sk_operate.proofs.rows.on_count.Goals as goal
-
-pub returns-in_ok-made-in-Shl-clause-operated : goal.returns-in_ok-made-in-Shl-clause-operated
-returns-in_ok-made-in-Shl-clause-operated c = at_forms _ refl refl c.in-Shl.is c.in_ok-made-in-Shl.ensures.operated
-
-pub returns-in_ok-made-in-Shr-clause-operated : goal.returns-in_ok-made-in-Shr-clause-operated
-returns-in_ok-made-in-Shr-clause-operated c = at_forms _ refl refl c.in-Shr.is c.in_ok-made-in-Shr.ensures.operated

@@ -1,5 +1,0 @@
-use Rattle.std.proofs.Common.{arith}
-use Rattle.sk_paid.proofs.node.size_of.Goals as goal
-
-pub returns : goal.returns
-returns c = λ values h. h.each c.args.site _ (omega arith)

@@ -1,8 +1,0 @@
-use Rattle.std.proofs.Common.{ℕ, List, ◌<◌, ◌≤◌}
-use Rattle.sk_model.specs.Fill.{digit}
-use Rattle.sk_paid.specs.Sizes.{AreInRange}
-use Rattle.sk_paid.proofs.program.test_sizes.Given as goal
-
--- those so far are digits
-abbrev pub invariant-loop-placed : goal.invariant-loop-placed
-invariant-loop-placed l = (values : List ℕ) → AreInRange l.sites values → (j : ℕ) → j < l.placed → digit values l.fn.first j ≤ j

@@ -1,8 +1,0 @@
-use Rattle.sk_path.proofs.Runs.{log_keeps_first, logged_is_run}
-use Rattle.sk_path.proofs.laws.logs_keep_the_first_steps.Goals as goal
-
-pub returns-clause-first : goal.returns-clause-first
-returns-clause-first c = log_keeps_first
-
-pub returns-clause-run : goal.returns-clause-run
-returns-clause-run c = logged_is_run

@@ -1,7 +1,0 @@
-//! Steps of small runs, computed by the check.
-ghost use Rattle.sk_path.specs.Examples.{StepExamples};
-
-/// What statements tell, where they fail, and in which order.
-pub fn steps_of_small_runs()
-    ensures { StepExamples }
-{}

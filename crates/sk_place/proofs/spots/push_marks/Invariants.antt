@@ -1,6 +1,0 @@
-use Rattle.std.proofs.Common.{◌≡◌, ◌++◌}
-use Rattle.sk_place.specs.Spots.{marks}
-use Rattle.sk_place.proofs.spots.push_marks.Given as goal
-
-abbrev pub invariant-loop-at : goal.invariant-loop-at
-invariant-loop-at l = l.out.items ≡ l.fn.out.items ++ marks l._at

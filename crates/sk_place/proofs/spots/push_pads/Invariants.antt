@@ -1,6 +1,0 @@
-use Rattle.std.proofs.Common.{◌≡◌, ◌++◌, map, take}
-use Rattle.sk_place.specs.Spots.{pad}
-use Rattle.sk_place.proofs.spots.push_pads.Given as goal
-
-abbrev pub invariant-loop-byte : goal.invariant-loop-byte
-invariant-loop-byte l = l.out.items ≡ l.fn.out.items ++ map pad (take l.byte-index l.bytes)

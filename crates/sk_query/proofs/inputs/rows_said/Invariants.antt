@@ -1,6 +1,0 @@
-use Rattle.std.proofs.Common.{◌≡◌, ◌++◌, ◌-◌}
-use Rattle.sk_query.specs.Said.{rows_said}
-use Rattle.sk_query.proofs.inputs.rows_said.Given as goal
-
-abbrev pub invariant-loop-place : goal.invariant-loop-place
-invariant-loop-place l = l.rows ++ rows_said l.elem l.length (l.count - l._place) l.rest ≡ rows_said l.elem l.length l.count l.numbers

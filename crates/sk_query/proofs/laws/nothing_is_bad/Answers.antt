@@ -1,5 +1,0 @@
-use Rattle.sk_query.proofs.Nothing.{nothing_bad}
-use Rattle.sk_query.proofs.laws.nothing_is_bad.Goals as goal
-
-pub returns : goal.returns
-returns c = nothing_bad

@@ -1,7 +1,0 @@
-use Rattle.std.proofs.Common.{◌≡◌, take}
-use Rattle.sk_query.specs.Numbers.{leaves_from}
-use Rattle.sk_query.specs.Queries.{leaf_of}
-use Rattle.sk_query.proofs.leaves.leaves_of_widths.Given as goal
-
-abbrev pub invariant-loop-i : goal.invariant-loop-i
-invariant-loop-i l = l.leaves ≡ leaves_from (leaf_of l.query) 0 (take l.i l.widths)

@@ -1,6 +1,0 @@
-use Rattle.std.proofs.Common.{◌≡◌, take}
-use Rattle.sk_query.specs.Widths.{sites_widths}
-use Rattle.sk_query.proofs.widths.site_widths.Given as goal
-
-abbrev pub invariant-loop-site : goal.invariant-loop-site
-invariant-loop-site l = l.widths ≡ sites_widths (take l.site-index l.sites)

@@ -1,5 +1,0 @@
-use Rattle.sk_shown.proofs.PlacedAgain.{placed_again}
-use Rattle.sk_shown.proofs.laws.expressions_are_placed.Goals as goal
-
-pub returns : goal.returns
-returns c = placed_again

@@ -1,5 +1,0 @@
-use Rattle.sk_shown.proofs.MeansAgain.{means_again}
-use Rattle.sk_shown.proofs.laws.expressions_mean_again.Goals as goal
-
-pub returns : goal.returns
-returns c = means_again

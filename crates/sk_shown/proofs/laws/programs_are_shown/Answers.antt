@@ -1,5 +1,0 @@
-use Rattle.sk_shown.proofs.ProgramShown.{programs_shown}
-use Rattle.sk_shown.proofs.laws.programs_are_shown.Goals as goal
-
-pub returns : goal.returns
-returns c = programs_shown

@@ -1,5 +1,0 @@
-use Rattle.sk_shown.proofs.TreePlaced.{tree_placed_again}
-use Rattle.sk_shown.proofs.laws.trees_are_placed.Goals as goal
-
-pub returns : goal.returns
-returns c = tree_placed_again

@@ -1,5 +1,0 @@
-use Rattle.sk_shown.proofs.TreeAgain.{trees_mean_again}
-use Rattle.sk_shown.proofs.laws.trees_mean_again.Goals as goal
-
-pub returns : goal.returns
-returns c = trees_mean_again

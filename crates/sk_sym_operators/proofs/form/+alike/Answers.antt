@@ -1,0 +1,30 @@
+use Rattle.std.proofs.Common.{◌≡◌, ◌<◌, length, map, get_or, arith, refl, sym, ap, subst, ◌∙◌}
+use Rattle.std.proofs.lemmas.List.{take_all}
+use Rattle.sk_arr.specs.Shapes.{blank}
+use Rattle.sk_arr.proofs.Depths.{depth_array, depth_within, depths}
+use Rattle.sk_sym_operators.proofs.Forms.{alike_more}
+use Rattle.sk_sym_operators.proofs.form.+alike.Goals as goal
+
+pub all_alike-alike-requires : goal.all_alike-alike-requires
+all_alike-alike-requires t c = (omega (arith, depth_within c.args.list.now c.loop-a.a-index c.a-item.result c.loop-a-test.true c.a-item.is), tt)
+
+pub alike-all_alike-requires : goal.alike-all_alike-requires
+alike-all_alike-requires t c = (omega (arith, depth_array c.args.a.now _ c.in-Array.is, ap depths c.as_slice.ensures), tt)
+
+pub all_alike-loop-a-preserved : goal.all_alike-loop-a-preserved
+all_alike-loop-a-preserved t c =
+    let inv = c.loop-a.invariant in
+    let i = c.loop-a.a-index in
+    let b = c.index-others-i.result in
+    let m : i < length c.args.others.now = omega (arith, c.if-list-others.false, c.loop-a-test.true) in
+    let at : b ≡ get_or c.args.others.now i b = subst (λ n. b ≡ get_or c.args.others.now n b) inv.place c.index-others-i.is in
+    record {
+      place = omega (arith, inv.place);
+      alike = alike_more c.args.list.now c.args.others.now i c.a-item.result b c.loop-a-test.true m c.a-item.is at inv.alike (c.if-not-alike.ensures refl);
+    }
+
+pub all_alike-returns : goal.all_alike-returns
+all_alike-returns t c = λ yes.
+    let one = take_all c.loop-a.a-index c.args.list.now (omega arith) in
+    let two = take_all c.loop-a.a-index c.args.others.now (omega (arith, c.if-list-others.false)) in
+    ap (map blank) (sym one) ∙ c.loop-a.invariant.alike ∙ ap (map blank) two

@@ -1,9 +1,0 @@
-use Rattle.std.proofs.Common.{◌≡◌, drop, map}
-use Rattle.std.specs.List.{list_any}
-use Rattle.sk_tagged.specs.Tags.{work}
-use Rattle.sk_tagged.proofs.stmt.+touches.Given as goal
-
-abbrev pub invariant-any_touches-loop-stmt : goal.invariant-any_touches-loop-stmt
-invariant-any_touches-loop-stmt l =
-    list_any (λ w. w.touches l.x) (map (work l.ground.types.now l.ground.prog.now) (drop l.stmt-index l.stmts))
-    ≡ list_any (λ w. w.touches l.x) (map (work l.ground.types.now l.ground.prog.now) l.stmts)

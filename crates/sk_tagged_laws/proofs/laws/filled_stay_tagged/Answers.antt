@@ -1,5 +1,0 @@
-use Rattle.sk_tagged_laws.proofs.Filled.{filled_stay_tagged}
-use Rattle.sk_tagged_laws.proofs.laws.filled_stay_tagged.Goals as goal
-
-pub returns : goal.returns
-returns c = filled_stay_tagged

@@ -1,5 +1,0 @@
-use Rattle.sk_texts.proofs.Computed.{self_sketch, self_summary}
-use Rattle.sk_texts.proofs.examples.text_of_self.Goals as goal
-
-pub returns : goal.returns
-returns c = record { sketch = self_sketch; summary = self_summary }

@@ -1,6 +1,0 @@
-use Rattle.std.proofs.Common.{◌≡◌}
-use Rattle.sk_told.proofs.results.push_items.Given as goal
-
--- the title stays
-abbrev pub invariant-loop-item : goal.invariant-loop-item
-invariant-loop-item l = l.told.title ≡ l.fn.told.title

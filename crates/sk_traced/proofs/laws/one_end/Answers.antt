@@ -1,5 +1,0 @@
-use Rattle.sk_traced.proofs.Ends.{one_fault, no_fault_of_trace, one_trace, an_end}
-use Rattle.sk_traced.proofs.laws.one_end.Goals as goal
-
-pub returns : goal.returns
-returns c = record { fault = one_fault; apart = no_fault_of_trace; trace = one_trace; some = an_end }

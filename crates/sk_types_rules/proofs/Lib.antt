@@ -1,0 +1,4 @@
+pub mod Nearest
+pub mod SortLaws
+pub mod Layers
+pub mod ExampleLemmas
