@@ -1,6 +1,6 @@
 """Compares rows of crates/rows_commands/data with the reference: for each file, how many rows agree, which differ, how many
 name another of several faults, and how many the reference is not asked for (lines that are none, sizes, sketches with too many choices, sources and sinks that fail, and texts
-that nest too deep for it). `limits.txt` goes through it where it is named.
+that nest too deep for it). `limits.txt` is left out: the reference has no limits of depth.
 
     python3 cases.py [FILE..]
 """
