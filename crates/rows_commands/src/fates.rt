@@ -12,7 +12,7 @@ fn three_words(head: &[u8]) -> &[u8] {
             if blanks == 2 {
                 return &head[..at];
             }
-            blanks += 1;
+            blanks = blanks.saturating_add(1);
         }
     }
     head
