@@ -1,7 +1,7 @@
 #!/usr/bin/env python3
 """What the gate takes, crate by crate. For development only: no verdict rests on it.
 
-  gate.py run LOG [NAME..]    runs `rt ci` (of these crates) and writes its lines to LOG, each with the time, and at the end what each
+  gate.py run LOG [NAME..]    runs `rt ci` (of these crates) as `.ci/run` does, and writes its lines to LOG, each with the time, and at the end what each
                               process of the prover took: a line `@ CRATE KIND SECONDS FROM TO`, in processor seconds and seconds of the
                               run; KIND is proof, tests, edits or build. Ends with the status of `rt ci`
   gate.py table LOG..         writes the table of docs/PERFORMANCE.md (between its two marks) from such logs. What a run kept from an
@@ -88,7 +88,8 @@ class Sampler(threading.Thread):
 def run(log, names):
     began = time.time()
     with open(log, "w", encoding="utf-8") as out:
-        process = subprocess.Popen(["rt", "ci", *names], cwd=TOP, stdout=subprocess.PIPE, stderr=subprocess.STDOUT, text=True, errors="replace")
+        there = {"RT_JOBS": str(len(os.sched_getaffinity(0))), **os.environ}
+        process = subprocess.Popen(["rt", "ci", *names], cwd=TOP, env=there, stdout=subprocess.PIPE, stderr=subprocess.STDOUT, text=True, errors="replace")
         sampler = Sampler(process.pid, began)
         sampler.start()
         for line in process.stdout:
