@@ -26,7 +26,7 @@ use Rattle.sk_model.specs.Meets.{Meets, IsGreatestCost}
 use Rattle.sk_model.specs.Nodes.{nodes}
 use Rattle.sk_expand_sites.specs.Small.{AreSmall}
 use Rattle.sk_expand_sites.specs.Small.{IsSmall as IsSmallSite}
-use Rattle.sk_holes.specs.Needs.{HasItsSites, are_narrow}
+use Rattle.sk_expand_sites.specs.Needs.{HasItsSites, are_narrow}
 use Rattle.sk_holes_choice_laws.specs.Meeting.{IsMetUnder}
 use Rattle.sk_holes_choice_laws.proofs.Meeting.{choices_meet}
 use Rattle.sk_oblig.specs.Formulas.{IsAskable}

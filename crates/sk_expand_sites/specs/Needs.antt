@@ -1,4 +1,4 @@
--- What filling asks of an expanded program: of each expansion of a program that keeps the rules it is true.
+-- What calls ask of an expanded program and its sites: of each expansion of a program that keeps the rules it is true.
 use Rattle.std.specs.Prelude.{ℕ, ◌≡◌, List, Bool, nat_lt}
 use Rattle.std.specs.List.{list_all}
 use Rattle.sk_base.specs.declared.bounds.Bounds.{Bounds}
@@ -17,7 +17,3 @@ is_narrow s = nat_lt s.size 4294967297
 
 abbrev pub are_narrow : List Site → Bool
 are_narrow ss = list_all is_narrow ss
-
--- each is a number of a program
-abbrev pub are_numbers : List ℕ → Bool
-are_numbers vs = list_all (λ v. nat_lt v 4294967296) vs

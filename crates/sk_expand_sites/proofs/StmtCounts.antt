@@ -18,7 +18,7 @@ use Rattle.sk_model.specs.Stands.{Standing, in_row, first_of, by_value, expr_sta
 use Rattle.sk_model.specs.Fill.{expr_part, value_part, some_copies, all_copies, form_part, stmt_step, stmt_part, stmts_count}
 use Rattle.sk_model.proofs.Layers.{stmt_layer}
 use Rattle.sk_model.proofs.Induction.{Each, StmtCases, stmt_ind}
-use Rattle.sk_holes.proofs.Counts.{expr_known}
+use Rattle.sk_expand_sites.proofs.Counts.{expr_known}
 
 pub record Sited (n : ℕ) (m : ℕ) (listed : List Site) : Type 0 where
   pub filled : n ≡ length listed
