@@ -45,8 +45,8 @@ def below(pid):
 
 
 def kind_of(words, folder, name):
-    """What a process of the prover does for the crate: an edit is tried on a copy elsewhere."""
-    if len(words) > 1 and words[1] != "check":
+    """What a process of the prover does for the crate: a library is proved where it is built, and an edit is tried on a copy elsewhere."""
+    if len(words) > 1 and words[1] != "check" and "src/lib.rt" not in words:
         return "build"
     if not folder.endswith(f"/crates/{name}"):
         return "edits"
