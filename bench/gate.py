@@ -1,8 +1,8 @@
 #!/usr/bin/env python3
 """What the gate takes, crate by crate. For development only: no verdict rests on it.
 
-  gate.py run LOG [NAME..]    runs `rt ci` (of these crates) as `.ci/run` does, and writes its lines to LOG, each with the time, and at the end what each
-                              process of the prover took: a line `@ CRATE KIND SECONDS FROM TO`, in processor seconds and seconds of the
+  gate.py run LOG [NAME..]    runs `rt ci` (of these crates) as `.ci/run` does, and writes its lines to LOG, each with the time, and what each
+                              process of the prover took when it has ended: a line `@ CRATE KIND SECONDS FROM TO`, in processor seconds and seconds of the
                               run; KIND is proof, tests, edits or build. Ends with the status of `rt ci`
   gate.py table LOG..         writes the table of docs/PERFORMANCE.md (between its two marks) from such logs. What a run kept from an
                               earlier one is in the log of that one: of two logs that name a crate's proof the last counts
@@ -54,23 +54,31 @@ def kind_of(words, folder, name):
 
 
 class Sampler(threading.Thread):
-    """Sees what each process of the prover has taken until it ends."""
+    """Sees what each process of the prover takes, and writes it down when it has ended."""
 
-    def __init__(self, pid, began):
+    def __init__(self, pid, began, write):
         super().__init__(daemon=True)
-        self.pid, self.began, self.seen, self.goes_on = pid, began, {}, True
+        self.pid, self.began, self.write, self.seen, self.goes_on = pid, began, write, {}, True
 
     def run(self):
         while self.goes_on:
             self.look()
             time.sleep(PAUSE)
+        self.tell(set(self.seen))
+
+    def tell(self, ended):
+        for key in ended:
+            name, kind, seconds, first, last = self.seen.pop(key)
+            self.write(f"@ {name} {kind} {seconds:.1f} {first:.0f} {last:.0f}\n")
 
     def look(self):
+        there = set()
         for pid in below(self.pid):
             fields = text_of(f"/proc/{pid}/stat").rpartition(")")[2].split()
             if len(fields) < 20:
                 continue
             key, now = (pid, fields[19]), time.time() - self.began
+            there.add(key)
             if key not in self.seen:
                 words = text_of(f"/proc/{pid}/cmdline").split("\0")
                 name = next((b for a, b in zip(words, words[1:]) if a == "--crate-name"), None)
@@ -83,6 +91,7 @@ class Sampler(threading.Thread):
                 self.seen[key] = [name, kind_of(words, folder, name), 0.0, now, now]
             self.seen[key][2] = (int(fields[11]) + int(fields[12])) / TICK
             self.seen[key][4] = now
+        self.tell(set(self.seen) - there)
 
 
 def run(log, names):
@@ -90,17 +99,21 @@ def run(log, names):
     with open(log, "w", encoding="utf-8") as out:
         there = {"RT_JOBS": str(len(os.sched_getaffinity(0))), **os.environ}
         process = subprocess.Popen(["rt", "ci", *names], cwd=TOP, env=there, stdout=subprocess.PIPE, stderr=subprocess.STDOUT, text=True, errors="replace")
-        sampler = Sampler(process.pid, began)
+        turn = threading.Lock()
+
+        def write(line):
+            with turn:
+                out.write(line)
+                out.flush()
+
+        sampler = Sampler(process.pid, began, write)
         sampler.start()
         for line in process.stdout:
-            out.write(f"{time.strftime('%H:%M:%S')} {time.time() - began:7.0f} {line}")
-            out.flush()
+            write(f"{time.strftime('%H:%M:%S')} {time.time() - began:7.0f} {line}")
         status = process.wait()
         sampler.goes_on = False
         sampler.join()
-        for name, kind, seconds, first, last in sampler.seen.values():
-            out.write(f"@ {name} {kind} {seconds:.1f} {first:.0f} {last:.0f}\n")
-        out.write(f"{time.strftime('%H:%M:%S')} {time.time() - began:7.0f} status {status}\n")
+        write(f"{time.strftime('%H:%M:%S')} {time.time() - began:7.0f} status {status}\n")
     return status
 
 
