@@ -35,7 +35,8 @@ use Rattle.sk_cnf.specs.declared.growing.Encoded.{Encoded}
 use Rattle.sk_oblig_queries.specs.declared.query.Query.{Query}
 use Rattle.sk_loop_laws.specs.Honest.{Honest}
 use Rattle.sk_loop_laws.specs.Shown.{AreSpent, Learnt}
-use Rattle.sk_min.specs.Least.{IsBest, Meeting, IsKnown, IsKnownOf}
+use Rattle.sk_min_laws.specs.Best.{IsBest, Meeting}
+use Rattle.sk_min.specs.Least.{IsKnown, IsKnownOf}
 use Rattle.sk_min.specs.Least as least
 use Rattle.sk_opts.specs.declared.line.Set.{Set}
 use Rattle.sk_front.specs.declared.expansion.Expansion.{Expansion}

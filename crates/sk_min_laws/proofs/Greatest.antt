@@ -9,7 +9,7 @@ use Rattle.sk_model.specs.declared.expanded.Expanded.{Expanded}
 use Rattle.sk_model.specs.declared.expanded.Input.{Input}
 use Rattle.sk_model.specs.Fill.{fill}
 use Rattle.sk_model.specs.Meets.{cost_on}
-use Rattle.sk_min.specs.Least.{greatest_on}
+use Rattle.sk_min_laws.specs.Best.{greatest_on}
 
 module _ (e : Expanded) (bounds : Bounds) (choice : Choice) where
   -- the input costs the choice at most so much
