@@ -92,8 +92,8 @@ spent_bad e bounds pairs choice limit count q g log honest wanted spent =
         honest = honest;
         query = of.0;
       },
-      of.1.0,
-      of.1.1,
+      of.1,
+      of.2,
     )
 
 pub ruleset proposing = (asks_solved, met_solved, stands_solved, never_passes, spent_wanted)
