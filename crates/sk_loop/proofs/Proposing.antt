@@ -21,7 +21,7 @@ use Rattle.sk_oblig_queries.proofs.Nothing.{nothing_wanted}
 use Rattle.sk_oblig_asking.specs.declared.asking.Asking.{Asking}
 use Rattle.sk_oblig.specs.Formulas.{IsAskable}
 use Rattle.sk_loop_laws.specs.Honest.{Honest, inputs_of}
-use Rattle.sk_loop_laws.specs.Shown.{Learnt, NonePasses, limit_of}
+use Rattle.sk_loop_laws.specs.Shown.{Learnt, NonePasses, limit_of, IsOfSearch}
 use Rattle.sk_loop_laws.proofs.Completing.{completes_is_wanted}
 use Rattle.sk_loop_laws.proofs.Pairs.{honest_are_inputs}
 use Rattle.sk_loop.specs.declared.session.Session.{Session}
@@ -54,7 +54,7 @@ never_passes s e bounds pairs limit askable honest st none =
       completes = λ choice c. never choice (completes_is_wanted e bounds limit choice (inputs_of pairs) (askable.met choice c.range) c (honest_are_inputs e bounds pairs honest));
     }
 
-pub spent_wanted : (s : Session) (e : Expanded) (bounds : Bounds) (pairs : List Pair) (inputs : List Input) (limit : Option ℕ) (count : ℕ) (g : Encoded) (log : List (List Lit)) → Honest e bounds pairs → StandsFor s e bounds (inputs_of pairs) limit → IsSpentFrom s.asking.growing.encoded count g log → inputs ≡ inputs_of pairs → Learnt e bounds count pairs (query.Wanted inputs limit) g log × (limit_of (query.Wanted inputs limit) ≡ limit)
+pub spent_wanted : (s : Session) (e : Expanded) (bounds : Bounds) (pairs : List Pair) (inputs : List Input) (limit : Option ℕ) (count : ℕ) (g : Encoded) (log : List (List Lit)) → Honest e bounds pairs → StandsFor s e bounds (inputs_of pairs) limit → IsSpentFrom s.asking.growing.encoded count g log → inputs ≡ inputs_of pairs → Learnt e bounds count pairs (query.Wanted inputs limit) g log × (limit_of (query.Wanted inputs limit) ≡ limit) × IsOfSearch (query.Wanted inputs limit)
 spent_wanted s e bounds pairs inputs limit count g log honest st spent is =
     let f = s.asking.growing.encoded in
     let asks : AsksFor f e bounds (query.Wanted inputs limit) = subst (λ (x : List Input). AsksFor f e bounds (query.Wanted x limit)) (sym is) st.asks in (
@@ -70,14 +70,15 @@ spent_wanted s e bounds pairs inputs limit count g log honest st spent is =
         query = is;
       },
       refl,
+      tt,
     )
 
-bad_of_pairs : (e : Expanded) (bounds : Bounds) (pairs : List Pair) (q : Query) (choice : Choice) (limit : Option ℕ) → IsWanted e bounds (inputs_of pairs) limit choice → IsBadQuery q choice limit → Rattle.sk_loop_laws.specs.Shown.IsOfPairs e bounds pairs q × (limit_of q ≡ limit)
-bad_of_pairs e bounds pairs (query.Bad c l) choice limit wanted is = (subst (λ (m : Option ℕ). IsWanted e bounds (inputs_of pairs) m c) (sym is.1) (subst (IsWanted e bounds (inputs_of pairs) limit) (sym is.0) wanted), is.1)
-bad_of_pairs e bounds pairs (query.BadAt c o l) choice limit wanted is = (subst (λ (m : Option ℕ). IsWanted e bounds (inputs_of pairs) m c) (sym is.1) (subst (IsWanted e bounds (inputs_of pairs) limit) (sym is.0) wanted), is.1)
+bad_of_pairs : (e : Expanded) (bounds : Bounds) (pairs : List Pair) (q : Query) (choice : Choice) (limit : Option ℕ) → IsWanted e bounds (inputs_of pairs) limit choice → IsBadQuery q choice limit → Rattle.sk_loop_laws.specs.Shown.IsOfPairs e bounds pairs q × (limit_of q ≡ limit) × IsOfSearch q
+bad_of_pairs e bounds pairs (query.Bad c l) choice limit wanted is = (subst (λ (m : Option ℕ). IsWanted e bounds (inputs_of pairs) m c) (sym is.1) (subst (IsWanted e bounds (inputs_of pairs) limit) (sym is.0) wanted), is.1, tt)
+bad_of_pairs e bounds pairs (query.BadAt c o l) choice limit wanted is = absurd is
 bad_of_pairs e bounds pairs (query.Wanted inputs l) choice limit wanted is = absurd is
 
-pub spent_bad : (e : Expanded) (bounds : Bounds) (pairs : List Pair) (choice : Choice) (limit : Option ℕ) (count : ℕ) (q : Query) (g : Encoded) (log : List (List Lit)) → Honest e bounds pairs → IsWanted e bounds (inputs_of pairs) limit choice → IsSpentOn e bounds choice limit count q g log → Learnt e bounds count pairs q g log × (limit_of q ≡ limit)
+pub spent_bad : (e : Expanded) (bounds : Bounds) (pairs : List Pair) (choice : Choice) (limit : Option ℕ) (count : ℕ) (q : Query) (g : Encoded) (log : List (List Lit)) → Honest e bounds pairs → IsWanted e bounds (inputs_of pairs) limit choice → IsSpentOn e bounds choice limit count q g log → Learnt e bounds count pairs q g log × (limit_of q ≡ limit) × IsOfSearch q
 spent_bad e bounds pairs choice limit count q g log honest wanted spent =
     let of = bad_of_pairs e bounds pairs q choice limit wanted spent.query in (
       record {
@@ -92,6 +93,7 @@ spent_bad e bounds pairs choice limit count q g log honest wanted spent =
         query = of.0;
       },
       of.1,
+      of.2,
     )
 
 pub ruleset proposing = (asks_solved, met_solved, stands_solved, never_passes, spent_wanted)

@@ -130,7 +130,6 @@ module _ (e : Expanded) (bounds : Bounds) where
   pub limited_below : (pairs : List Pair) (best : Choice) (value : ℕ) (q : Query) → 0 < value → value ≡ greatest_on e bounds best (inputs_of pairs) → limit_of q ≡ Some (value - 1) → IsOfPairs e bounds pairs q → IsLimited e bounds pairs best q
   limited_below pairs best value (query.Bad c None) some is same wanted = absurd (none-some (value - 1) same)
   limited_below pairs best value (query.Bad c (Some limit)) some is same wanted = let l = lowered_is pairs best value limit some is same in inr (another pairs best c limit l wanted, l)
-  limited_below pairs best value (query.BadAt c o None) some is same wanted = absurd (none-some (value - 1) same)
-  limited_below pairs best value (query.BadAt c o (Some limit)) some is same wanted = let l = lowered_is pairs best value limit some is same in inr (another pairs best c limit l wanted, l)
+  limited_below pairs best value (query.BadAt c o limit) some is same wanted = let l = lowered_is pairs best value limit some is same in inr (another pairs best c limit l wanted.0, l)
   limited_below pairs best value (query.Wanted inputs None) some is same wanted = absurd (none-some (value - 1) same)
   limited_below pairs best value (query.Wanted inputs (Some limit)) some is same wanted = lowered_is pairs best value limit some is same

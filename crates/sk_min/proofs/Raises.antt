@@ -19,7 +19,7 @@ use Rattle.sk_oblig_queries.specs.Queries.{IsBad, IsWanted}
 use Rattle.sk_oblig.specs.Formulas.{IsAskable}
 use Rattle.sk_loop.specs.Countered.{IsBadQuery, IsSpentOn}
 use Rattle.sk_loop_laws.specs.Honest.{Grown, Honest, inputs_of}
-use Rattle.sk_loop_laws.specs.Shown.{IsOfPairs, Learnt}
+use Rattle.sk_loop_laws.specs.Shown.{IsOfPairs, IsOfSearch, Learnt}
 use Rattle.sk_min.specs.Least.{IsLimited, IsShort, Meeting, greatest_on}
 use Rattle.sk_min.specs.Search.{IsBehind, IsRaised}
 use Rattle.sk_min.proofs.Greatest.{each_within, greatest_push}
@@ -105,17 +105,22 @@ module _ (e : Expanded) (bounds : Bounds) where
         inl (ap (λ (x : Pair). x.choice) (sym same) ∙ r.of_best);
   }
 
+  -- a query for an input of any obligation is one of the search
+  pub of_search : (q : Query) (choice : Choice) (limit : Option ℕ) → IsBadQuery q choice limit → IsOfSearch q
+  of_search (query.Bad c l) choice limit h = tt
+  of_search (query.BadAt c o l) choice limit h = absurd h
+  of_search (query.Wanted inputs l) choice limit h = absurd h
+
   -- the query of a spent search for a costlier input
   pub limited_of : (pairs : List Pair) (best : Choice) (value : ℕ) (q : Query) → IsBadQuery q best (Some value) → value ≡ greatest_on e bounds best (inputs_of pairs) → IsLimited e bounds pairs best q
   limited_of pairs best value (query.Bad c None) h is = absurd (none-some value h.1)
   limited_of pairs best value (query.Bad c (Some limit)) h is = inl (h.0, same_Some limit value h.1 ∙ is)
-  limited_of pairs best value (query.BadAt c o None) h is = absurd (none-some value h.1)
-  limited_of pairs best value (query.BadAt c o (Some limit)) h is = inl (h.0, same_Some limit value h.1 ∙ is)
+  limited_of pairs best value (query.BadAt c o limit) h is = absurd h
   limited_of pairs best value (query.Wanted inputs limit) h is = absurd h
 
   pub of_pairs : (pairs : List Pair) (best : Choice) (limit : Option ℕ) (q : Query) → IsBadQuery q best limit → IsWanted e bounds (inputs_of pairs) limit best → IsOfPairs e bounds pairs q
   of_pairs pairs best limit (query.Bad c l) h wanted = subst (λ (b : Choice). IsWanted e bounds (inputs_of pairs) l b) (sym h.0) (subst (λ (m : Option ℕ). IsWanted e bounds (inputs_of pairs) m best) (sym h.1) wanted)
-  of_pairs pairs best limit (query.BadAt c o l) h wanted = subst (λ (b : Choice). IsWanted e bounds (inputs_of pairs) l b) (sym h.0) (subst (λ (m : Option ℕ). IsWanted e bounds (inputs_of pairs) m best) (sym h.1) wanted)
+  of_pairs pairs best limit (query.BadAt c o l) h wanted = absurd h
   of_pairs pairs best limit (query.Wanted inputs l) h wanted = absurd h
 
   pub learnt_of : (pairs : List Pair) (best : Choice) (value count : ℕ) (q : Query) (f : Encoded) (log : List (List Lit)) → IsAskable e bounds → Honest e bounds pairs → Meeting e bounds best → value ≡ greatest_on e bounds best (inputs_of pairs) → IsSpentOn e bounds best (Some value) count q f log → Learnt e bounds count pairs q f log

@@ -12,7 +12,7 @@ use Rattle.sk_oblig_queries.specs.declared.query.Query.{Query}
 use Rattle.sk_oblig_queries.specs.declared.query.Query.TheVariants as query
 use Rattle.sk_oblig_queries.specs.Queries.{IsWanted}
 use Rattle.sk_loop_laws.specs.Honest.{Honest, inputs_of}
-use Rattle.sk_loop_laws.specs.Shown.{AreSpent, Learnt, limit_of}
+use Rattle.sk_loop_laws.specs.Shown.{AreSpent, Learnt, limit_of, IsOfSearch}
 use Rattle.sk_min_costs.specs.Free.{is_free}
 use Rattle.sk_min.specs.declared.answer.Least.{Least}
 use Rattle.sk_min_costs.specs.Free.{is_free}
@@ -75,7 +75,7 @@ IsLimitedFor e bounds pairs best choice limit = ((choice ≡ best) × (limit ≡
 
 abbrev pub IsLimited : Expanded → Bounds → List Pair → Choice → Query → Type 0
 IsLimited e bounds pairs best (query.Bad choice (Some limit)) = IsLimitedFor e bounds pairs best choice limit
-IsLimited e bounds pairs best (query.BadAt choice o (Some limit)) = IsLimitedFor e bounds pairs best choice limit
+IsLimited e bounds pairs best (query.BadAt choice o limit) = IsLimitedFor e bounds pairs best choice limit
 IsLimited e bounds pairs best (query.Wanted inputs (Some limit)) = IsLowered e bounds pairs best limit
 IsLimited e bounds pairs best _ = ⊥
 
@@ -98,4 +98,4 @@ abbrev pub IsAnswer : Expanded → Bounds → Budget → Least → Type 0
 IsAnswer e bounds budget (least.Best choice value pairs) = Honest e bounds pairs × IsBest e bounds choice value × NoneBelow e bounds (inputs_of pairs) value × IsFreeBest e value
 IsAnswer e bounds budget (least.Nothing pairs) = Honest e bounds pairs × IsNone e bounds (inputs_of pairs)
 IsAnswer e bounds budget (least.Rounds pairs best) = Honest e bounds pairs × AreSpent budget.rounds pairs × IsKnown e bounds pairs best
-IsAnswer e bounds budget (least.Conflicts pairs q f log best) = Learnt e bounds budget.conflicts pairs q f log × IsKnownOf e bounds pairs q best × IsFreeSpent e best
+IsAnswer e bounds budget (least.Conflicts pairs q f log best) = Learnt e bounds budget.conflicts pairs q f log × IsKnownOf e bounds pairs q best × IsFreeSpent e best × IsOfSearch q

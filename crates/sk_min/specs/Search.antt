@@ -10,7 +10,7 @@ use Rattle.sk_model.specs.Meets.{IsGreatestCost}
 use Rattle.sk_loop.specs.declared.session.Session.{Session}
 use Rattle.sk_loop.specs.Session.{IsReady}
 use Rattle.sk_loop_laws.specs.Honest.{Honest, inputs_of}
-use Rattle.sk_loop_laws.specs.Shown.{AreSpent, Completes, Learnt}
+use Rattle.sk_loop_laws.specs.Shown.{AreSpent, Completes, Learnt, IsOfSearch}
 use Rattle.sk_min_costs.specs.Free.{is_free}
 use Rattle.sk_min.specs.declared.search.Costlier.{Costlier}
 use Rattle.sk_min.specs.declared.search.Costlier.TheVariants as costlier
@@ -61,7 +61,7 @@ abbrev pub IsCostlier : Expanded → Bounds → Budget → Choice → ℕ → Li
 IsCostlier e bounds budget best value old new (costlier.Cost cost) = IsRaised e bounds best old new cost
 IsCostlier e bounds budget best value old new costlier.None = (new ≡ old) × Completes e bounds (Some value) best
 IsCostlier e bounds budget best value old new costlier.Rounds = Honest e bounds new × AreSpent budget.rounds new × IsShort e bounds new best
-IsCostlier e bounds budget best value old new (costlier.Conflicts q f log) = Learnt e bounds budget.conflicts new q f log × IsLimited e bounds new best q
+IsCostlier e bounds budget best value old new (costlier.Conflicts q f log) = Learnt e bounds budget.conflicts new q f log × IsLimited e bounds new best q × IsOfSearch q
 
 -- What the search for the greatest cost of a choice answers: the old pairs stand first.
 abbrev pub IsRaisedTo : Expanded → Bounds → Budget → Choice → List Pair → Raised → Type 0

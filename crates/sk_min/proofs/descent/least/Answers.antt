@@ -22,4 +22,4 @@ returns-in-Rounds c =
 pub returns-in-Conflicts : goal.returns-in-Conflicts
 returns-in-Conflicts c =
     let found = subst (λ (x : Found). IsFound c.args.expanded.now c.args.bounds.now None c.args.budget.now c.synthesise.new.pairs x) c.in-Conflicts.is c.in_ok-choice.ensures.found in
-    record { answer = (found.0, found.1, λ _. refl) }
+    record { answer = (found.0, found.1, λ _. refl, found.2) }

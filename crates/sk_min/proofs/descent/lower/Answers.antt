@@ -38,4 +38,5 @@ returns-in-Conflicts c =
       found.0,
       (c.requires.top.meeting, limited_below c.args.expanded.now c.args.bounds.now c.synthesise.new.pairs c.args.best c.args.value c.in-Conflicts.query some same found.1 found.0.query),
       λ free. absurd (c.requires.costly free),
+      found.2,
     )
