@@ -18,7 +18,6 @@ const FIRST_STEP: u64 = 1 << 20;
 
 /// Weights and signs of the variables, and a heap of variables with the heaviest first. No contract speaks of
 /// them: they only order the decisions. A variable that is not in the heap is found by looking at all.
-#[derive(Drop)]
 pub struct Activity {
     weights: Vec<u64>,
     negative: Vec<bool>,
@@ -33,6 +32,22 @@ pub struct Activity {
     places: Vec<u32>,
     /// Of each variable whether it is never decided.
     hidden: Vec<bool>,
+}
+
+impl Drop for Activity {
+    fn drop(self) {
+        let Activity {
+            weights: _,
+            negative: _,
+            target: _,
+            longest: _,
+            aims: _,
+            step: _,
+            heap: _,
+            places: _,
+            hidden: _,
+        } = self;
+    }
 }
 
 // A sixteenth more, at least 1.

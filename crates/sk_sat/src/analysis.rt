@@ -230,7 +230,6 @@ fn no_marks(alloc: Global, vars: usize) -> Result<Vec<bool>, AllocError>
 
 /// What a conflict teaches, and what is needed to find it, which is kept from one conflict to the next. Contracts see
 /// the clause that the last conflict taught.
-#[derive(Drop)]
 pub struct Lessons {
     alloc: Global,
     marks: Vec<bool>,
@@ -239,6 +238,20 @@ pub struct Lessons {
     extra: Vec<Lit>,
     tried: Tried,
     clause: Vec<Lit>,
+}
+
+impl Drop for Lessons {
+    fn drop(self) {
+        let Lessons {
+            alloc: _,
+            marks: _,
+            kept: _,
+            out: _,
+            extra: _,
+            tried: _,
+            clause: _,
+        } = self;
+    }
 }
 
 impl Model for Lessons {

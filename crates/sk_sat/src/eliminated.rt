@@ -8,8 +8,9 @@ use crate::packed::Packed;
 use sk_clause::Lit;
 use std::alloc::{AllocError, Global};
 
-/// So many conflicts stand before the first elimination of variables. Each later one waits twice as long.
-const FIRST: u64 = 300;
+/// So many conflicts of a search stand before its first elimination of variables. Each later one of it waits twice as
+/// long.
+const FIRST: u64 = 20;
 
 /// A literal of an eliminated variable, and which of the clauses kept have it.
 #[derive(Clone, Copy, Drop)]
@@ -21,7 +22,6 @@ struct Removed {
 
 /// The eliminated variables in the order in which they went. No contract says that their values are right: wrong ones
 /// would only make the search slower.
-#[derive(Drop)]
 pub struct Eliminated {
     removed: Vec<Removed>,
     clauses: Vec<usize>,
@@ -29,6 +29,17 @@ pub struct Eliminated {
     left: usize,
     /// So many conflicts of a search stand before the next elimination.
     due: u64,
+}
+
+impl Drop for Eliminated {
+    fn drop(self) {
+        let Eliminated {
+            removed: _,
+            clauses: _,
+            left: _,
+            due: _,
+        } = self;
+    }
 }
 
 /// Whether a clause has a true literal.
@@ -67,7 +78,13 @@ impl Eliminated {
         self.removed.is_empty() && conflicts >= self.due
     }
 
-    /// The next elimination is to wait twice as long.
+    /// Begins a search: each of them may have no value, and no conflict has come yet.
+    pub fn begin(&mut self) {
+        self.rewind();
+        self.due = FIRST;
+    }
+
+    /// The next elimination of the search is to wait twice as long.
     pub fn wait(&mut self) {
         self.due = self.due.saturating_mul(2);
     }

@@ -167,12 +167,22 @@ fn leave_out(
 }
 
 /// For each literal its clauses, of those that an elimination counts, and those with a variable and with its negation.
-#[derive(Drop)]
 struct Occurrences {
     lists: Lists,
     positive: Vec<usize>,
     negative: Vec<usize>,
     out: Vec<Lit>,
+}
+
+impl Drop for Occurrences {
+    fn drop(self) {
+        let Occurrences {
+            lists: _,
+            positive: _,
+            negative: _,
+            out: _,
+        } = self;
+    }
 }
 
 // The clauses of a literal, if they are few.

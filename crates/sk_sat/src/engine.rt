@@ -18,7 +18,6 @@ use sk_clause::ClauseList;
 use std::alloc::{AllocError, Global};
 
 /// The clauses that a search knows, what is true at level 0, and what earlier searches have found out.
-#[derive(Drop)]
 pub struct Engine {
     alloc: Global,
     known: Known,
@@ -29,6 +28,21 @@ pub struct Engine {
     lessons: Lessons,
     /// How many of the added clauses it has.
     taken: usize,
+}
+
+impl Drop for Engine {
+    fn drop(self) {
+        let Engine {
+            alloc: _,
+            known: _,
+            trail: _,
+            watches: _,
+            activity: _,
+            eliminated: _,
+            lessons: _,
+            taken: _,
+        } = self;
+    }
 }
 
 // The clauses of a list, as known ones.
@@ -133,7 +147,7 @@ impl Engine {
         ensures consistent { OnOk result (All IsConsistent fresh.new) }
         ensures outcome { IfOk result (IsOutcome (length self.old.trail.values.items) self.old.known fresh.new budget) }
     {
-        self.eliminated.rewind();
+        self.eliminated.begin();
         let outcome = search(
             self.alloc,
             &mut self.trail,

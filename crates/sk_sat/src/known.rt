@@ -160,7 +160,6 @@ fn chains_inside(list: &Store, heads: &[usize], links: &[usize], clause: &[Lit])
 }
 
 /// The known clauses. Contracts see the list of them.
-#[derive(Drop)]
 pub struct Known {
     list: Store,
     /// Of each variable the number, and one more, of the last clause that begins with a literal of it.
@@ -169,6 +168,17 @@ pub struct Known {
     links: Vec<usize>,
     /// Whether there is an empty clause.
     blank: bool,
+}
+
+impl Drop for Known {
+    fn drop(self) {
+        let Known {
+            list: _,
+            heads: _,
+            links: _,
+            blank: _,
+        } = self;
+    }
 }
 
 impl Model for Known {

@@ -26,7 +26,6 @@ pub enum Answer {
 }
 
 /// Variables and clauses, and what was learnt from them in all calls so far.
-#[derive(Drop)]
 pub struct Solver {
     alloc: Global,
     vars: usize,
@@ -34,6 +33,18 @@ pub struct Solver {
     learnt: ClauseList,
     /// What the last call kept for the next one.
     engine: Option<Engine>,
+}
+
+impl Drop for Solver {
+    fn drop(self) {
+        let Solver {
+            alloc: _,
+            vars: _,
+            added: _,
+            learnt: _,
+            engine: _,
+        } = self;
+    }
 }
 
 impl Model for Solver {

@@ -9,13 +9,24 @@ use sk_clause::Lit;
 use std::alloc::{AllocError, Global};
 
 /// The literals that are true so far, in the order in which they became so.
-#[derive(Drop)]
 pub struct Trail {
     pub values: Vec<Option<bool>>,
     pub level: Vec<usize>,
     pub reason: Vec<usize>,
     pub lits: Vec<Lit>,
     pub lims: Vec<usize>,
+}
+
+impl Drop for Trail {
+    fn drop(self) {
+        let Trail {
+            values: _,
+            level: _,
+            reason: _,
+            lits: _,
+            lims: _,
+        } = self;
+    }
 }
 
 fn nones(alloc: Global, n: usize) -> Result<Vec<Option<bool>>, AllocError>

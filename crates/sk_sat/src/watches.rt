@@ -110,7 +110,6 @@ struct Row {
 
 /// For each literal the watches of it. No contract says that they are right: wrong ones would only make the search
 /// slower.
-#[derive(Drop)]
 pub struct Watches {
     lists: Lists,
     /// The literals of the clauses, one clause behind another, in each the watched ones first.
@@ -125,6 +124,21 @@ pub struct Watches {
     /// Of each level the number of the last clause that had a literal of it, where the levels of clauses were counted.
     stamps: Vec<u64>,
     counted: u64,
+}
+
+impl Drop for Watches {
+    fn drop(self) {
+        let Watches {
+            lists: _,
+            codes: _,
+            rows: _,
+            ready: _,
+            learnt: _,
+            done: _,
+            stamps: _,
+            counted: _,
+        } = self;
+    }
 }
 
 /// What a visit of a clause that watches a false literal came to.
