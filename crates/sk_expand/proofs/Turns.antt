@@ -1,12 +1,12 @@
 -- Parts walked one after another, and statements walked so many times.
 use Rattle.std.proofs.Common.{◌≡◌, ℕ, suc, ◌+◌, ◌-◌, ◌<◌, List, [], ◌∷◌, ◌++◌, length, length-append, append_assoc, sym, ap, subst, ◌∙◌, arith, drop, get_or}
 use Rattle.std.proofs.lemmas.List.{drop_more}
-use Rattle.std.specs.Prelude.{map}
+use Rattle.std.specs.Prelude.{map, Result, Ok, Err}
 use Rattle.sk_prog.specs.declared.stmt.PStmt.{PStmt}
 use Rattle.sk_model.specs.Parts.{total}
 use Rattle.sk_model.specs.Nodes.{stmts_nodes, funs_nodes}
 use Rattle.sk_model.specs.Expand.{Made, Walk, ◌>>=◌, as_walk, in_order, times}
-use Rattle.sk_expand.specs.Made.{State, Goes, Stops, After, Took}
+use Rattle.sk_expand.specs.Made.{State, Gives, Goes, Stops, After, Took, Beside}
 use Rattle.sk_expand.specs.Walking.{followed}
 use Rattle.sk_expand.specs.declared.stop.Stop.{Stop}
 use Rattle.sk_expand.specs.declared.stop.Stop.TheVariants.{TooLarge, NoMemory}
@@ -77,6 +77,15 @@ module _ {A B C : Type 0} (na : A → ℕ) (nb : B → ℕ) (nc : C → ℕ) (f 
       omega (arith, took.room, one.room, l, funs_append m.copies o.copies, law m.made o.made)
   two_stop NoMemory less = tt
 
+  -- where the second part is made beside the first
+  pub two_go_beside : (r : State) (second : Result B Stop) (both : A × B) → Gives nb second q r (wb (length q.copies)) → Beside (Ok both) a second → Goes nc (f both.0 both.1) s r (followed wa (λ x. as_walk (λ y. f x y) wb) (length s.copies))
+  two_go_beside r second both gives beside =
+      let goes = subst (λ (m : Result B Stop). Gives nb m q r (wb (length q.copies))) beside.1 gives in
+      subst (λ z. Goes nc (f z both.1) s r (followed wa (λ x. as_walk (λ y. f x y) wb) (length s.copies))) (sym beside.0) (two_go r both.1 goes)
+
+  pub two_stop_beside : (r : State) (second : Result B Stop) (stop : Stop) → Gives nb second q r (wb (length q.copies)) → second ≡ Err stop → Stops nc stop s (followed wa (λ x. as_walk (λ y. f x y) wb) (length s.copies))
+  two_stop_beside r second stop gives is = two_stop stop (subst (λ (m : Result B Stop). Gives nb m q r (wb (length q.copies))) is gives)
+
 -- One walk after another, three of them.
 module _ {A B C D : Type 0} (na : A → ℕ) (nb : B → ℕ) (nc : C → ℕ) (nd : D → ℕ) (f : A → B → C → D) (wa : Walk A) (wb : Walk B) (wc : Walk C) (s p q : State) (a : A) (n : ℕ) (law : (x : A) (y : B) (z : C) → nd (f x y z) ≡ n + (na x + (nb y + nc z))) (took : Took n s p) (first : Goes na a p q (wa (length p.copies))) where
   begin : length p.copies ≡ length s.copies
@@ -128,6 +137,24 @@ module _ {A B C D : Type 0} (na : A → ℕ) (nb : B → ℕ) (nc : C → ℕ) (
         let l : r.room < nc mc.made + funs_nodes mc.copies = subst (λ k. r.room < nc (wc k).made + funs_nodes (wc k).copies) last_at less in
         omega (arith, took.room, one_of.room, two_of.room, l, funs_append ma.copies (mb.copies ++ mc.copies), funs_append mb.copies mc.copies, law ma.made mb.made mc.made)
     three_stop_last NoMemory less = tt
+
+  -- where each part is made beside those before it
+  pub three_stop_second_beside : (r : State) (second : Result B Stop) (stop : Stop) → Gives nb second q r (wb (length q.copies)) → second ≡ Err stop → Stops nd stop s all
+  three_stop_second_beside r second stop gives is = three_stop_second stop (subst (λ (m : Result B Stop). Gives nb m q r (wb (length q.copies))) is gives)
+
+  module _ (r : State) (second : Result B Stop) (both : A × B) (gives : Gives nb second q r (wb (length q.copies))) (beside : Beside (Ok both) a second) where
+    second_goes : Goes nb both.1 q r (wb (length q.copies))
+    second_goes = subst (λ (m : Result B Stop). Gives nb m q r (wb (length q.copies))) beside.1 gives
+
+    pub three_go_beside : (t : State) (third : Result C Stop) (every : (A × B) × C) → Gives nc third r t (wc (length r.copies)) → Beside (Ok every) both third → Goes nd (f every.0.0 every.0.1 every.1) s t all
+    three_go_beside t third every made last =
+        let goes = subst (λ (m : Result C Stop). Gives nc m r t (wc (length r.copies))) last.1 made in
+        let from = three_go r both.1 second_goes t every.1 goes in
+        let with_first = subst (λ x. Goes nd (f x both.1 every.1) s t all) (sym beside.0) from in
+        subst (λ (p : A × B). Goes nd (f p.0 p.1 every.1) s t all) (sym last.0) with_first
+
+    pub three_stop_last_beside : (t : State) (third : Result C Stop) (stop : Stop) → Gives nc third r t (wc (length r.copies)) → third ≡ Err stop → Stops nd stop s all
+    three_stop_last_beside t third stop made is = three_stop_last r both.1 second_goes stop (subst (λ (m : Result C Stop). Gives nc m r t (wc (length r.copies))) is made)
 
 pub times_on : {A : Type 0} (n k : ℕ) (w : Walk (List A)) (j : ℕ) → k < n → times (n - k) w j ≡ (w >>= (λ xs. as_walk (λ ys. xs ++ ys) (times (n - (k + 1)) w))) j
 times_on n k w j h =

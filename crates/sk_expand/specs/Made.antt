@@ -69,3 +69,8 @@ abbrev pub Leaf : {A : Type 0} → Result A Stop → A → State → State → T
 Leaf (Ok a) made s t = (a ≡ made) × Took 1 s t
 Leaf (Err TooLarge) made s t = s.room < 1
 Leaf (Err NoMemory) made s t = ⊤
+
+-- a held value and one just made, or the error of its making
+abbrev pub Beside : {A B E : Type 0} → Result (A × B) E → A → Result B E → Type 0
+Beside (Ok both) held made = (both.0 ≡ held) × (made ≡ Ok both.1)
+Beside (Err e) held made = made ≡ Err e

@@ -5,7 +5,7 @@ ghost use Rattle.sk_prog.specs.declared.stmt.PForm.TheVariants as sform;
 ghost use Rattle.sk_model.specs.Parts.{rank};
 ghost use Rattle.sk_model.specs.Nodes.{expr_nodes, value_nodes, stmt_nodes, stmts_nodes};
 ghost use Rattle.sk_model.specs.Expand.{as_walk, times, copies_held, most_copies, fun_id, stub, copy_of, are_ordinary, is_zero};
-ghost use Rattle.sk_expand.specs.Made.{Gives, GivesList, GivesCopies, Leaf};
+ghost use Rattle.sk_expand.specs.Made.{Beside, Gives, GivesList, GivesCopies, Leaf};
 ghost use Rattle.sk_expand.specs.Nodes.{exprs_nodes, fields_nodes, nodes_of_eform, nodes_of_form, branch_nodes, none};
 ghost use Rattle.sk_expand.specs.Walking.{HasNumbers, followed, left_under, calls_in, expr_in, exprs_in, eform_in, fields_in, value_in, stmt_in, stmts_in, form_in, branch_in, copies_in};
 
@@ -40,6 +40,17 @@ fn sum(ordinary: u32, before: u32) -> Result<u32, AllocError>
     match ordinary.checked_add(before) {
         Some(n) => Ok(n),
         None => Err(AllocError),
+    }
+}
+
+/// A held value beside one just made, or the error of its making. What is held is dropped here alone, so that the caller's
+/// proof has no drop of a tree at the exit.
+fn beside<A: Drop, B>(held: A, made: Result<B, Stop>) -> Result<(A, B), Stop>
+    ensures { Beside result held made }
+{
+    match made {
+        Ok(b) => Ok((held, b)),
+        Err(stop) => Err(stop),
     }
 }
 
@@ -562,7 +573,8 @@ impl Walker<'_> {
         ensures { Gives nodes_of_form result made.old made.new (followed (expr_in self.now target.now) (λ x. as_walk (λ y. sform.Assign x y) (expr_in self.now value.now)) (length made.old.copies)) }
     {
         let target = self.expr(levels, made, target)?;
-        let value = self.expr(levels, made, value)?;
+        let both = beside(target, self.expr(levels, made, value))?;
+        let (target, value) = both;
         Ok(PForm::Assign { target, value })
     }
 
@@ -581,13 +593,10 @@ impl Walker<'_> {
         ensures { Gives nodes_of_form result made.old made.new (followed (expr_in self.now cond.now) (λ x. followed (stmt_in self.now first.now) (λ y. as_walk (λ z. sform.If x y z) (branch_in self.now second.now))) (length made.old.copies)) }
     {
         let cond = self.expr(levels, made, cond)?;
-        let first = self.boxed_stmt(levels, made, first)?;
-        let second = self.otherwise(levels, made, second)?;
-        Ok(PForm::If {
-            cond,
-            then: first,
-            other: second,
-        })
+        let both = beside(cond, self.boxed_stmt(levels, made, first))?;
+        let all = beside(both, self.otherwise(levels, made, second))?;
+        let ((cond, then), other) = all;
+        Ok(PForm::If { cond, then, other })
     }
 
     #[cycle(walk)]
@@ -604,7 +613,8 @@ impl Walker<'_> {
         ensures { Gives nodes_of_form result made.old made.new (followed (expr_in self.now cond.now) (λ x. as_walk (λ y. sform.While x y) (stmt_in self.now body.now)) (length made.old.copies)) }
     {
         let cond = self.expr(levels, made, cond)?;
-        let body = self.boxed_stmt(levels, made, body)?;
+        let both = beside(cond, self.boxed_stmt(levels, made, body))?;
+        let (cond, body) = both;
         Ok(PForm::While { cond, body })
     }
 
@@ -624,9 +634,9 @@ impl Walker<'_> {
     {
         take_expr(made, count)?;
         let held = copies_held(&self.bounds, &count.form);
-        let count = copy_expr(self.alloc, count)?;
         let copies = self.times(levels, made, held, copies)?;
         let copies = List::from_vec(copies);
+        let count = copy_expr(self.alloc, count)?;
         Ok(PForm::Repeat { count, copies })
     }
 

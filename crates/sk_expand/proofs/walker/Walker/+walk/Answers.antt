@@ -12,7 +12,7 @@ use Rattle.sk_expand.specs.Nodes.{exprs_nodes, field_nodes, nodes_of_eform, node
 use Rattle.sk_expand.specs.Walking.{calls_in, expr_in, exprs_in, eform_in, field_in, fields_in, stmt_in, stmts_in, branch_in, body_in}
 use Rattle.sk_expand.proofs.Kept.{pattern_stops, braces_stops, field_goes, field_stops}
 use Rattle.sk_expand.proofs.NodeLaws.{nodes_binary, nodes_index, nodes_slice, nodes_cond, nodes_call, nodes_assign, nodes_while, nodes_if, call_becomes}
-use Rattle.sk_expand.proofs.Turns.{part_at, part_stops_at, turn_after, two_go, two_stop, three_go, three_stop_second, three_stop_last}
+use Rattle.sk_expand.proofs.Turns.{part_at, part_stops_at, turn_after, two_go, two_stop, two_go_beside, two_stop_beside, three_go, three_stop_second, three_stop_last, three_go_beside, three_stop_second_beside, three_stop_last_beside}
 use Rattle.sk_expand.proofs.Calls.{goes_stub, stops_stub, goes_copy, stops_copy, copied_adds}
 use Rattle.sk_expand.proofs.walker.Walker.+walk.Goals as goal
 
@@ -109,20 +109,20 @@ slice-returns-in_err-from t c =
     rw (p.1, p.2) (two_stop expr_nodes expr_nodes nodes_of_eform (λ x y. eform.Slice x y c.args.count) (expr_in c.args.self.now c.args.base.now) (expr_in c.args.self.now c.args.from.now) c.args.made.now c.take.new.self c.boxed.new.made c.in_ok-base.base 1 (λ x y. omega (arith, nodes_slice x y c.args.count)) c.in_ok-take.ensures c.in_ok-base.ensures c.in_err-from.field-0.0 c.in_err-from.ensures)
 
 pub assigned-returns : goal.assigned-returns
-assigned-returns t c = two_go expr_nodes expr_nodes nodes_of_form (λ x y. sform.Assign x y) (expr_in c.args.self.now c.args.target.now) (expr_in c.args.self.now c.args.value.now) c.args.made.now c.args.made.now c.expr.new.made c.in_ok-target.target 0 (λ x y. omega (arith, nodes_assign x y)) (record { copies = refl; room = omega arith }) c.in_ok-target.ensures c.expr-2.new.made c.in_ok-value.value c.in_ok-value.ensures
+assigned-returns t c = two_go_beside expr_nodes expr_nodes nodes_of_form (λ x y. sform.Assign x y) (expr_in c.args.self.now c.args.target.now) (expr_in c.args.self.now c.args.value.now) c.args.made.now c.args.made.now c.expr.new.made c.in_ok-target.target 0 (λ x y. omega (arith, nodes_assign x y)) (record { copies = refl; room = omega arith }) c.in_ok-target.ensures c.expr-2.new.made c.expr-2.result c.in_ok-both.both c.expr-2.ensures c.in_ok-both.ensures
 
-pub assigned-returns-in_err-value : goal.assigned-returns-in_err-value
-assigned-returns-in_err-value t c =
-    let p = err_from_is_err_and c.from_residual-in_err-value.result c.from_residual-in_err-value.ensures.1 in
-    rw (p.1, p.2) (two_stop expr_nodes expr_nodes nodes_of_form (λ x y. sform.Assign x y) (expr_in c.args.self.now c.args.target.now) (expr_in c.args.self.now c.args.value.now) c.args.made.now c.args.made.now c.expr.new.made c.in_ok-target.target 0 (λ x y. omega (arith, nodes_assign x y)) (record { copies = refl; room = omega arith }) c.in_ok-target.ensures c.in_err-value.field-0.0 c.in_err-value.ensures)
+pub assigned-returns-in_err-both : goal.assigned-returns-in_err-both
+assigned-returns-in_err-both t c =
+    let p = err_from_is_err_and c.from_residual-in_err-both.result c.from_residual-in_err-both.ensures.1 in
+    rw (p.1, p.2) (two_stop_beside expr_nodes expr_nodes nodes_of_form (λ x y. sform.Assign x y) (expr_in c.args.self.now c.args.target.now) (expr_in c.args.self.now c.args.value.now) c.args.made.now c.args.made.now c.expr.new.made c.in_ok-target.target 0 (λ x y. omega (arith, nodes_assign x y)) (record { copies = refl; room = omega arith }) c.in_ok-target.ensures c.expr-2.new.made c.expr-2.result c.in_err-both.field-0.0 c.expr-2.ensures c.in_err-both.ensures)
 
 pub looped-returns : goal.looped-returns
-looped-returns t c = two_go expr_nodes stmt_nodes nodes_of_form (λ x y. sform.While x y) (expr_in c.args.self.now c.args.cond.now) (stmt_in c.args.self.now c.args.body.now) c.args.made.now c.args.made.now c.expr.new.made c.in_ok-cond.cond 0 (λ x y. omega (arith, nodes_while x y)) (record { copies = refl; room = omega arith }) c.in_ok-cond.ensures c.boxed_stmt.new.made c.in_ok-body.body c.in_ok-body.ensures
+looped-returns t c = two_go_beside expr_nodes stmt_nodes nodes_of_form (λ x y. sform.While x y) (expr_in c.args.self.now c.args.cond.now) (stmt_in c.args.self.now c.args.body.now) c.args.made.now c.args.made.now c.expr.new.made c.in_ok-cond.cond 0 (λ x y. omega (arith, nodes_while x y)) (record { copies = refl; room = omega arith }) c.in_ok-cond.ensures c.boxed_stmt.new.made c.boxed_stmt.result c.in_ok-both.both c.boxed_stmt.ensures c.in_ok-both.ensures
 
-pub looped-returns-in_err-body : goal.looped-returns-in_err-body
-looped-returns-in_err-body t c =
-    let p = err_from_is_err_and c.from_residual-in_err-body.result c.from_residual-in_err-body.ensures.1 in
-    rw (p.1, p.2) (two_stop expr_nodes stmt_nodes nodes_of_form (λ x y. sform.While x y) (expr_in c.args.self.now c.args.cond.now) (stmt_in c.args.self.now c.args.body.now) c.args.made.now c.args.made.now c.expr.new.made c.in_ok-cond.cond 0 (λ x y. omega (arith, nodes_while x y)) (record { copies = refl; room = omega arith }) c.in_ok-cond.ensures c.in_err-body.field-0.0 c.in_err-body.ensures)
+pub looped-returns-in_err-both : goal.looped-returns-in_err-both
+looped-returns-in_err-both t c =
+    let p = err_from_is_err_and c.from_residual-in_err-both.result c.from_residual-in_err-both.ensures.1 in
+    rw (p.1, p.2) (two_stop_beside expr_nodes stmt_nodes nodes_of_form (λ x y. sform.While x y) (expr_in c.args.self.now c.args.cond.now) (stmt_in c.args.self.now c.args.body.now) c.args.made.now c.args.made.now c.expr.new.made c.in_ok-cond.cond 0 (λ x y. omega (arith, nodes_while x y)) (record { copies = refl; room = omega arith }) c.in_ok-cond.ensures c.boxed_stmt.new.made c.boxed_stmt.result c.in_err-both.field-0.0 c.boxed_stmt.ensures c.in_err-both.ensures)
 
 pub choice-returns : goal.choice-returns
 choice-returns t c = three_go expr_nodes expr_nodes expr_nodes nodes_of_eform (λ x y z. eform.Cond x y z) (expr_in c.args.self.now c.args.cond.now) (expr_in c.args.self.now c.args.first.now) (expr_in c.args.self.now c.args.second.now) c.args.made.now c.take.new.self c.boxed.new.made c.in_ok-cond.cond 1 (λ x y z. omega (arith, nodes_cond x y z)) c.in_ok-take.ensures c.in_ok-cond.ensures c.boxed-2.new.made c.in_ok-first.first c.in_ok-first.ensures c.boxed-3.new.made c.in_ok-second.second c.in_ok-second.ensures
@@ -138,17 +138,17 @@ choice-returns-in_err-second t c =
     rw (p.1, p.2) (three_stop_last expr_nodes expr_nodes expr_nodes nodes_of_eform (λ x y z. eform.Cond x y z) (expr_in c.args.self.now c.args.cond.now) (expr_in c.args.self.now c.args.first.now) (expr_in c.args.self.now c.args.second.now) c.args.made.now c.take.new.self c.boxed.new.made c.in_ok-cond.cond 1 (λ x y z. omega (arith, nodes_cond x y z)) c.in_ok-take.ensures c.in_ok-cond.ensures c.boxed-2.new.made c.in_ok-first.first c.in_ok-first.ensures c.in_err-second.field-0.0 c.in_err-second.ensures)
 
 pub branches-returns : goal.branches-returns
-branches-returns t c = three_go expr_nodes stmt_nodes branch_nodes nodes_of_form (λ x y z. sform.If x y z) (expr_in c.args.self.now c.args.cond.now) (stmt_in c.args.self.now c.args.first.now) (branch_in c.args.self.now c.args.second.now) c.args.made.now c.args.made.now c.expr.new.made c.in_ok-cond.cond 0 (λ x y z. omega (arith, nodes_if x y z)) (record { copies = refl; room = omega arith }) c.in_ok-cond.ensures c.boxed_stmt.new.made c.in_ok-first.first c.in_ok-first.ensures c.otherwise.new.made c.in_ok-second.second c.in_ok-second.ensures
+branches-returns t c = three_go_beside expr_nodes stmt_nodes branch_nodes nodes_of_form (λ x y z. sform.If x y z) (expr_in c.args.self.now c.args.cond.now) (stmt_in c.args.self.now c.args.first.now) (branch_in c.args.self.now c.args.second.now) c.args.made.now c.args.made.now c.expr.new.made c.in_ok-cond.cond 0 (λ x y z. omega (arith, nodes_if x y z)) (record { copies = refl; room = omega arith }) c.in_ok-cond.ensures c.boxed_stmt.new.made c.boxed_stmt.result c.in_ok-both.both c.boxed_stmt.ensures c.in_ok-both.ensures c.otherwise.new.made c.otherwise.result c.in_ok-all.all c.otherwise.ensures c.in_ok-all.ensures
 
-pub branches-returns-in_err-first : goal.branches-returns-in_err-first
-branches-returns-in_err-first t c =
-    let p = err_from_is_err_and c.from_residual-in_err-first.result c.from_residual-in_err-first.ensures.1 in
-    rw (p.1, p.2) (three_stop_second expr_nodes stmt_nodes branch_nodes nodes_of_form (λ x y z. sform.If x y z) (expr_in c.args.self.now c.args.cond.now) (stmt_in c.args.self.now c.args.first.now) (branch_in c.args.self.now c.args.second.now) c.args.made.now c.args.made.now c.expr.new.made c.in_ok-cond.cond 0 (λ x y z. omega (arith, nodes_if x y z)) (record { copies = refl; room = omega arith }) c.in_ok-cond.ensures c.in_err-first.field-0.0 c.in_err-first.ensures)
+pub branches-returns-in_err-both : goal.branches-returns-in_err-both
+branches-returns-in_err-both t c =
+    let p = err_from_is_err_and c.from_residual-in_err-both.result c.from_residual-in_err-both.ensures.1 in
+    rw (p.1, p.2) (three_stop_second_beside expr_nodes stmt_nodes branch_nodes nodes_of_form (λ x y z. sform.If x y z) (expr_in c.args.self.now c.args.cond.now) (stmt_in c.args.self.now c.args.first.now) (branch_in c.args.self.now c.args.second.now) c.args.made.now c.args.made.now c.expr.new.made c.in_ok-cond.cond 0 (λ x y z. omega (arith, nodes_if x y z)) (record { copies = refl; room = omega arith }) c.in_ok-cond.ensures c.boxed_stmt.new.made c.boxed_stmt.result c.in_err-both.field-0.0 c.boxed_stmt.ensures c.in_err-both.ensures)
 
-pub branches-returns-in_err-second : goal.branches-returns-in_err-second
-branches-returns-in_err-second t c =
-    let p = err_from_is_err_and c.from_residual-in_err-second.result c.from_residual-in_err-second.ensures.1 in
-    rw (p.1, p.2) (three_stop_last expr_nodes stmt_nodes branch_nodes nodes_of_form (λ x y z. sform.If x y z) (expr_in c.args.self.now c.args.cond.now) (stmt_in c.args.self.now c.args.first.now) (branch_in c.args.self.now c.args.second.now) c.args.made.now c.args.made.now c.expr.new.made c.in_ok-cond.cond 0 (λ x y z. omega (arith, nodes_if x y z)) (record { copies = refl; room = omega arith }) c.in_ok-cond.ensures c.boxed_stmt.new.made c.in_ok-first.first c.in_ok-first.ensures c.in_err-second.field-0.0 c.in_err-second.ensures)
+pub branches-returns-in_err-all : goal.branches-returns-in_err-all
+branches-returns-in_err-all t c =
+    let p = err_from_is_err_and c.from_residual-in_err-all.result c.from_residual-in_err-all.ensures.1 in
+    rw (p.1, p.2) (three_stop_last_beside expr_nodes stmt_nodes branch_nodes nodes_of_form (λ x y z. sform.If x y z) (expr_in c.args.self.now c.args.cond.now) (stmt_in c.args.self.now c.args.first.now) (branch_in c.args.self.now c.args.second.now) c.args.made.now c.args.made.now c.expr.new.made c.in_ok-cond.cond 0 (λ x y z. omega (arith, nodes_if x y z)) (record { copies = refl; room = omega arith }) c.in_ok-cond.ensures c.boxed_stmt.new.made c.boxed_stmt.result c.in_ok-both.both c.boxed_stmt.ensures c.in_ok-both.ensures c.otherwise.new.made c.otherwise.result c.in_err-all.field-0.0 c.otherwise.ensures c.in_err-all.ensures)
 
 pub call-returns-in_err-stubbed : goal.call-returns-in_err-stubbed
 call-returns-in_err-stubbed t c =
