@@ -1,5 +1,5 @@
 -- Proofs that no choice passes some inputs.
-use Rattle.std.proofs.Common.{◌≡◌, ℕ, ◌-◌, ◌<◌, List, Option, Some, None, refl, sym, subst, ap, arith}
+use Rattle.std.proofs.Common.{◌≡◌, ℕ, ◌-◌, ◌<◌, List, Option, Some, None, refl, sym, subst, ap}
 use Rattle.sk_base.specs.declared.bounds.Bounds.{Bounds}
 use Rattle.sk_model.specs.declared.expanded.Choice.{Choice}
 use Rattle.sk_model.specs.declared.expanded.Expanded.{Expanded}
@@ -12,7 +12,7 @@ use Rattle.sk_cert.specs.declared.certificate.Proof.{Proof}
 use Rattle.sk_min_certify.specs.declared.stop.Stop.{Stop}
 use Rattle.sk_min_certify.specs.Stops.{IsStop}
 use Rattle.sk_min_certify.proofs.Refuting.{stop_wider}
-use Rattle.sk_min_certify.specs.Certified.{IsLower, IsLowerLimit, IsLowerQuery, NonePassesBelow}
+use Rattle.sk_min_certify.specs.Certified.{IsLowerLimit}
 use Rattle.sk_min_certify.specs.Proves.{IsVain, NoneIsWanted, Proves}
 
 pub inputs_vain : (e : Expanded) (bounds : Bounds) (copies inputs : List Input) (limit : Option ℕ) → copies ≡ inputs → NoneIsWanted e bounds inputs limit → IsVain e bounds (query.Wanted copies limit)
@@ -26,27 +26,13 @@ proves_below e bounds copies inputs limit p is h = subst (λ (xs : List Input). 
 pub same_below : (copies inputs : List Input) (limit : Option ℕ) → copies ≡ inputs → (q : Query) → q ≡ query.Wanted copies limit → q ≡ query.Wanted inputs limit
 same_below copies inputs limit is q same = subst (λ (xs : List Input). q ≡ query.Wanted xs limit) is same
 
--- with the limit of a lower proof one is made
-pub lower_made : (e : Expanded) (bounds : Bounds) (choice : Option Choice) (value : ℕ) (inputs : List Input) (limit : Option ℕ) (p : Proof) → IsLowerLimit choice value limit → Proves e bounds (query.Wanted inputs limit) p → IsLower e bounds choice value inputs (Some p)
-lower_made e bounds choice value inputs limit p is h = (limit, is, h)
-
-pub is_below : (choice : Option Choice) (value : ℕ) (inputs : List Input) (limit : Option ℕ) → IsLowerLimit choice value limit → (q : Query) → q ≡ query.Wanted inputs limit → IsLowerQuery choice value inputs q
-is_below choice value inputs limit is q same = subst (IsLowerQuery choice value inputs) (sym same) (refl, is)
-
 pub limit_free : (choice : Option Choice) (value : ℕ) → choice ≡ None → IsLowerLimit choice value None
 limit_free choice value is = subst (λ (c : Option Choice). IsLowerLimit c value None) (sym is) refl
 
 pub limit_less : (choice : Option Choice) (a : Choice) (value most : ℕ) → choice ≡ Some a → 0 < value → most ≡ value - 1 → IsLowerLimit choice value (Some most)
 limit_less choice a value most is some less = subst (λ (c : Option Choice). IsLowerLimit c value (Some most)) (sym is) (some, ap Some less)
 
--- with the value 0 there is no such limit
-pub lower_none : (e : Expanded) (bounds : Bounds) (choice : Option Choice) (a : Choice) (value : ℕ) (inputs : List Input) → choice ≡ Some a → value ≡ 0 → IsLower e bounds choice value inputs None
-lower_none e bounds choice a value inputs is zero_is = subst (λ (c : Option Choice). IsLower e bounds c value inputs None) (sym is) (λ limit h. let some = h.0 in omega (arith, some, zero_is))
-
 pub stop_within : (e : Expanded) (bounds : Bounds) (copies inputs : List Input) (limit : Option ℕ) (count : ℕ) (s : Stop) → copies ≡ inputs → IsStop e bounds (λ q. q ≡ query.Wanted copies limit) count s → IsStop e bounds (λ q. q ≡ query.Wanted inputs limit) count s
 stop_within e bounds copies inputs limit count s is = stop_wider e bounds (λ q. q ≡ query.Wanted copies limit) (λ q. q ≡ query.Wanted inputs limit) count s (same_below copies inputs limit is)
-
-pub stop_below : (e : Expanded) (bounds : Bounds) (choice : Option Choice) (value : ℕ) (inputs : List Input) (limit : Option ℕ) (count : ℕ) (s : Stop) → IsLowerLimit choice value limit → IsStop e bounds (λ q. q ≡ query.Wanted inputs limit) count s → IsStop e bounds (IsLowerQuery choice value inputs) count s
-stop_below e bounds choice value inputs limit count s is = stop_wider e bounds (λ q. q ≡ query.Wanted inputs limit) (IsLowerQuery choice value inputs) count s (is_below choice value inputs limit is)
 
 pub ruleset within = (inputs_vain, proves_below, stop_within)

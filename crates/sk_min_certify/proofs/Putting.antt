@@ -1,5 +1,5 @@
 -- The queries of the proofs, as those of a certificate.
-use Rattle.std.proofs.Common.{◌≡◌, ℕ, List, Option, Some, None, All, refl, sym, subst, ap}
+use Rattle.std.proofs.Common.{ℕ, List, Option, Some, None, All, sym, subst, ap}
 use Rattle.std.specs.Prelude.{IfSome}
 use Rattle.sk_base.specs.declared.bounds.Bounds.{Bounds}
 use Rattle.sk_model.specs.declared.expanded.Choice.{Choice}
@@ -13,7 +13,7 @@ use Rattle.sk_oblig.specs.Formulas.{IsAskable}
 use Rattle.sk_loop_laws.specs.Shown.{Completes}
 use Rattle.sk_loop_laws.proofs.Completing.{completes_is_wanted}
 use Rattle.sk_min_certify.specs.declared.stop.Stop.{Stop}
-use Rattle.sk_min_certify.specs.Certified.{IsLowerQuery, IsPut, IsUpperQueryOf}
+use Rattle.sk_min_certify.specs.Certified.{IsPut, IsUpperQueryOf}
 use Rattle.sk_min_certify.specs.Stops.{IsStop}
 use Rattle.sk_min_certify.proofs.Refuting.{stop_wider}
 
@@ -30,13 +30,5 @@ module _ (e : Expanded) (bounds : Bounds) (value : ℕ) (inputs : List Input) wh
         subst (λ (x : Choice). IsWanted e bounds inputs limit x) (sym h.0) (subst (λ (l : Option ℕ). IsWanted e bounds inputs l a) (sym h.2) wanted),
       )
 
-  lower_put : (choice : Option Choice) (q : Query) → IsLowerQuery choice value inputs q → IsPut e bounds choice value inputs q
-  lower_put choice (query.Wanted listed limit) h = h
-  lower_put choice (query.Bad a limit) h = absurd h
-  lower_put choice (query.BadAt a o limit) h = absurd h
-
   pub stop_above : (choice : Option Choice) (count : ℕ) (s : Stop) → IsAskable e bounds → IfSome choice (Completes e bounds (Some value)) → All (IsInput e.prog bounds) inputs → IsStop e bounds (IsUpperQueryOf e choice value) count s → IsStop e bounds (IsPut e bounds choice value inputs) count s
   stop_above choice count s askable c all = stop_wider e bounds (IsUpperQueryOf e choice value) (IsPut e bounds choice value inputs) count s (upper_put choice askable c all)
-
-  pub stop_below : (choice : Option Choice) (count : ℕ) (s : Stop) → IsStop e bounds (IsLowerQuery choice value inputs) count s → IsStop e bounds (IsPut e bounds choice value inputs) count s
-  stop_below choice count s = stop_wider e bounds (IsLowerQuery choice value inputs) (IsPut e bounds choice value inputs) count s (lower_put choice)

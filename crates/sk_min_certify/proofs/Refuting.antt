@@ -14,7 +14,7 @@ use Rattle.sk_loop_refuted.specs.Refuted.{IsRefutation, IsSolution, IsSpent}
 use Rattle.sk_min_certify.specs.declared.stop.Stop.{Stop}
 use Rattle.sk_min_certify.specs.declared.stop.Stop.TheVariants as stop
 use Rattle.sk_min_certify.specs.Proves.{IsVain, Proves}
-use Rattle.sk_min_certify.specs.Stops.{IsLearnt, IsStop}
+use Rattle.sk_min_certify.specs.Stops.{IsStop}
 
 -- its formula has no solution
 pub unmet : (e : Expanded) (bounds : Bounds) (q : Query) (f : Encoded) (values : List Bool) → AsksFor f e bounds q → IsVain e bounds q → IsSolution f values → ⊥
