@@ -160,16 +160,18 @@ def longest(on, took):
 def table(logs):
     on, (took, walls) = crates(), figures(logs)
     length, path = longest(on, took)
-    rows = sorted(on, key=lambda it: -sum(took.get(it, {}).values()))
+    rows = sorted((it for it in on if took.get(it)), key=lambda it: -sum(took[it].values()))
+    lacking = [it for it in on if "proof" not in took.get(it, {})]
     total = {kind: sum(took.get(it, {}).get(kind, 0.0) for it in on) for kind in KINDS}
     whole = sum(total.values())
     lines = [
         "| crate | proof | tests | edits | builds | on the longest path |",
         "|---|---|---|---|---|---|",
         *(f"| `{it}` | {' | '.join(f'{took[it][kind]:.0f}' if took.get(it, {}).get(kind, 0) >= 0.5 else '' for kind in KINDS)} | {'yes' if it in path else ''} |" for it in rows),
-        f"| all {len(on)} | {' | '.join(f'{total[kind]:.0f}' for kind in KINDS)} | {length:.0f} |",
+        f"| these {len(rows)} | {' | '.join(f'{total[kind]:.0f}' for kind in KINDS)} | {length:.0f} |",
         "",
         f"Together {whole / 60:.0f} processor minutes, in {' and '.join(f'{it / 60:.0f}' for it in walls)} minutes of wall.",
+        *([f"The proofs of {len(lacking)} crates are in none of these logs: {', '.join(f'`{it}`' for it in lacking)}."] if lacking else []),
     ]
     page = PAGE.read_text()
     head, _, rest = page.partition(BEGIN)
