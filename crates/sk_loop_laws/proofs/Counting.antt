@@ -80,15 +80,15 @@ few_numbered at count xs n = let few = length-le_from_distinct_below n.list coun
 -- Inputs by their numbers
 
 module _ (inbits : ℕ) (prog : Prog) where
-  abbrev count_of : Obligation → ℕ
+  abbrev pub count_of : Obligation → ℕ
   count_of o = args_count inbits (params_of prog o)
 
-  abbrev counts_of : List Obligation → ℕ
+  abbrev pub counts_of : List Obligation → ℕ
   counts_of [] = 0
   counts_of (o ∷ os) = count_of o + counts_of os
 
   -- the input with a number of obligations of which the first has this number
-  abbrev input_at : List Obligation → ℕ → ℕ → Input
+  abbrev pub input_at : List Obligation → ℕ → ℕ → Input
   input_at [] first n = record { obligation = first; args = [] }
   input_at (o ∷ os) first n = if nat_lt n (count_of o) then record { obligation = first; args = args_at inbits (params_of prog o) n } else input_at os (first + 1) (n - count_of o)
 
@@ -138,11 +138,11 @@ module _ (inbits : ℕ) (prog : Prog) where
       let rest = counts_from (n + 1) fs (λ k g at. (let e : n + 1 + k ≡ n + suc k = omega arith in ap (slice_get prog.funs) e ∙ h (suc k) g at)) in
       omega (arith, a, b, two, all, rest)
 
-  counts_all : counts_of (obligations prog) ≡ inputs_count inbits prog.funs
+  pub counts_all : counts_of (obligations prog) ≡ inputs_count inbits prog.funs
   counts_all = counts_from 0 prog.funs (λ k f at. (let e : 0 + k ≡ k = omega arith in ap (slice_get prog.funs) e ∙ at))
 
 -- each input has a number below the count
-numbered : (prog : Prog) (bounds : Bounds) (x : Input) → IsInput prog bounds x → (n : ℕ) × (n < inputs_count bounds.inbits prog.funs) × (input_at bounds.inbits prog (obligations prog) 0 n ≡ x)
+pub numbered : (prog : Prog) (bounds : Bounds) (x : Input) → IsInput prog bounds x → (n : ℕ) × (n < inputs_count bounds.inbits prog.funs) × (input_at bounds.inbits prog (obligations prog) 0 n ≡ x)
 numbered prog bounds x is =
     let params : (is.fun).params ≡ params_of prog is.obligation = sym (ap params_of_fun is.is_fun) in
     let d = number_in bounds.inbits prog (obligations prog) x.obligation 0 is.obligation x.args is.is_obligation (subst (λ (ps : List ParamDef). args_in_range bounds.inbits ps x.args ≡ true) params is.args) in

@@ -5,3 +5,4 @@ pub mod Completing
 pub mod Learning
 pub mod Numbering
 pub mod Counting
+pub mod Listing

@@ -20,26 +20,26 @@ use Rattle.sk_loop_laws.specs.Counts.{elem_size, ty_size, args_count}
 
 -- Values by their numbers
 
-abbrev elem_at : Elem → ℕ → Value
+abbrev pub elem_at : Elem → ℕ → Value
 elem_at elem.Int n = value.Int (pos n)
 elem_at elem.Bit n = value.Bit (n == 1)
 elem_at (elem.Reference s) n = value.Null
 
 -- so many values, each the one of so many that has the digit as its number
-abbrev each_at : (ℕ → Value) → ℕ → ℕ → ℕ → List Value
+abbrev pub each_at : (ℕ → Value) → ℕ → ℕ → ℕ → List Value
 each_at at size zero n = []
 each_at at size (suc k) n = at (n % size) ∷ each_at at size k (n / size)
 
 -- so many elements, where there are so many values of each
-abbrev row_at : Elem → ℕ → ℕ → ℕ → List Value
+abbrev pub row_at : Elem → ℕ → ℕ → ℕ → List Value
 row_at e size k n = each_at (elem_at e) size k n
 
 -- so many arrays of a length
-abbrev rows_at : Elem → ℕ → ℕ → ℕ → ℕ → List Value
+abbrev pub rows_at : Elem → ℕ → ℕ → ℕ → ℕ → List Value
 rows_at e size length k n = each_at (λ i. value.Array (row_at e size length i)) (size ^ length) k n
 
 -- the value of a type with this number
-abbrev value_at : ℕ → Ty → ℕ → Value
+abbrev pub value_at : ℕ → Ty → ℕ → Value
 value_at inbits (ty.One e) n = elem_at e n
 value_at inbits (ty.Array e k) n = value.Array (row_at e (elem_size inbits e) k n)
 value_at inbits (ty.Grid e k m) n = value.Array (rows_at e (elem_size inbits e) k m n)
@@ -81,7 +81,7 @@ module _ (inbits : ℕ) where
   of_layer : (x : V.Value-F Value) (t : Ty) → in_range inbits (roll-Value x) t ≡ in_range_step inbits (map-Value Value (Ty → Bool) (in_range inbits) x) t
   of_layer x t = ap (λ p. p t) (fold-roll-Value (Ty → Bool) (in_range_step inbits) x)
 
-  of_rolled : (x : V.Value-F Value) (v : Value) → roll-Value x ≡ v → (t : Ty) → in_range inbits v t ≡ in_range_step inbits (map-Value Value (Ty → Bool) (in_range inbits) x) t
+  pub of_rolled : (x : V.Value-F Value) (v : Value) → roll-Value x ≡ v → (t : Ty) → in_range inbits v t ≡ in_range_step inbits (map-Value Value (Ty → Bool) (in_range inbits) x) t
   of_rolled x v e t = ap (λ w. in_range inbits w t) (sym e) ∙ of_layer x t
 
   layer_of : (v : Value) (t : Ty) → in_range inbits v t ≡ true → (x : V.Value-F Value) × (roll-Value x ≡ v) × layer_in_range x t
@@ -122,7 +122,7 @@ module _ (inbits : ℕ) where
 
   -- Arrays
 
-  abbrev all_in_range : Ty → List Value → Bool
+  abbrev pub all_in_range : Ty → List Value → Bool
   all_in_range t vs = list_all (λ p. p t) (map (in_range inbits) vs)
 
   module _ (t : Ty) (at : ℕ → Value) (size : ℕ) where

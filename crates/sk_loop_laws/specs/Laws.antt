@@ -1,5 +1,5 @@
 -- Laws of pairs, of choices that complete, and of formulas behind which stands what follows from them.
-use Rattle.std.specs.Prelude.{ℕ, ◌≡◌, ◌≤◌, ◌++◌, List, length, All, Option, Some, slice_get}
+use Rattle.std.specs.Prelude.{ℕ, ◌≡◌, ◌≤◌, ◌++◌, ◌↔◌, List, length, All, Contains, Option, Some, slice_get}
 use Rattle.sk_base.specs.declared.bounds.Bounds.{Bounds}
 use Rattle.sk_clause.specs.declared.lit.Lit.{Lit}
 use Rattle.sk_clause.specs.Meaning.{EachFollows}
@@ -9,6 +9,7 @@ use Rattle.sk_model.specs.declared.expanded.Choice.{Choice}
 use Rattle.sk_model.specs.declared.expanded.Expanded.{Expanded}
 use Rattle.sk_model.specs.declared.expanded.Input.{Input}
 use Rattle.sk_model.specs.declared.expanded.Pair.{Pair}
+use Rattle.sk_prog.specs.declared.prog.Prog.{Prog}
 use Rattle.sk_model.specs.Fill.{InRange}
 use Rattle.sk_model.specs.Inputs.{IsInput}
 use Rattle.sk_holes_choice_laws.specs.Meeting.{IsMetUnder}
@@ -29,6 +30,16 @@ InputsAreDistinct = (e : Expanded) (bounds : Bounds) (pairs : List Pair) → Hon
 -- so there are at most as many honest pairs as the program has inputs, however great a budget of rounds is
 abbrev pub RoundsAreFew : Type 0
 RoundsAreFew = (e : Expanded) (bounds : Bounds) (pairs : List Pair) → Honest e bounds pairs → length pairs ≤ inputs_count bounds.inbits e.prog.funs
+
+-- The list has each input of the program, and nothing else, once, and is as long as their count says.
+pub record AreAllInputs (prog : Prog) (bounds : Bounds) (inputs : List Input) : Type 0 where
+  pub long : length inputs ≡ inputs_count bounds.inbits prog.funs
+  pub each : (x : Input) → IsInput prog bounds x ↔ Contains inputs x
+  pub once : (i j : ℕ) (x : Input) → slice_get inputs i ≡ Some x → slice_get inputs j ≡ Some x → i ≡ j
+
+-- there is such a list: so many inputs a program has
+abbrev pub InputsAreCounted : Type 0
+InputsAreCounted = (prog : Prog) (bounds : Bounds) → (inputs : List Input) × AreAllInputs prog bounds inputs
 
 -- each input of honest pairs is one of the program
 abbrev pub HonestAreInputs : Type 0

@@ -1,7 +1,7 @@
 //! Laws of the search for a choice, with nothing to run.
 #![tactic(auto)]
 
-ghost use Rattle.sk_loop_laws.specs.Laws.{HonestAreInputs, GrownIsHonest, InputsAreDistinct, RoundsAreFew, NoneBadCompletes, CompletesHasNoneBad, CompletesIsWanted, LearntAsksFor, LearntIsTight};
+ghost use Rattle.sk_loop_laws.specs.Laws.{HonestAreInputs, GrownIsHonest, InputsAreDistinct, RoundsAreFew, InputsAreCounted, NoneBadCompletes, CompletesHasNoneBad, CompletesIsWanted, LearntAsksFor, LearntIsTight};
 
 /// Each input of honest pairs is one of the program.
 pub fn honest_are_inputs()
@@ -21,6 +21,11 @@ pub fn inputs_are_distinct()
 /// There are at most as many honest pairs as the program has inputs, so a budget of more rounds is never spent.
 pub fn rounds_are_few()
     ensures { RoundsAreFew }
+{}
+
+/// The inputs of a program can be listed, each once, and are as many as their count says.
+pub fn inputs_are_counted()
+    ensures { InputsAreCounted }
 {}
 
 /// A choice against which no input speaks completes.

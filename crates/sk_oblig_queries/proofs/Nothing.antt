@@ -1,5 +1,5 @@
 -- Where the clauses of a formula cannot be met, nothing is what it asks for.
-use Rattle.std.proofs.Common.{◌≡◌, ℕ, ◌≤◌, ◌^◌, Bool, List, [], ◌∷◌, ◌++◌, length, drop, sym, ap, subst, ◌∙◌, arith}
+use Rattle.std.proofs.Common.{◌≡◌, ℕ, ◌≤◌, ◌^◌, Bool, List, [], ◌∷◌, ◌++◌, length, drop, sym, ap, subst, ◌∙◌, arith, Some}
 use Rattle.std.proofs.lemmas.List.{append-nil}
 use Rattle.std.proofs.lemmas.List.Elements.{All-head, All-tail}
 use Rattle.sk_base.specs.declared.bounds.Bounds.{Bounds}
@@ -73,4 +73,4 @@ nothing_bad_at f e bounds choice limit o asks none input at bad =
     let same : args_said (params_at e.prog input.obligation) (numbers_said (params_widths bounds.inbits (params_at e.prog o)) said.0) ≡ input.args =
     ap (args_said (params_at e.prog input.obligation)) (said.2 ∙ sym (append-nil ns.0)) ∙ ns.2 [] in
     let again : input_of_query e bounds (query.BadAt choice o limit) o said.0 ≡ input = ap (λ k. input_said e.prog k (numbers_said (params_widths bounds.inbits (params_at e.prog o)) said.0)) (sym at) ∙ said_again e.prog input _ same in
-    never f e bounds (query.BadAt choice o limit) asks none said.0 said.1 (subst (IsBad e bounds choice limit) (sym again) bad)
+    never f e bounds (query.BadAt choice o limit) asks none said.0 said.1 (subst (IsBad e bounds choice (Some limit)) (sym again) bad)

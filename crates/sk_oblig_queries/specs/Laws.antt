@@ -1,5 +1,5 @@
 -- What follows where the clauses of a formula cannot be met: nothing is what its query asks for.
-use Rattle.std.specs.Prelude.{ℕ, ◌≡◌, ◌≤◌, ◌^◌, Bool, List, All, Option}
+use Rattle.std.specs.Prelude.{ℕ, ◌≡◌, ◌≤◌, ◌^◌, Bool, List, All, Option, Some}
 use Rattle.sk_base.specs.declared.bounds.Bounds.{Bounds}
 use Rattle.sk_clause.specs.Meaning.{Meets}
 use Rattle.sk_model.specs.declared.expanded.Choice.{Choice}
@@ -28,4 +28,4 @@ NothingIsBad = (f : Encoded) (e : Expanded) (bounds : Bounds) (choice : Choice) 
 
 -- no input of the obligation with this number does
 abbrev pub NothingIsBadAt : Type 0
-NothingIsBadAt = (f : Encoded) (e : Expanded) (bounds : Bounds) (choice : Choice) (limit : Option ℕ) (o : ℕ) → AsksFor f e bounds (query.BadAt choice o limit) → CannotBeMet f → (input : Input) → input.obligation ≡ o → IsBad e bounds choice limit input → ⊥
+NothingIsBadAt = (f : Encoded) (e : Expanded) (bounds : Bounds) (choice : Choice) (limit : ℕ) (o : ℕ) → AsksFor f e bounds (query.BadAt choice o limit) → CannotBeMet f → (input : Input) → input.obligation ≡ o → IsBad e bounds choice (Some limit) input → ⊥

@@ -70,7 +70,7 @@ module _ (e : Expanded) (bounds : Bounds) where
   -- `Wanted` for a choice.
   abbrev pub Holds : Query → List Bool → Type 0
   Holds (query.Bad choice limit) bits = (o : ℕ) × IsBad e bounds choice limit (input_of_query (query.Bad choice limit) o bits)
-  Holds (query.BadAt choice o limit) bits = IsBad e bounds choice limit (input_of_query (query.BadAt choice o limit) o bits)
+  Holds (query.BadAt choice o limit) bits = IsBad e bounds choice (Some limit) (input_of_query (query.BadAt choice o limit) o bits)
   Holds (query.Wanted inputs limit) bits = IsWanted e bounds inputs limit (choice_said e.sites bits)
 
 -- The clauses have a name for each bit of the query, and bits for the names extend to values of all variables that meet

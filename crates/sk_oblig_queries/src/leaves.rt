@@ -1,4 +1,4 @@
-//! The leaves of a query.
+//! The leaves of a query. A list that is made here is given up where memory is wanting.
 
 ghost use Rattle.std.specs.Prelude.{◌≡◌, ◌++◌, ◌≤◌, IfOk, OnOk, length, map};
 ghost use Rattle.std.specs.List.{range_with_len};

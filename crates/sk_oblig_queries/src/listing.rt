@@ -1,4 +1,4 @@
-//! What must hold of a program.
+//! What must hold of a program. A list that is made here is given up where memory is wanting.
 
 ghost use Rattle.std.specs.Prelude.{◌≡◌, ◌++◌, IfOk, OnOk};
 ghost use Rattle.sk_model.specs.Obligations.{obligations, of_fun, of_kind, of_reference};

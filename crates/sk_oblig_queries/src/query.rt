@@ -12,11 +12,12 @@ pub enum Query {
         choice: Choice,
         limit: Option<u64>,
     },
-    /// The same of the obligation with this number alone.
+    /// An input of the obligation with this number that breaks the filling by the choice or costs more than the limit. The
+    /// parts of a certificate ask so; the search does not.
     BadAt {
         choice: Choice,
         obligation: u32,
-        limit: Option<u64>,
+        limit: u64,
     },
     /// A choice in range that no listed input breaks and that costs at most the limit on each.
     Wanted {

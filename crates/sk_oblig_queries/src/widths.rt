@@ -1,4 +1,4 @@
-//! Of how many bits the numbers of a query are.
+//! Of how many bits the numbers of a query are. A list that is made here is given up where memory is wanting.
 
 ghost use Rattle.std.specs.Prelude.{◌≡◌, ◌++◌, ◌<◌, ◌^◌, IfOk, OnOk, replicate, take};
 ghost use Rattle.sk_model.specs.Inputs.{fun_of};
