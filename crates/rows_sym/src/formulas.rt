@@ -10,7 +10,7 @@ use sk_front::Expansion;
 use sk_holes::{FillFault, fill};
 use sk_model::{Choice, Expanded};
 use sk_oblig::formula;
-use sk_oblig_queries::Query;
+use sk_oblig_queries::{Query, obligations};
 use std::alloc::{AllocError, Global};
 
 // How many clauses the formula of a query has.
@@ -27,6 +27,36 @@ fn count_of(
     Ok(Some(encoded.clauses.len()))
 }
 
+// The same of a query of the obligation with a number, with a limit that no cost is above. There is nothing where no obligation
+// has this number.
+fn count_at(
+    alloc: Global,
+    expanded: &Expanded,
+    bounds: &Bounds,
+    choice: Choice,
+    obligation: u32,
+) -> Result<Option<usize>, AllocError>
+    requires askable { IsAskable expanded.now bounds.now }
+    requires range { InRange expanded.now choice }
+{
+    let all = obligations(alloc, &expanded.prog)?;
+    if (obligation as usize) < all.len() {
+        let limit = u64::MAX;
+        count_of(
+            alloc,
+            expanded,
+            bounds,
+            &Query::BadAt {
+                choice,
+                obligation,
+                limit,
+            },
+        )
+    } else {
+        Ok(None)
+    }
+}
+
 // The same of a query of all obligations, or of the one with a number.
 fn count_in(
     alloc: Global,
@@ -38,19 +68,17 @@ fn count_in(
     requires askable { IsAskable expanded.now bounds.now }
     requires range { InRange expanded.now choice }
 {
-    let limit = None;
     match obligation {
-        None => count_of(alloc, expanded, bounds, &Query::Bad { choice, limit }),
-        Some(obligation) => count_of(
+        None => count_of(
             alloc,
             expanded,
             bounds,
-            &Query::BadAt {
+            &Query::Bad {
                 choice,
-                obligation,
-                limit,
+                limit: None,
             },
         ),
+        Some(obligation) => count_at(alloc, expanded, bounds, choice, obligation),
     }
 }
 

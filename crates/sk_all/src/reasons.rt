@@ -18,7 +18,7 @@ use sk_oblig_queries::Query;
 use sk_sat::Answer;
 use std::alloc::{AllocError, Global};
 
-/// Puts copies of inputs behind others.
+/// Puts copies of inputs behind others. After a refusal some of them may stand there, and the list is given up.
 #[tactic(auto, using(crate::proofs::Copying::copies))]
 pub fn push_inputs(
     alloc: Global,
@@ -69,7 +69,7 @@ fn is_passed(
     }
 }
 
-/// Keeps the input with number i, unless no choice passes those kept and those behind it.
+/// Keeps the input with number i, unless no choice passes those kept and those behind it. A refusal ends the walk.
 fn keep(
     alloc: Global,
     expanded: &Expanded,

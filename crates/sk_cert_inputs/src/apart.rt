@@ -1,4 +1,4 @@
-//! Whether an input is listed twice.
+//! Whether an input is listed twice. Words that are put together here are given up where memory is wanting.
 ghost use Rattle.std.specs.Prelude.{◌≡◌, ◌++◌, ◌↔◌, ◌∷◌, [], IfOk, IsTrue, OnOk, map, not};
 ghost use Rattle.std.specs.BTreeSet.{insert_key};
 ghost use Rattle.std.specs.Cmp.Lexicographic.{slice_cmp};

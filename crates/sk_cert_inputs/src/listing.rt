@@ -1,4 +1,4 @@
-//! How a certificate lists an input.
+//! How a certificate lists an input. A list that is made here is given up where memory is wanting.
 ghost use Rattle.std.specs.Prelude.{◌≡◌, ◌≢◌, ◌++◌, [], All, IfOk, OnOk, map};
 ghost use Rattle.std.specs.List.{flat_map};
 ghost use Rattle.sk_cert.specs.Certificates.{HasScalars};

@@ -24,7 +24,7 @@ Refuting p = Refutes p.formula.clauses.clauses p.log
 -- what the upper part with a number asks of a choice and its value: in version 1 all obligations, in version 2 the one with this
 -- number
 abbrev pub upper_query : ℕ → Choice → ℕ → ℕ → Query
-upper_query version a value i = if version == 1 then query.Bad a (Some value) else query.BadAt a i (Some value)
+upper_query version a value i = if version == 1 then query.Bad a (Some value) else query.BadAt a i value
 
 -- within what the lower part asks for a choice: less than the value, or anything where there is no choice
 abbrev pub lower_limit : Option Choice → ℕ → Option ℕ

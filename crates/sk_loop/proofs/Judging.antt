@@ -1,8 +1,9 @@
 -- One round.
 use Rattle.sk_loop.proofs.Growing.{keeps_same, kept_room, is_round}
-use Rattle.sk_loop.proofs.Standing.{steps_same, steps_solved, steps_from}
+use Rattle.sk_loop.proofs.Standing.{steps_same}
+use Rattle.sk_loop.proofs.Beginning.{kept_asking, kept_from, kept_same}
 use Rattle.sk_loop.proofs.Proposing.{spent_bad}
 
-pub ruleset judging = (keeps_same, kept_room, is_round, steps_same, spent_bad)
+pub ruleset judging = (keeps_same, kept_room, is_round, steps_same, spent_bad, kept_same)
 
-pub ruleset turning = (keeps_same, steps_solved, steps_from)
+pub ruleset turning = (keeps_same, steps_same, kept_asking, kept_from)

@@ -4,6 +4,7 @@ use Rattle.std.specs.Prelude.{IsTrue}
 use Rattle.std.proofs.lemmas.Bool.{and_parts, ltb-true}
 use Rattle.std.proofs.lemmas.List.Elements.{All-cons, All-nil}
 use Rattle.sk_base.specs.declared.bounds.Bounds.{Bounds}
+use Rattle.sk_base.specs.declared.bounds.Budget.{Budget}
 use Rattle.sk_clause.specs.declared.lit.Lit.{Lit}
 use Rattle.sk_clause.specs.Meaning.{Meets}
 use Rattle.sk_model.specs.declared.expanded.Choice.{Choice}
@@ -21,7 +22,7 @@ use Rattle.sk_oblig_queries.proofs.Nothing.{nothing_wanted}
 use Rattle.sk_oblig_asking.specs.declared.asking.Asking.{Asking}
 use Rattle.sk_oblig.specs.Formulas.{IsAskable}
 use Rattle.sk_loop_laws.specs.Honest.{Honest, inputs_of}
-use Rattle.sk_loop_laws.specs.Shown.{Learnt, NonePasses, limit_of}
+use Rattle.sk_loop_laws.specs.Shown.{HasRoom, IsOfPairs, IsOfSearch, Learnt, NonePasses, limit_of}
 use Rattle.sk_loop_laws.proofs.Completing.{completes_is_wanted}
 use Rattle.sk_loop_laws.proofs.Pairs.{honest_are_inputs}
 use Rattle.sk_loop.specs.declared.session.Session.{Session}
@@ -54,31 +55,33 @@ never_passes s e bounds pairs limit askable honest st none =
       completes = λ choice c. never choice (completes_is_wanted e bounds limit choice (inputs_of pairs) (askable.met choice c.range) c (honest_are_inputs e bounds pairs honest));
     }
 
-pub spent_wanted : (s : Session) (e : Expanded) (bounds : Bounds) (pairs : List Pair) (inputs : List Input) (limit : Option ℕ) (count : ℕ) (g : Encoded) (log : List (List Lit)) → Honest e bounds pairs → StandsFor s e bounds (inputs_of pairs) limit → IsSpentFrom s.asking.growing.encoded count g log → inputs ≡ inputs_of pairs → Learnt e bounds count pairs (query.Wanted inputs limit) g log × (limit_of (query.Wanted inputs limit) ≡ limit)
-spent_wanted s e bounds pairs inputs limit count g log honest st spent is =
+pub spent_wanted : (s : Session) (e : Expanded) (bounds : Bounds) (pairs : List Pair) (inputs : List Input) (limit : Option ℕ) (budget : Budget) (g : Encoded) (log : List (List Lit)) → Honest e bounds pairs → HasRoom budget pairs → StandsFor s e bounds (inputs_of pairs) limit → IsSpentFrom s.asking.growing.encoded budget.conflicts g log → inputs ≡ inputs_of pairs → Learnt e bounds budget.conflicts pairs (query.Wanted inputs limit) g log × (limit_of (query.Wanted inputs limit) ≡ limit) × IsOfSearch (query.Wanted inputs limit) × HasRoom budget pairs
+spent_wanted s e bounds pairs inputs limit budget g log honest room st spent is =
     let f = s.asking.growing.encoded in
     let asks : AsksFor f e bounds (query.Wanted inputs limit) = subst (λ (x : List Input). AsksFor f e bounds (query.Wanted x limit)) (sym is) st.asks in (
       record {
         some = spent.some;
         long = spent.long;
         consistent = spent.consistent;
-        asks = still_asks e bounds (query.Wanted inputs limit) f g count log asks spent;
-        tight = still_tight f g count log st.tight spent;
+        asks = still_asks e bounds (query.Wanted inputs limit) f g budget.conflicts log asks spent;
+        tight = still_tight f g budget.conflicts log st.tight spent;
         follows = spent.follows;
         fresh = spent.fresh;
         honest = honest;
         query = is;
       },
       refl,
+      tt,
+      room,
     )
 
-bad_of_pairs : (e : Expanded) (bounds : Bounds) (pairs : List Pair) (q : Query) (choice : Choice) (limit : Option ℕ) → IsWanted e bounds (inputs_of pairs) limit choice → IsBadQuery q choice limit → Rattle.sk_loop_laws.specs.Shown.IsOfPairs e bounds pairs q × (limit_of q ≡ limit)
-bad_of_pairs e bounds pairs (query.Bad c l) choice limit wanted is = (subst (λ (m : Option ℕ). IsWanted e bounds (inputs_of pairs) m c) (sym is.1) (subst (IsWanted e bounds (inputs_of pairs) limit) (sym is.0) wanted), is.1)
-bad_of_pairs e bounds pairs (query.BadAt c o l) choice limit wanted is = (subst (λ (m : Option ℕ). IsWanted e bounds (inputs_of pairs) m c) (sym is.1) (subst (IsWanted e bounds (inputs_of pairs) limit) (sym is.0) wanted), is.1)
+bad_of_pairs : (e : Expanded) (bounds : Bounds) (pairs : List Pair) (q : Query) (choice : Choice) (limit : Option ℕ) → IsWanted e bounds (inputs_of pairs) limit choice → IsBadQuery q choice limit → IsOfPairs e bounds pairs q × (limit_of q ≡ limit) × IsOfSearch q
+bad_of_pairs e bounds pairs (query.Bad c l) choice limit wanted is = (subst (λ (m : Option ℕ). IsWanted e bounds (inputs_of pairs) m c) (sym is.1) (subst (IsWanted e bounds (inputs_of pairs) limit) (sym is.0) wanted), is.1, tt)
+bad_of_pairs e bounds pairs (query.BadAt c o l) choice limit wanted is = absurd is
 bad_of_pairs e bounds pairs (query.Wanted inputs l) choice limit wanted is = absurd is
 
-pub spent_bad : (e : Expanded) (bounds : Bounds) (pairs : List Pair) (choice : Choice) (limit : Option ℕ) (count : ℕ) (q : Query) (g : Encoded) (log : List (List Lit)) → Honest e bounds pairs → IsWanted e bounds (inputs_of pairs) limit choice → IsSpentOn e bounds choice limit count q g log → Learnt e bounds count pairs q g log × (limit_of q ≡ limit)
-spent_bad e bounds pairs choice limit count q g log honest wanted spent =
+pub spent_bad : (e : Expanded) (bounds : Bounds) (pairs : List Pair) (choice : Choice) (limit : Option ℕ) (budget : Budget) (q : Query) (g : Encoded) (log : List (List Lit)) → Honest e bounds pairs → HasRoom budget pairs → IsWanted e bounds (inputs_of pairs) limit choice → IsSpentOn e bounds choice limit budget.conflicts q g log → Learnt e bounds budget.conflicts pairs q g log × (limit_of q ≡ limit) × IsOfSearch q × HasRoom budget pairs
+spent_bad e bounds pairs choice limit budget q g log honest room wanted spent =
     let of = bad_of_pairs e bounds pairs q choice limit wanted spent.query in (
       record {
         some = spent.some;
@@ -92,6 +95,8 @@ spent_bad e bounds pairs choice limit count q g log honest wanted spent =
         query = of.0;
       },
       of.1,
+      of.2,
+      room,
     )
 
 pub ruleset proposing = (asks_solved, met_solved, stands_solved, never_passes, spent_wanted)

@@ -1,5 +1,5 @@
 -- What a session stands for.
-use Rattle.std.proofs.Common.{◌≡◌, ℕ, ◌+◌, ◌<◌, ◌≤◌, ◌⊎◌, inl, inr, ◌++◌, List, [], ◌∷◌, Option, None, length, refl, sym, ◌∙◌, ap, subst, arith}
+use Rattle.std.proofs.Common.{◌≡◌, ℕ, ◌+◌, ◌<◌, ◌≤◌, ◌⊎◌, inl, inr, ◌++◌, List, [], ◌∷◌, Option, None, drop, length, refl, sym, ◌∙◌, ap, subst, arith}
 use Rattle.std.proofs.lemmas.List.{length-append, take_all}
 use Rattle.sk_base.specs.declared.bounds.Bounds.{Bounds}
 use Rattle.sk_model.specs.declared.expanded.Expanded.{Expanded}
@@ -7,14 +7,17 @@ use Rattle.sk_model.specs.declared.expanded.Input.{Input}
 use Rattle.sk_model.specs.declared.expanded.Pair.{Pair}
 use Rattle.sk_clause.specs.Problem.{Problem}
 use Rattle.sk_cnf.specs.Standing.{Begins}
-use Rattle.sk_sat.specs.Solver.{State}
+use Rattle.sk_clause.specs.declared.lit.Lit.{Lit}
+use Rattle.sk_sat.specs.Solver.{State, gained}
 use Rattle.sk_oblig_asking.specs.declared.asking.Asking.{Asking}
 use Rattle.sk_oblig_asking.specs.Asking.{IsAsking}
 use Rattle.sk_loop_laws.specs.Honest.{IsRound, inputs_of}
 use Rattle.sk_loop.specs.declared.session.Session.{Session}
 use Rattle.sk_loop.specs.Session.{Asks, IsLoaded, IsReady, StandsFor}
+use Rattle.sk_loop.specs.declared.solving.Answered.{Answered}
+use Rattle.sk_loop.specs.Answered.{IsOfCall}
 use Rattle.sk_loop.specs.Rounds.{Solves, Steps}
-use Rattle.sk_loop.proofs.Beginning.{begins_same, begins_on, loaded_on}
+use Rattle.sk_loop.proofs.Beginning.{loaded_on}
 use Rattle.sk_loop.proofs.Demanding.{asks_begins, asks_more, asks_ready, asks_wanted}
 use Rattle.sk_loop.proofs.Loading.{starts_loaded}
 use Rattle.sk_loop.proofs.Growing.{inputs_many, inputs_push, grown_same, grown_push, grown_on}
@@ -82,7 +85,7 @@ note_within s e bounds old new p limit n st is many =
 pub note_long : (old new : List Pair) (p : Pair) → new ≡ old ++ p ∷ [] → length new ≡ length old + 1
 note_long old new p is = ap length is ∙ length-append old (p ∷ [])
 
-pub note_steps : (s t : Session) (e : Expanded) (bounds : Bounds) (old new : List Pair) (p : Pair) (limit : Option ℕ) (n : ℕ) → StandsFor s e bounds (inputs_of old) limit → IsRound e bounds limit (inputs_of old) p → new ≡ old ++ p ∷ [] → n ≡ s.count → Asks t.asking e bounds (inputs_of new) limit (n + 1) → Begins s.asking.growing.encoded.clauses t.asking.growing.encoded.clauses → t.count ≡ length new → t.limit ≡ s.limit → t.solver ≡ s.solver → t.loaded ≡ s.loaded → Steps e bounds limit old new s t
+pub note_steps : (s t : Session) (e : Expanded) (bounds : Bounds) (old new : List Pair) (p : Pair) (limit : Option ℕ) (n : ℕ) → StandsFor s e bounds (inputs_of old) limit → IsRound e bounds limit (inputs_of old) p → new ≡ old ++ p ∷ [] → n ≡ s.count → Asks t.asking e bounds (inputs_of new) limit (n + 1) → Begins s.asking.growing.encoded.clauses t.asking.growing.encoded.clauses → t.count ≡ length new → t.limit ≡ s.limit → t.solver ≡ s.solver → t.loaded ≡ s.loaded → Steps e bounds limit old new t
 note_steps s t e bounds old new p limit n st round is many asks behind count same solver loaded =
     let long : n + 1 ≡ length (inputs_of new) = (let a = note_long old new p is in let b = st.count ∙ inputs_many old in let c = inputs_many new in omega (arith, a, b, c, many)) in
     record {
@@ -93,37 +96,19 @@ note_steps s t e bounds old new p limit n st round is many asks behind count sam
           (subst (λ (k : ℕ). IsLoaded t.solver k t.asking.growing.encoded.clauses) (sym loaded)
           (subst (λ (x : State). IsLoaded x s.loaded t.asking.growing.encoded.clauses) (sym solver)
           (loaded_on s.solver s.loaded s.asking.growing.encoded.clauses t.asking.growing.encoded.clauses behind st.loaded)));
-      behind = behind;
     }
 
-pub steps_solved : (s t : Session) (e : Expanded) (bounds : Bounds) (limit : Option ℕ) (old : List Pair) → StandsFor t e bounds (inputs_of old) limit → t.asking ≡ s.asking → Steps e bounds limit old old s t
-steps_solved s t e bounds limit old st same = record {
-  grown = grown_same e bounds limit old;
-  stands = st;
-  behind = begins_same s.asking.growing.encoded.clauses t.asking.growing.encoded.clauses (ap (λ (a : Asking). a.growing.encoded.clauses) same);
-}
+pub steps_same : (s : Session) (e : Expanded) (bounds : Bounds) (limit : Option ℕ) (old : List Pair) → StandsFor s e bounds (inputs_of old) limit → Steps e bounds limit old old s
+steps_same s e bounds limit old st = record { grown = grown_same e bounds limit old; stands = st }
 
-pub steps_same : (s : Session) (e : Expanded) (bounds : Bounds) (limit : Option ℕ) (old : List Pair) → StandsFor s e bounds (inputs_of old) limit → Steps e bounds limit old old s s
-steps_same s e bounds limit old st = steps_solved s s e bounds limit old st refl
+pub steps_on : (m t : Session) (e : Expanded) (bounds : Bounds) (limit : Option ℕ) (old mid new : List Pair) → Steps e bounds limit old mid m → Steps e bounds limit mid new t → Steps e bounds limit old new t
+steps_on m t e bounds limit old mid new a b = record { grown = grown_on e bounds limit old mid new a.grown b.grown; stands = b.stands }
 
-pub steps_after : (s m t : Session) (e : Expanded) (bounds : Bounds) (limit : Option ℕ) (old new : List Pair) → Begins s.asking.growing.encoded.clauses m.asking.growing.encoded.clauses → Steps e bounds limit old new m t → Steps e bounds limit old new s t
-steps_after s m t e bounds limit old new b st = record {
-  grown = st.grown;
-  stands = st.stands;
-  behind = begins_on s.asking.growing.encoded.clauses m.asking.growing.encoded.clauses t.asking.growing.encoded.clauses b st.behind;
-}
+-- what a call has learnt, once the solver has all clauses
+pub of_call : (old mid new : State) (budget : ℕ) (a : Answered) → mid.learnt ≡ old.learnt → IsOfCall budget (gained mid new) a → IsOfCall budget (gained old new) a
+of_call old mid new budget a same is = subst (λ (learnt : List (List Lit)). IsOfCall budget (drop (length learnt) new.learnt) a) same is
 
-pub steps_from : (s m t : Session) (e : Expanded) (bounds : Bounds) (limit : Option ℕ) (old new : List Pair) → m.asking ≡ s.asking → Steps e bounds limit old new m t → Steps e bounds limit old new s t
-steps_from s m t e bounds limit old new same st =
-    steps_after s m t e bounds limit old new (begins_same s.asking.growing.encoded.clauses m.asking.growing.encoded.clauses (ap (λ (a : Asking). a.growing.encoded.clauses) same)) st
+pub ruleset solves_made = (all_loaded, of_call)
 
-pub steps_on : (s m t : Session) (e : Expanded) (bounds : Bounds) (limit : Option ℕ) (old mid new : List Pair) → Steps e bounds limit old mid s m → Steps e bounds limit mid new m t → Steps e bounds limit old new s t
-steps_on s m t e bounds limit old mid new a b = record {
-  grown = grown_on e bounds limit old mid new a.grown b.grown;
-  stands = b.stands;
-  behind = begins_on s.asking.growing.encoded.clauses m.asking.growing.encoded.clauses t.asking.growing.encoded.clauses a.behind b.behind;
-}
-
-pub ruleset solves_made = (all_loaded)
 
 pub ruleset readying = (stands_ready, ready_within, stands_again)

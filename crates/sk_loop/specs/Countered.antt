@@ -14,10 +14,10 @@ use Rattle.sk_loop_laws.specs.Shown.{Completes}
 use Rattle.sk_loop.specs.declared.countered.Countered.{Countered}
 use Rattle.sk_loop.specs.declared.countered.Countered.TheVariants as countered
 
--- the query asks for an input that speaks against the choice within the limit
+-- the query asks for an input of any obligation that speaks against the choice within the limit
 abbrev pub IsBadQuery : Query → Choice → Option ℕ → Type 0
 IsBadQuery (query.Bad c l) choice limit = (c ≡ choice) × (l ≡ limit)
-IsBadQuery (query.BadAt c o l) choice limit = (c ≡ choice) × (l ≡ limit)
+IsBadQuery (query.BadAt c o l) choice limit = ⊥
 IsBadQuery (query.Wanted inputs l) choice limit = ⊥
 
 -- So many clauses were learnt from the formula of such a query.

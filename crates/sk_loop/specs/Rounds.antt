@@ -4,7 +4,6 @@ use Rattle.sk_base.specs.declared.bounds.Bounds.{Bounds}
 use Rattle.sk_base.specs.declared.bounds.Budget.{Budget}
 use Rattle.sk_model.specs.declared.expanded.Expanded.{Expanded}
 use Rattle.sk_model.specs.declared.expanded.Pair.{Pair}
-use Rattle.sk_cnf.specs.Standing.{Begins}
 use Rattle.sk_oblig_queries.specs.Queries.{IsWanted}
 use Rattle.sk_loop_laws.specs.Honest.{Grown, inputs_of}
 use Rattle.sk_loop_laws.specs.Shown.{HasRoom}
@@ -28,11 +27,10 @@ pub record Solves (old new : Session) : Type 0 where
   pub limit : new.limit ≡ old.limit
   pub loaded : IsLoaded new.solver new.loaded new.asking.growing.encoded.clauses
 
--- Pairs of rounds were added, the session stands for them, and its formula grew.
-pub record Steps (e : Expanded) (bounds : Bounds) (limit : Option ℕ) (old new : List Pair) (before after : Session) : Type 0 where
+-- Pairs of rounds were added, and the session stands for them.
+pub record Steps (e : Expanded) (bounds : Bounds) (limit : Option ℕ) (old new : List Pair) (after : Session) : Type 0 where
   pub grown : Grown e bounds limit old new
   pub stands : StandsFor after e bounds (inputs_of new) limit
-  pub behind : Begins before.asking.growing.encoded.clauses after.asking.growing.encoded.clauses
 
 -- a choice that passes the inputs of the pairs, or the end
 abbrev pub IsProposed : Expanded → Bounds → Option ℕ → Budget → List Pair → Proposed → Type 0

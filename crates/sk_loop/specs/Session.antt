@@ -4,7 +4,9 @@ use Rattle.sk_base.specs.declared.bounds.Bounds.{Bounds}
 use Rattle.sk_model.specs.declared.expanded.Expanded.{Expanded}
 use Rattle.sk_model.specs.declared.expanded.Input.{Input}
 use Rattle.sk_clause.specs.Problem.{Problem}
+use Rattle.sk_cnf.specs.declared.growing.Encoded.{Encoded}
 use Rattle.sk_cnf.specs.Formula.{Tight}
+use Rattle.sk_cnf.specs.Standing.{Begins}
 use Rattle.sk_oblig_queries.specs.declared.query.Query.TheVariants as query
 use Rattle.sk_oblig_queries.specs.Queries.{AsksFor}
 use Rattle.sk_sat.specs.Solver.{State}
@@ -38,6 +40,11 @@ pub record Asks (a : Asking) (e : Expanded) (bounds : Bounds) (inputs : List Inp
   pub demands : List Demand
   pub asking : IsAsking a e bounds demands
   pub are : AreDemands demands inputs limit count
+
+-- The formula has the names it had, and its clauses begin with those it had.
+pub record KeepsClauses (old new : Encoded) : Type 0 where
+  pub names : new.names ≡ old.names
+  pub behind : Begins old.clauses new.clauses
 
 -- The solver has the first so many clauses.
 pub record IsLoaded (solver : State) (loaded : ℕ) (f : Problem) : Type 0 where

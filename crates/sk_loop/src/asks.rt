@@ -1,10 +1,9 @@
 //! The demands of a formula that grows.
 
 ghost use Rattle.std.specs.Prelude.{◌≡◌, ◌+◌, ◌<◌, ◌≤◌, ◌⊎◌, OnOk, length};
-ghost use Rattle.sk_cnf.specs.Standing.{Begins};
 ghost use Rattle.sk_loop_laws.specs.Honest.{inputs_of};
 ghost use Rattle.sk_oblig.specs.Formulas.{IsAskable};
-ghost use Rattle.sk_loop.specs.Session.{Asks};
+ghost use Rattle.sk_loop.specs.Session.{Asks, KeepsClauses};
 
 use sk_base::Bounds;
 use sk_model::{Expanded, Pair};
@@ -12,6 +11,7 @@ use sk_oblig_asking::Asking;
 use std::alloc::AllocError;
 
 /// Asks also that the next input is passed.
+#[tactic(auto, using(crate::proofs::Beginning::kept_made))]
 pub fn ask(
     asking: &mut Asking,
     expanded: &Expanded,
@@ -24,12 +24,12 @@ pub fn ask(
     requires within { i < length pairs.now }
     requires asks { Asks asking.old expanded.now bounds.now (inputs_of pairs.now) limit i }
     ensures asks { OnOk result (Asks asking.new expanded.now bounds.now (inputs_of pairs.now) limit (i + 1)) }
-    ensures behind { OnOk result (Begins asking.old.growing.encoded.clauses asking.new.growing.encoded.clauses) }
+    ensures formula { KeepsClauses asking.old.growing.encoded asking.new.growing.encoded }
 {
     asking.add(expanded, bounds, &pairs[i].input, limit)
 }
 
-/// Asks that the inputs from a number on are passed.
+/// Asks that the inputs from a number on are passed. After a refusal some of them may be asked for.
 #[tactic(auto, using(crate::proofs::Beginning::beginning))]
 pub fn ask_from(
     asking: &mut Asking,
@@ -43,7 +43,7 @@ pub fn ask_from(
     requires from { from ≤ length pairs.now }
     requires asks { Asks asking.old expanded.now bounds.now (inputs_of pairs.now) limit from }
     ensures asks { OnOk result (Asks asking.new expanded.now bounds.now (inputs_of pairs.now) limit (length pairs.now)) }
-    ensures behind { OnOk result (Begins asking.old.growing.encoded.clauses asking.new.growing.encoded.clauses) }
+    ensures formula { KeepsClauses asking.old.growing.encoded asking.new.growing.encoded }
 {
     for i in from..pairs.len() {
         ask(asking, expanded, bounds, pairs, i, limit)?;

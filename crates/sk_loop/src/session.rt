@@ -6,10 +6,11 @@ ghost use Rattle.sk_oblig_queries.specs.Queries.{IsWanted};
 ghost use Rattle.sk_oblig.specs.Formulas.{IsAskable};
 ghost use Rattle.sk_loop_laws.specs.Shown.{HasRoom};
 ghost use Rattle.sk_loop_laws.specs.Honest.{Grown, Honest, IsRound, inputs_of};
-ghost use Rattle.sk_loop.specs.Answered.{IsAnswered};
+ghost use Rattle.sk_sat.specs.Solver.{gained};
+ghost use Rattle.sk_loop.specs.Answered.{IsAnswered, IsOfCall};
 ghost use Rattle.sk_loop.specs.Found.{IsFound};
 ghost use Rattle.sk_loop.specs.Rounds.{IsProposed, IsTurn, Keeps, Solves, Steps};
-ghost use Rattle.sk_loop.specs.Session.{IsLoaded, IsReady, StandsFor};
+ghost use Rattle.sk_loop.specs.Session.{IsLoaded, IsReady, KeepsClauses, StandsFor};
 
 use crate::asks::{ask, ask_from, first_to_ask};
 use crate::countered::{Countered, counter};
@@ -27,8 +28,8 @@ use sk_sat::Solver;
 use std::alloc::{AllocError, Global};
 
 /// A search for choices of one program under its bounds, which keeps its formula and what the solver learnt from call to call.
-/// It stands for a query: for a choice that passes some inputs within a limit. After a refusal for want of memory it stands
-/// for none.
+/// It stands for a query: for a choice that passes some inputs within a limit. After a refusal for want of memory it keeps its
+/// names and what it had asked, but may also ask for inputs that were being added, and stands for no query.
 pub struct Session {
     alloc: Global,
     /// the formula of the query for which it stands
@@ -80,7 +81,9 @@ impl Session {
     fn solve(&mut self, budget: u64) -> Result<Answered, AllocError>
         requires loaded { IsLoaded self.old.solver self.old.loaded self.old.asking.growing.encoded.clauses }
         ensures answered { IfOk result (IsAnswered self.old.asking.growing.encoded budget) }
+        ensures call { IfOk result (IsOfCall budget (gained self.old.solver self.new.solver)) }
         ensures solves { OnOk result (Solves self.old self.new) }
+        ensures asking { self.new.asking ≡ self.old.asking }
     {
         let encoded = self.asking.encoded();
         load(&mut self.solver, &encoded.clauses, self.loaded)?;
@@ -102,9 +105,10 @@ impl Session {
         requires askable { IsAskable expanded.now bounds.now }
         requires stands { StandsFor self.old expanded.now bounds.now (inputs_of pairs.now) limit }
         requires honest { Honest expanded.now bounds.now pairs.now }
+        requires room { HasRoom budget.now pairs.now }
         ensures proposed { IfOk result (IsProposed expanded.now bounds.now limit budget.now pairs.now) }
         ensures stands { OnOk result (StandsFor self.new expanded.now bounds.now (inputs_of pairs.now) limit) }
-        ensures asking { OnOk result (self.new.asking ≡ self.old.asking) }
+        ensures asking { self.new.asking ≡ self.old.asking }
     {
         match self.solve(budget.conflicts)? {
             Answered::Met(values) => {
@@ -138,7 +142,8 @@ impl Session {
         requires askable { IsAskable expanded.now bounds.now }
         requires stands { StandsFor self.old expanded.now bounds.now (inputs_of pairs.old) limit }
         requires round { IsRound expanded.now bounds.now limit (inputs_of pairs.old) pair }
-        ensures steps { OnOk result (Steps expanded.now bounds.now limit pairs.old pairs.new self.old self.new) }
+        ensures steps { OnOk result (Steps expanded.now bounds.now limit pairs.old pairs.new self.new) }
+        ensures formula { KeepsClauses self.old.asking.growing.encoded self.new.asking.growing.encoded }
         ensures long { OnOk result (length pairs.new ≡ length pairs.old + 1) }
         ensures keeps { Keeps pairs.old pairs.new }
     {
@@ -173,7 +178,8 @@ impl Session {
         requires room { HasRoom budget.now pairs.old }
         requires wanted { IsWanted expanded.now bounds.now (inputs_of pairs.old) limit choice }
         ensures turn { IfOk result (IsTurn expanded.now bounds.now limit budget.now pairs.new) }
-        ensures steps { OnOk result (Steps expanded.now bounds.now limit pairs.old pairs.new self.old self.new) }
+        ensures steps { OnOk result (Steps expanded.now bounds.now limit pairs.old pairs.new self.new) }
+        ensures formula { KeepsClauses self.old.asking.growing.encoded self.new.asking.growing.encoded }
         ensures keeps { Keeps pairs.old pairs.new }
     {
         match counter(
@@ -216,7 +222,8 @@ impl Session {
         requires honest { Honest expanded.now bounds.now pairs.old }
         requires room { HasRoom budget.now pairs.old }
         ensures turn { IfOk result (IsTurn expanded.now bounds.now limit budget.now pairs.new) }
-        ensures steps { OnOk result (Steps expanded.now bounds.now limit pairs.old pairs.new self.old self.new) }
+        ensures steps { OnOk result (Steps expanded.now bounds.now limit pairs.old pairs.new self.new) }
+        ensures formula { KeepsClauses self.old.asking.growing.encoded self.new.asking.growing.encoded }
         ensures keeps { Keeps pairs.old pairs.new }
     {
         match self.propose(expanded, bounds, limit, pairs, budget)? {
@@ -243,7 +250,8 @@ impl Session {
         requires honest { Honest expanded.now bounds.now pairs.old }
         requires room { HasRoom budget.now pairs.old }
         ensures found { IfOk result (IsFound expanded.now bounds.now limit budget.now pairs.new) }
-        ensures steps { OnOk result (Steps expanded.now bounds.now limit pairs.old pairs.new self.old self.new) }
+        ensures steps { OnOk result (Steps expanded.now bounds.now limit pairs.old pairs.new self.new) }
+        ensures formula { KeepsClauses self.old.asking.growing.encoded self.new.asking.growing.encoded }
         ensures keeps { Keeps pairs.old pairs.new }
     {
         for _turn in 0..u64::MAX {
@@ -267,7 +275,7 @@ impl Session {
         requires askable { IsAskable expanded.now bounds.now }
         requires ready { IsReady self.old expanded.now bounds.now (inputs_of pairs.now) limit }
         ensures stands { OnOk result (StandsFor self.new expanded.now bounds.now (inputs_of pairs.now) limit) }
-        ensures behind { OnOk result (Begins self.old.asking.growing.encoded.clauses self.new.asking.growing.encoded.clauses) }
+        ensures formula { KeepsClauses self.old.asking.growing.encoded self.new.asking.growing.encoded }
     {
         let from = first_to_ask(self.count, self.limit, limit);
         ask_from(
@@ -298,7 +306,8 @@ impl Session {
         requires honest { Honest expanded.now bounds.now pairs.old }
         requires room { HasRoom budget.now pairs.old }
         ensures found { IfOk result (IsFound expanded.now bounds.now limit budget.now pairs.new) }
-        ensures steps { OnOk result (Steps expanded.now bounds.now limit pairs.old pairs.new self.old self.new) }
+        ensures steps { OnOk result (Steps expanded.now bounds.now limit pairs.old pairs.new self.new) }
+        ensures formula { KeepsClauses self.old.asking.growing.encoded self.new.asking.growing.encoded }
         ensures keeps { Keeps pairs.old pairs.new }
     {
         self.stand(expanded, bounds, limit, pairs)?;
@@ -309,7 +318,8 @@ impl Session {
     /// Looks for a choice that meets every obligation and costs at most the limit on every input. Each input that is found on
     /// the way stands behind the pairs, with the choice against which it speaks.
     ///
-    /// Afterwards the session stands for the inputs of all pairs and this limit, and its clauses begin with those it had.
+    /// Afterwards the session stands for the inputs of all pairs and this limit. Its names stay and its clauses begin with those it
+    /// had, also after a refusal; it may then ask for inputs that were being added too, and stands for no query.
     #[tactic(auto, using(crate::proofs::Turns::ending))]
     pub fn synthesise(
         &mut self,
@@ -327,7 +337,8 @@ impl Session {
         ensures grown { OnOk result (Grown expanded.now bounds.now limit pairs.old pairs.new) }
         ensures honest { OnOk result (Honest expanded.now bounds.now pairs.new) }
         ensures stands { OnOk result (StandsFor self.new expanded.now bounds.now (inputs_of pairs.new) limit) }
-        ensures behind { OnOk result (Begins self.old.asking.growing.encoded.clauses self.new.asking.growing.encoded.clauses) }
+        ensures behind { Begins self.old.asking.growing.encoded.clauses self.new.asking.growing.encoded.clauses }
+        ensures names { self.new.asking.growing.encoded.names ≡ self.old.asking.growing.encoded.names }
         ensures refused { OnErr result (pairs.new ≡ pairs.old) }
     {
         let before = pairs.len();

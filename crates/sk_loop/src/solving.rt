@@ -1,7 +1,8 @@
 //! A formula before the solver.
 
 ghost use Rattle.std.specs.Prelude.{◌≡◌, ◌≤◌, ◌++◌, IfOk, OnOk, length, take};
-ghost use Rattle.sk_loop.specs.Answered.{IsAnswered, IsSpentFrom};
+ghost use Rattle.sk_sat.specs.Solver.{gained};
+ghost use Rattle.sk_loop.specs.Answered.{IsAnswered, IsOfCall, IsSpentFrom};
 ghost use Rattle.sk_loop.specs.Session.{IsLoaded};
 ghost use Rattle.sk_loop_laws.specs.Laws.{with_learnt};
 
@@ -30,6 +31,7 @@ fn load_from(solver: &mut Solver, clauses: &Clauses, loaded: usize) -> Result<()
     requires added { solver.old.added ≡ take loaded clauses.now.clauses }
     ensures vars { OnOk result (solver.new.vars ≡ clauses.now.vars) }
     ensures added { OnOk result (solver.new.added ≡ clauses.now.clauses) }
+    ensures learnt { OnOk result (solver.new.learnt ≡ solver.old.learnt) }
 {
     for i in loaded..clauses.len() {
         solver.add(clauses.get(i))?;
@@ -37,11 +39,13 @@ fn load_from(solver: &mut Solver, clauses: &Clauses, loaded: usize) -> Result<()
     Ok(())
 }
 
-/// Brings variables, and the clauses from a number on, to the solver.
+/// Brings variables, and the clauses from a number on, to the solver. After a refusal it may have some of them, and the search that
+/// it serves is given up.
 pub fn load(solver: &mut Solver, clauses: &Clauses, loaded: usize) -> Result<(), AllocError>
     requires { IsLoaded solver.old loaded clauses.now }
     ensures vars { OnOk result (solver.new.vars ≡ clauses.now.vars) }
     ensures added { OnOk result (solver.new.added ≡ clauses.now.clauses) }
+    ensures learnt { OnOk result (solver.new.learnt ≡ solver.old.learnt) }
 {
     solver.vars(clauses.vars())?;
     load_from(solver, clauses, loaded)
@@ -77,6 +81,7 @@ pub fn answer(
     requires vars { solver.old.vars ≡ encoded.now.clauses.vars }
     requires added { solver.old.added ≡ encoded.now.clauses.clauses }
     ensures answered { IfOk result (IsAnswered encoded.now budget) }
+    ensures call { IfOk result (IsOfCall budget (gained solver.old solver.new)) }
     ensures vars { solver.new.vars ≡ solver.old.vars }
     ensures added { solver.new.added ≡ solver.old.added }
 {

@@ -9,7 +9,7 @@ use sk_cnf::Encoded;
 use sk_sat::{Answer, Solver};
 use std::alloc::{AllocError, Global};
 
-// Adds the clauses to a solver that has their variables and no clause.
+// Adds the clauses to a solver that has their variables and no clause. A refusal gives the solver up.
 #[tactic(auto, using(crate::proofs::Loading::loading))]
 fn load(solver: &mut Solver, clauses: &Clauses) -> Result<(), AllocError>
     requires vars { solver.old.vars ≡ clauses.now.vars }

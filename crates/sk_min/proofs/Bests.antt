@@ -14,7 +14,7 @@ use Rattle.sk_loop_laws.specs.Honest.{Honest, inputs_of}
 use Rattle.sk_loop_laws.specs.Shown.{Completes, NonePasses}
 use Rattle.sk_min_laws.specs.Best.{IsBest, Meeting, NoneBelow, greatest_on}
 use Rattle.sk_min.specs.Least.{IsNone}
-use Rattle.sk_min.specs.Search.{IsTop}
+use Rattle.sk_min.specs.Search.{IsCheapest, IsTop}
 use Rattle.sk_min_laws.proofs.Greatest.{greatest_reached, greatest_within}
 use Rattle.sk_loop_laws.proofs.Pairs.{honest_are_inputs}
 
@@ -23,8 +23,8 @@ module _ (e : Expanded) (bounds : Bounds) where
   meeting_of c = record { range = c.range; meets = c.meets }
 
   -- where no input costs more than those of the pairs, their greatest cost is the greatest
-  pub top_of : (pairs : List Pair) (best : Choice) (value : ℕ) → IsAskable e bounds → Honest e bounds pairs → value ≡ greatest_on e bounds best (inputs_of pairs) → Completes e bounds (Some value) best → IsTop e bounds pairs best value
-  top_of pairs best value askable honest is completes =
+  pub top_of : (pairs : List Pair) (best : Choice) (value : ℕ) → IsAskable e bounds → Honest e bounds pairs → value ≡ greatest_on e bounds best (inputs_of pairs) → Completes e bounds (Some value) best → IsCheapest e bounds pairs best → IsTop e bounds pairs best value
+  top_of pairs best value askable honest is completes cheapest =
       let met = askable.met best completes.range in
       record {
         honest = honest;
@@ -37,6 +37,7 @@ module _ (e : Expanded) (bounds : Bounds) where
           ];
         };
         is = is;
+        cheapest = cheapest;
       }
 
   -- no cost on an input of honest pairs is above the greatest

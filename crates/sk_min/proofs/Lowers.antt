@@ -18,8 +18,8 @@ use Rattle.sk_loop.specs.Session.{IsReady, StandsFor}
 use Rattle.sk_loop_laws.specs.Honest.{Grown, Honest, inputs_of}
 use Rattle.sk_loop_laws.specs.Shown.{AreSpent, Completes, HasRoom, IsOfPairs, limit_of}
 use Rattle.sk_min_laws.specs.Best.{Meeting, greatest_on}
-use Rattle.sk_min.specs.Least.{AllBreak, IsLimited, IsLowered, IsShort}
-use Rattle.sk_min.specs.Search.{IsBehind, IsReadyBelow, IsState, IsTop}
+use Rattle.sk_min.specs.Least.{AllBreak, CostsLeast, IsLimited, IsLowered, IsShort}
+use Rattle.sk_min.specs.Search.{IsBehind, IsCheapest, IsReadyBelow, IsState, IsTop}
 use Rattle.sk_min.proofs.Bests.{meeting_of, pairs_within}
 use Rattle.sk_min_laws.proofs.Greatest.{greatest_append, greatest_within}
 use Rattle.sk_min.proofs.Lists.{last_there, one_longer, take_front}
@@ -67,11 +67,11 @@ module _ (e : Expanded) (bounds : Bounds) where
     above = r.above;
   }
 
-  pub state_first : (s : Session) (pairs : List Pair) (best : Choice) → Honest e bounds pairs → Meeting e bounds best → StandsFor s e bounds (inputs_of pairs) None → IsState e bounds (record { session = s; pairs = pairs; best = best })
-  state_first s pairs best honest meeting stands = record { honest = honest; meeting = meeting; ready = ready_first s pairs best stands }
+  pub state_first : (s : Session) (pairs : List Pair) (best : Choice) → Honest e bounds pairs → Meeting e bounds best → IsCheapest e bounds pairs best → StandsFor s e bounds (inputs_of pairs) None → IsState e bounds (record { session = s; pairs = pairs; best = best })
+  state_first s pairs best honest meeting cheapest stands = record { honest = honest; meeting = meeting; cheapest = cheapest; ready = ready_first s pairs best stands }
 
-  pub state_lower : (s : Session) (pairs : List Pair) (best : Choice) (less : ℕ) → Honest e bounds pairs → StandsFor s e bounds (inputs_of pairs) (Some less) → Completes e bounds (Some less) best → IsState e bounds (record { session = s; pairs = pairs; best = best })
-  state_lower s pairs best less honest stands completes = record { honest = honest; meeting = meeting_of e bounds completes; ready = ready_lower s pairs best less stands completes }
+  pub state_lower : (s : Session) (pairs : List Pair) (best : Choice) (less : ℕ) → Honest e bounds pairs → StandsFor s e bounds (inputs_of pairs) (Some less) → Completes e bounds (Some less) best → IsCheapest e bounds pairs best → IsState e bounds (record { session = s; pairs = pairs; best = best })
+  state_lower s pairs best less honest stands completes cheapest = record { honest = honest; meeting = meeting_of e bounds completes; cheapest = cheapest; ready = ready_lower s pairs best less stands completes }
 
   pub ready_turn : (s : Session) (old new : List Pair) (best choice : Choice) (value : ℕ) → IsReadyBelow s e bounds old best → choice ≡ best → IsTop e bounds new choice value → IsBehind old new → IsReady s e bounds (inputs_of new) (Some (value - 1))
   ready_turn s old new best choice value ready same top behind =
@@ -102,11 +102,12 @@ module _ (e : Expanded) (bounds : Bounds) where
       let before : take (length front) new ≡ front = ap (take (length front)) at ∙ take_front front (p ∷ []) in
       subst (λ (ps : List Pair). IsWanted e bounds (inputs_of ps) limit p.choice) before (grown.rounds (length front) p long there).wanted
 
-  pub short_of_grown : (budget : Budget) (old new : List Pair) (best : Choice) (value : ℕ) → IsAskable e bounds → IsTop e bounds old best value → 0 < value → Grown e bounds (Some (value - 1)) old new → Honest e bounds new → HasRoom budget old → AreSpent budget.rounds new → IsShort e bounds new best
-  short_of_grown budget old new best value askable top some grown honest room spent =
+  pub short_of_grown : (budget : Budget) (old new : List Pair) (best : Choice) (value : ℕ) → IsAskable e bounds → IsTop e bounds old best value → 0 < value → Grown e bounds (Some (value - 1)) old new → Honest e bounds new → HasRoom budget old → AreSpent budget.rounds new → CostsLeast e bounds new best → IsShort e bounds new best
+  short_of_grown budget old new best value askable top some grown honest room spent least =
       let same = still old new best value (Some (value - 1)) askable top grown honest in
       record {
         meeting = top.meeting;
+        least = least;
         more = omega (arith, same);
         last = λ front p at. inr (subst (λ (n : ℕ). IsWanted e bounds (inputs_of front) (Some (n - 1)) p.choice) same (last_round (Some (value - 1)) old new front p grown (front_shorter budget old new front p room spent at) at));
       }
@@ -131,7 +132,6 @@ module _ (e : Expanded) (bounds : Bounds) where
   pub limited_below : (pairs : List Pair) (best : Choice) (value : ℕ) (q : Query) → 0 < value → value ≡ greatest_on e bounds best (inputs_of pairs) → limit_of q ≡ Some (value - 1) → IsOfPairs e bounds pairs q → IsLimited e bounds pairs best q
   limited_below pairs best value (query.Bad c None) some is same wanted = absurd (none-some (value - 1) same)
   limited_below pairs best value (query.Bad c (Some limit)) some is same wanted = let l = lowered_is pairs best value limit some is same in inr (another pairs best c limit l wanted, l)
-  limited_below pairs best value (query.BadAt c o None) some is same wanted = absurd (none-some (value - 1) same)
-  limited_below pairs best value (query.BadAt c o (Some limit)) some is same wanted = let l = lowered_is pairs best value limit some is same in inr (another pairs best c limit l wanted, l)
+  limited_below pairs best value (query.BadAt c o limit) some is same wanted = let l = lowered_is pairs best value limit some is same in inr (another pairs best c limit l wanted.0, l)
   limited_below pairs best value (query.Wanted inputs None) some is same wanted = absurd (none-some (value - 1) same)
   limited_below pairs best value (query.Wanted inputs (Some limit)) some is same wanted = lowered_is pairs best value limit some is same

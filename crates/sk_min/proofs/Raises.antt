@@ -3,7 +3,9 @@ use Rattle.std.proofs.Common.{◌≡◌, inl, inr, ℕ, ◌+◌, ◌<◌, List, 
 use Rattle.std.specs.Prelude.{All, max}
 use Rattle.std.proofs.lemmas.Option.{none-some, same_Some}
 use Rattle.std.proofs.lemmas.List.{append_assoc, append-nil, get_or-map, length-map, map-append, take_more}
+use Rattle.std.proofs.lemmas.Bool.{cases_order}
 use Rattle.sk_base.specs.declared.bounds.Bounds.{Bounds}
+use Rattle.sk_base.specs.declared.bounds.Budget.{Budget}
 use Rattle.sk_clause.specs.declared.lit.Lit.{Lit}
 use Rattle.sk_cnf.specs.declared.growing.Encoded.{Encoded}
 use Rattle.sk_model.specs.declared.expanded.Choice.{Choice}
@@ -19,13 +21,13 @@ use Rattle.sk_oblig_queries.specs.Queries.{IsBad, IsWanted}
 use Rattle.sk_oblig.specs.Formulas.{IsAskable}
 use Rattle.sk_loop.specs.Countered.{IsBadQuery, IsSpentOn}
 use Rattle.sk_loop_laws.specs.Honest.{Grown, Honest, inputs_of}
-use Rattle.sk_loop_laws.specs.Shown.{IsOfPairs, Learnt}
+use Rattle.sk_loop_laws.specs.Shown.{AreSpent, HasRoom, IsOfPairs, IsOfSearch, Learnt}
 use Rattle.sk_min_laws.specs.Best.{Meeting, greatest_on}
-use Rattle.sk_min.specs.Least.{IsLimited, IsShort}
+use Rattle.sk_min.specs.Least.{CostsLeast, IsLimited, IsShort}
 use Rattle.sk_min.specs.Search.{IsBehind, IsRaised}
 use Rattle.sk_min_laws.proofs.Greatest.{each_within, greatest_push}
 use Rattle.sk_loop_laws.proofs.Pairs.{grown_is_honest, honest_are_inputs}
-use Rattle.sk_min.proofs.Lists.{last_read, same_last, take_front}
+use Rattle.sk_min.proofs.Lists.{last_read, one_longer, same_last, take_front}
 
 -- the inputs of pairs with one behind them
 pub inputs_push : (old : List Pair) (p : Pair) → inputs_of (old ++ p ∷ []) ≡ inputs_of old ++ p.input ∷ []
@@ -36,6 +38,24 @@ nothing_behind pairs = record { added = []; is = sym (append-nil pairs) }
 
 pub one_behind : (first old new : List Pair) (p : Pair) → IsBehind first old → new ≡ old ++ p ∷ [] → IsBehind first new
 one_behind first old new p b e = record { added = b.added ++ p ∷ []; is = e ∙ ap (λ ps. ps ++ p ∷ []) b.is ∙ append_assoc first b.added (p ∷ []) }
+
+pub behind_on : (first old new : List Pair) → IsBehind first old → IsBehind old new → IsBehind first new
+behind_on first old new a b = record { added = a.added ++ b.added; is = b.is ∙ ap (λ ps. ps ++ b.added) a.is ∙ append_assoc first a.added b.added }
+
+pub behind_grown : (e : Expanded) (bounds : Bounds) (limit : Option ℕ) (old new : List Pair) → Grown e bounds limit old new → IsBehind old new
+behind_grown e bounds limit old new g = record { added = g.added; is = g.behind }
+
+-- there is room where a budget is not spent by a further pair
+pub room_left : (budget : Budget) (old new : List Pair) (p : Pair) → HasRoom budget old → new ≡ old ++ p ∷ [] → (AreSpent budget.rounds new → ⊥) → HasRoom budget new
+room_left budget old new p room behind left =
+    let long : length new ≡ length old + 1 = ap length behind ∙ one_longer old p in
+    elim room [
+      | inl none ↦ inl none
+      | inr few ↦ elim (cases_order (length new) budget.rounds) [
+        | inl same ↦ absurd (left (record { some = omega (arith, same, long); long = same }))
+        | inr differ ↦ elim differ [ inl lt ↦ inr lt | inr gt ↦ absurd (omega (arith, gt, few, long)) ]
+      ]
+    ]
 
 module _ (e : Expanded) (bounds : Bounds) where
   -- a choice that meets all obligations passes the inputs of pairs within what they cost it at most
@@ -97,26 +117,32 @@ module _ (e : Expanded) (bounds : Bounds) where
       (λ m i b c. raised_by old p value cost askable honest m i b c) meeting is bad costs)
 
   -- what is shown where the pairs are as many as the budget says
-  pub short_of_raised : (best : Choice) (old new : List Pair) (cost : ℕ) → Meeting e bounds best → IsRaised e bounds best old new cost → IsShort e bounds new best
-  short_of_raised best old new cost meeting r = record {
+  pub short_of_raised : (best : Choice) (old new : List Pair) (cost : ℕ) → Meeting e bounds best → CostsLeast e bounds new best → IsRaised e bounds best old new cost → IsShort e bounds new best
+  short_of_raised best old new cost meeting least r = record {
     meeting = meeting;
+    least = least;
     more = omega (arith, r.is, r.some);
     last = λ front p at.
         let same : r.pair ≡ p = same_last old front r.pair p (sym r.behind ∙ at) in
         inl (ap (λ (x : Pair). x.choice) (sym same) ∙ r.of_best);
   }
 
+  -- a query for an input of any obligation is one of the search
+  pub of_search : (q : Query) (choice : Choice) (limit : Option ℕ) → IsBadQuery q choice limit → IsOfSearch q
+  of_search (query.Bad c l) choice limit h = tt
+  of_search (query.BadAt c o l) choice limit h = absurd h
+  of_search (query.Wanted inputs l) choice limit h = absurd h
+
   -- the query of a spent search for a costlier input
   pub limited_of : (pairs : List Pair) (best : Choice) (value : ℕ) (q : Query) → IsBadQuery q best (Some value) → value ≡ greatest_on e bounds best (inputs_of pairs) → IsLimited e bounds pairs best q
   limited_of pairs best value (query.Bad c None) h is = absurd (none-some value h.1)
   limited_of pairs best value (query.Bad c (Some limit)) h is = inl (h.0, same_Some limit value h.1 ∙ is)
-  limited_of pairs best value (query.BadAt c o None) h is = absurd (none-some value h.1)
-  limited_of pairs best value (query.BadAt c o (Some limit)) h is = inl (h.0, same_Some limit value h.1 ∙ is)
+  limited_of pairs best value (query.BadAt c o limit) h is = absurd h
   limited_of pairs best value (query.Wanted inputs limit) h is = absurd h
 
   pub of_pairs : (pairs : List Pair) (best : Choice) (limit : Option ℕ) (q : Query) → IsBadQuery q best limit → IsWanted e bounds (inputs_of pairs) limit best → IsOfPairs e bounds pairs q
   of_pairs pairs best limit (query.Bad c l) h wanted = subst (λ (b : Choice). IsWanted e bounds (inputs_of pairs) l b) (sym h.0) (subst (λ (m : Option ℕ). IsWanted e bounds (inputs_of pairs) m best) (sym h.1) wanted)
-  of_pairs pairs best limit (query.BadAt c o l) h wanted = subst (λ (b : Choice). IsWanted e bounds (inputs_of pairs) l b) (sym h.0) (subst (λ (m : Option ℕ). IsWanted e bounds (inputs_of pairs) m best) (sym h.1) wanted)
+  of_pairs pairs best limit (query.BadAt c o l) h wanted = absurd h
   of_pairs pairs best limit (query.Wanted inputs l) h wanted = absurd h
 
   pub learnt_of : (pairs : List Pair) (best : Choice) (value count : ℕ) (q : Query) (f : Encoded) (log : List (List Lit)) → IsAskable e bounds → Honest e bounds pairs → Meeting e bounds best → value ≡ greatest_on e bounds best (inputs_of pairs) → IsSpentOn e bounds best (Some value) count q f log → Learnt e bounds count pairs q f log

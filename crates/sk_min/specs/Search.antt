@@ -1,16 +1,18 @@
 -- Where a search for a least completion stands between its steps.
-use Rattle.std.specs.Prelude.{ℕ, ◌≡◌, ◌<◌, ◌-◌, ◌++◌, ◌∷◌, [], List, Some, IsTrue}
+use Rattle.std.specs.Prelude.{ℕ, ◌≡◌, ◌<◌, ◌≤◌, ◌-◌, ◌⊎◌, ◌++◌, ◌∷◌, [], List, Some, IsTrue, slice_get}
 use Rattle.sk_base.specs.declared.bounds.Bounds.{Bounds}
 use Rattle.sk_base.specs.declared.bounds.Budget.{Budget}
 use Rattle.sk_model.specs.declared.expanded.Choice.{Choice}
 use Rattle.sk_model.specs.declared.expanded.Expanded.{Expanded}
+use Rattle.sk_model.specs.declared.expanded.Input.{Input}
 use Rattle.sk_model.specs.declared.expanded.Pair.{Pair}
 use Rattle.sk_model.specs.Fill.{fill}
-use Rattle.sk_model.specs.Meets.{IsGreatestCost}
+use Rattle.sk_model.specs.Inputs.{IsInput}
+use Rattle.sk_model.specs.Meets.{IsGreatestCost, cost_on}
 use Rattle.sk_loop.specs.declared.session.Session.{Session}
 use Rattle.sk_loop.specs.Session.{IsReady}
 use Rattle.sk_loop_laws.specs.Honest.{Honest, inputs_of}
-use Rattle.sk_loop_laws.specs.Shown.{AreSpent, Completes, Learnt}
+use Rattle.sk_loop_laws.specs.Shown.{AreSpent, Completes, HasRoom, Learnt, IsOfSearch}
 use Rattle.sk_min_costs.specs.Free.{is_free}
 use Rattle.sk_min.specs.declared.search.Costlier.{Costlier}
 use Rattle.sk_min.specs.declared.search.Costlier.TheVariants as costlier
@@ -20,7 +22,7 @@ use Rattle.sk_min.specs.declared.search.State.{State}
 use Rattle.sk_min.specs.declared.search.Turn.{Turn}
 use Rattle.sk_min.specs.declared.search.Turn.TheVariants as turn
 use Rattle.sk_min_laws.specs.Best.{Meeting, greatest_on}
-use Rattle.sk_min.specs.Least.{IsAnswer, IsLimited, IsShort}
+use Rattle.sk_min.specs.Least.{IsAnswer, IsLimited, pairs_of}
 
 -- the program has a `minimize` or a `minrepeat`
 abbrev pub IsCostly : Expanded → Type 0
@@ -40,14 +42,25 @@ pub record IsBehind (old new : List Pair) : Type 0 where
   pub added : List Pair
   pub is : new ≡ old ++ added
 
+-- Each choice of a pair that meets all obligations is the best one, or costs at least as much on some input of the pairs as the best
+-- one does on any input.
+pub record IsCheapest (e : Expanded) (bounds : Bounds) (pairs : List Pair) (best : Choice) : Type 0 where
+  pub each : (i : ℕ) (p : Pair) → slice_get pairs i ≡ Some p → Meeting e bounds p.choice
+      → (p.choice ≡ best) ⊎ ((input : Input) → IsInput e.prog bounds input → cost_on (fill e best) bounds input ≤ greatest_on e bounds p.choice (inputs_of pairs))
+
+-- the greatest cost of the next choice is below that of the best one
+pub record Lowers (e : Expanded) (bounds : Bounds) (best next : Choice) : Type 0 where
+  pub less : (v w : ℕ) → IsGreatestCost (fill e best) bounds v → IsGreatestCost (fill e next) bounds w → w < v
+
 -- the session is ready for a search below each greatest cost of the choice
 pub record IsReadyBelow (s : Session) (e : Expanded) (bounds : Bounds) (pairs : List Pair) (best : Choice) : Type 0 where
   pub below : (v : ℕ) → IsGreatestCost (fill e best) bounds v → IsReady s e bounds (inputs_of pairs) (Some (v - 1))
 
--- The pairs are honest, and the choice meets all obligations.
+-- The pairs are honest, and the choice meets all obligations and is the cheapest known.
 pub record IsState (e : Expanded) (bounds : Bounds) (s : State) : Type 0 where
   pub honest : Honest e bounds s.pairs
   pub meeting : Meeting e bounds s.best
+  pub cheapest : IsCheapest e bounds s.pairs s.best
   pub ready : IsReadyBelow s.session e bounds s.pairs s.best
 
 -- The value is the greatest cost of the choice, and the greatest on the inputs of the pairs.
@@ -56,19 +69,23 @@ pub record IsTop (e : Expanded) (bounds : Bounds) (pairs : List Pair) (best : Ch
   pub meeting : Meeting e bounds best
   pub greatest : IsGreatestCost (fill e best) bounds value
   pub is : value ≡ greatest_on e bounds best (inputs_of pairs)
+  pub cheapest : IsCheapest e bounds pairs best
 
 -- What one search for a costlier input answers, with the pairs before and after it.
 abbrev pub IsCostlier : Expanded → Bounds → Budget → Choice → ℕ → List Pair → List Pair → Costlier → Type 0
-IsCostlier e bounds budget best value old new (costlier.Cost cost) = IsRaised e bounds best old new cost
+IsCostlier e bounds budget best value old new (costlier.Cost cost) = IsRaised e bounds best old new cost × HasRoom budget new
 IsCostlier e bounds budget best value old new costlier.None = (new ≡ old) × Completes e bounds (Some value) best
-IsCostlier e bounds budget best value old new costlier.Rounds = Honest e bounds new × AreSpent budget.rounds new × IsShort e bounds new best
-IsCostlier e bounds budget best value old new (costlier.Conflicts q f log) = Learnt e bounds budget.conflicts new q f log × IsLimited e bounds new best q
+IsCostlier e bounds budget best value old new costlier.Rounds = (cost : ℕ) × IsRaised e bounds best old new cost × AreSpent budget.rounds new
+IsCostlier e bounds budget best value old new (costlier.Conflicts q f log) = (new ≡ old) × Learnt e bounds budget.conflicts old q f log × IsLimited e bounds old best q × IsOfSearch q
 
--- What the search for the greatest cost of a choice answers: the old pairs stand first.
+-- What the search for the greatest cost of a choice answers: the old pairs stand first, and there is room for a further one where
+-- it goes on.
 abbrev pub IsRaisedTo : Expanded → Bounds → Budget → Choice → List Pair → Raised → Type 0
-IsRaisedTo e bounds budget best old (raised.Top pairs choice value) = (choice ≡ best) × IsTop e bounds pairs choice value × IsBehind old pairs
-IsRaisedTo e bounds budget best old (raised.Ended answer) = IsAnswer e bounds budget answer
+IsRaisedTo e bounds budget best old (raised.Top pairs choice value) = (choice ≡ best) × IsTop e bounds pairs choice value × IsBehind old pairs × HasRoom budget pairs
+IsRaisedTo e bounds budget best old (raised.Ended answer) = IsAnswer e bounds budget answer × IsBehind old (pairs_of answer)
 
-abbrev pub IsTurn : Expanded → Bounds → Budget → Turn → Type 0
-IsTurn e bounds budget (turn.Lower state) = IsState e bounds state
-IsTurn e bounds budget (turn.Ended answer) = IsAnswer e bounds budget answer
+-- What a turn leads to, with the pairs and the best choice before it: the old pairs stand first, and where the search goes on, the
+-- greatest cost is a lower one.
+abbrev pub IsTurn : Expanded → Bounds → Budget → List Pair → Choice → Turn → Type 0
+IsTurn e bounds budget old best (turn.Lower state) = IsState e bounds state × Lowers e bounds best state.best × IsBehind old state.pairs × HasRoom budget state.pairs
+IsTurn e bounds budget old best (turn.Ended answer) = IsAnswer e bounds budget answer × IsBehind old (pairs_of answer)

@@ -1,13 +1,13 @@
 //! The search for a completion that costs least.
 
-ghost use Rattle.std.specs.Prelude.{◌≡◌, ◌-◌, IfOk, IsTrue, None, Some};
+ghost use Rattle.std.specs.Prelude.{◌≡◌, ◌-◌, IfOk, None, Some};
 ghost use Rattle.sk_loop.specs.Session.{IsReady, StandsFor};
 ghost use Rattle.sk_loop_laws.specs.Honest.{Honest, inputs_of};
 ghost use Rattle.sk_loop_laws.specs.Shown.{HasRoom};
 ghost use Rattle.sk_oblig.specs.Formulas.{IsAskable};
 ghost use Rattle.sk_min_laws.specs.Best.{Meeting};
-ghost use Rattle.sk_min.specs.Least.{IsAnswer};
-ghost use Rattle.sk_min.specs.Search.{IsCostly, IsState, IsTop, IsTurn};
+ghost use Rattle.sk_min.specs.Least.{IsAnswer, pairs_of};
+ghost use Rattle.sk_min.specs.Search.{IsBehind, IsCheapest, IsCostly, IsState, IsTop, IsTurn};
 
 use crate::answer::Least;
 use crate::raise::raise;
@@ -18,15 +18,7 @@ use sk_min_costs::is_free;
 use sk_model::{Choice, Expanded, Pair};
 use std::alloc::{AllocError, Global};
 
-// Whether a further pair may be found.
-fn has_room(budget: &Budget, pairs: &List<Pair>) -> bool
-    ensures { IsTrue result → HasRoom budget.now pairs.now }
-{
-    budget.rounds == 0 || (pairs.len() as u64) < budget.rounds
-}
-
-// Looks for a choice that costs less than the best one, whose greatest cost is the value. A search that found a choice has room
-// for a further pair; that it has none would count as want of memory.
+// Looks for a choice that costs less than the best one, whose greatest cost is the value.
 fn lower(
     expanded: &Expanded,
     bounds: &Bounds,
@@ -40,7 +32,8 @@ fn lower(
     requires costly { IsCostly expanded.now }
     requires top { IsTop expanded.now bounds.now pairs best value }
     requires ready { IsReady session expanded.now bounds.now (inputs_of pairs) (Some (value - 1)) }
-    ensures { IfOk result (IsTurn expanded.now bounds.now budget.now) }
+    requires room { HasRoom budget.now pairs }
+    ensures { IfOk result (IsTurn expanded.now bounds.now budget.now pairs best) }
 {
     if value == 0 {
         return Ok(Turn::Ended(Least::Best {
@@ -48,9 +41,6 @@ fn lower(
             value,
             pairs,
         }));
-    }
-    if !has_room(budget, &pairs) {
-        return Err(AllocError);
     }
     match session.synthesise(expanded, bounds, Some(value - 1), &mut pairs, budget)? {
         Found::Choice(choice) => Ok(Turn::Lower(State {
@@ -94,7 +84,8 @@ fn turn(
     requires askable { IsAskable expanded.now bounds.now }
     requires costly { IsCostly expanded.now }
     requires state { IsState expanded.now bounds.now state }
-    ensures { IfOk result (IsTurn expanded.now bounds.now budget.now) }
+    requires room { HasRoom budget.now state.pairs }
+    ensures { IfOk result (IsTurn expanded.now bounds.now budget.now state.pairs state.best) }
 {
     let State {
         session,
@@ -102,9 +93,10 @@ fn turn(
         best,
     } = state;
     match raise(alloc, expanded, bounds, budget, pairs, best)? {
-        Raised::Top { pairs, best, value } => lower(
-            expanded, bounds, budget, session, pairs, best, value,
-        ),
+        Raised::Top { pairs, best, value } => {
+            let turn = lower(expanded, bounds, budget, session, pairs, best, value)?;
+            Ok(turn)
+        }
         Raised::Ended(answer) => Ok(Turn::Ended(answer)),
     }
 }
@@ -120,7 +112,9 @@ fn descend(
     requires askable { IsAskable expanded.now bounds.now }
     requires costly { IsCostly expanded.now }
     requires state { IsState expanded.now bounds.now first }
-    ensures { IfOk result (IsAnswer expanded.now bounds.now budget.now) }
+    requires room { HasRoom budget.now first.pairs }
+    ensures answer { IfOk result (IsAnswer expanded.now bounds.now budget.now) }
+    ensures behind { IfOk result (λ answer. IsBehind first.pairs (pairs_of answer)) }
 {
     let mut state = first;
     for _turn in 0..u64::MAX {
@@ -146,8 +140,11 @@ fn from_first(
     requires askable { IsAskable expanded.now bounds.now }
     requires meeting { Meeting expanded.now bounds.now best }
     requires honest { Honest expanded.now bounds.now pairs }
+    requires cheapest { IsCheapest expanded.now bounds.now pairs best }
     requires stands { StandsFor session expanded.now bounds.now (inputs_of pairs) None }
-    ensures { IfOk result (IsAnswer expanded.now bounds.now budget.now) }
+    requires room { HasRoom budget.now pairs }
+    ensures answer { IfOk result (IsAnswer expanded.now bounds.now budget.now) }
+    ensures behind { IfOk result (λ answer. IsBehind pairs (pairs_of answer)) }
 {
     if is_free(&expanded.prog) {
         return Ok(Least::Best {

@@ -1,14 +1,14 @@
 //! The greatest cost of a choice that meets every obligation.
 
-ghost use Rattle.std.specs.Prelude.{◌≡◌, max, All, IfOk, IsTrue, Some};
+ghost use Rattle.std.specs.Prelude.{◌≡◌, ◌↔◌, max, All, IfOk, IsTrue, Some};
 ghost use Rattle.sk_loop_laws.specs.Honest.{Honest, inputs_of};
-ghost use Rattle.sk_loop_laws.specs.Shown.{AreSpent};
+ghost use Rattle.sk_loop_laws.specs.Shown.{AreSpent, HasRoom};
 ghost use Rattle.sk_model.specs.Fill.{InRange};
 ghost use Rattle.sk_model.specs.Inputs.{IsInput};
 ghost use Rattle.sk_oblig.specs.Formulas.{IsAskable};
 ghost use Rattle.sk_oblig_queries.specs.Queries.{IsBad};
 ghost use Rattle.sk_min_laws.specs.Best.{Meeting, greatest_on};
-ghost use Rattle.sk_min.specs.Search.{IsCostlier, IsCostly, IsRaisedTo};
+ghost use Rattle.sk_min.specs.Search.{IsCheapest, IsCostlier, IsCostly, IsRaisedTo};
 
 use crate::answer::Least;
 use crate::search::{Costlier, Raised};
@@ -49,7 +49,7 @@ fn greatest_on(
 
 // Whether there are as many pairs as the budget of rounds says.
 fn are_spent(budget: &Budget, pairs: &List<Pair>) -> bool
-    ensures { IsTrue result → AreSpent budget.now.rounds pairs.now }
+    ensures { IsTrue result ↔ AreSpent budget.now.rounds pairs.now }
 {
     budget.rounds != 0 && pairs.len() as u64 == budget.rounds
 }
@@ -68,6 +68,7 @@ fn append(
     requires askable { IsAskable expanded.now bounds.now }
     requires meeting { Meeting expanded.now bounds.now best.now }
     requires honest { Honest expanded.now bounds.now pairs.old }
+    requires room { HasRoom budget.now pairs.old }
     requires is { value ≡ greatest_on expanded.now bounds.now best.now (inputs_of pairs.old) }
     requires bad { IsBad expanded.now bounds.now best.now (Some value) input }
     ensures { IfOk result (IsCostlier expanded.now bounds.now budget.now best.now value pairs.old pairs.new) }
@@ -94,6 +95,7 @@ fn costlier(
     requires askable { IsAskable expanded.now bounds.now }
     requires meeting { Meeting expanded.now bounds.now best.now }
     requires honest { Honest expanded.now bounds.now pairs.old }
+    requires room { HasRoom budget.now pairs.old }
     requires is { value ≡ greatest_on expanded.now bounds.now best.now (inputs_of pairs.old) }
     ensures { IfOk result (IsCostlier expanded.now bounds.now budget.now best.now value pairs.old pairs.new) }
 {
@@ -128,6 +130,8 @@ pub(crate) fn raise(
     requires costly { IsCostly expanded.now }
     requires meeting { Meeting expanded.now bounds.now best }
     requires honest { Honest expanded.now bounds.now pairs }
+    requires cheapest { IsCheapest expanded.now bounds.now pairs best }
+    requires room { HasRoom budget.now pairs }
     ensures { IfOk result (IsRaisedTo expanded.now bounds.now budget.now best pairs) }
 {
     let mut value = greatest_on(alloc, expanded, bounds, &best, pairs.as_slice())?;

@@ -176,16 +176,17 @@ module _ {x : Expanded} {bounds : Bounds} {a : Choice} {limit : Option ℕ} (ask
         );
   }
 
-  pub bad_at_root : {d : Graph} (i : ℕ) (r : BoolId) → SaysAnyBad d x a bounds limit (at_most_one (slice_get (obligations x.prog) i)) r → IsRoot d x bounds (query.BadAt a i limit) r
+module _ {x : Expanded} {bounds : Bounds} {a : Choice} {most : ℕ} (askable : IsAskable x bounds) (range : InRange x a) where
+  pub bad_at_root : {d : Graph} (i : ℕ) (r : BoolId) → SaysAnyBad d x a bounds (Some most) (at_most_one (slice_get (obligations x.prog) i)) r → IsRoot d x bounds (query.BadAt a i most) r
   bad_at_root {d} i r is = by (slice_get (obligations x.prog) i) refl
     where
-      by : (m : Option Obligation) → slice_get (obligations x.prog) i ≡ m → IsRoot d x bounds (query.BadAt a i limit) r
+      by : (m : Option Obligation) → slice_get (obligations x.prog) i ≡ m → IsRoot d x bounds (query.BadAt a i most) r
       by None at = record {
         there = is.there;
         value = λ bits.
             let ns : List ℕ = numbers_said (params_widths bounds.inbits (params_at x.prog i)) bits in
-            let here : SaysAnyBad d x a bounds limit [] r = subst (λ m. SaysAnyBad d x a bounds limit (at_most_one m) r) at is in
-            let both = here.value d (env_of x bounds (query.BadAt a i limit) bits) ns (Grows-refl d) (has_all ns) tt in
+            let here : SaysAnyBad d x a bounds (Some most) [] r = subst (λ m. SaysAnyBad d x a bounds (Some most) (at_most_one m) r) at is in
+            let both = here.value d (env_of x bounds (query.BadAt a i most) bits) ns (Grows-refl d) (has_all ns) tt in
             (λ h. absurd (both.0 h), λ h. absurd (none_some at h.is_input.is_obligation));
       }
         where
@@ -200,14 +201,14 @@ module _ {x : Expanded} {bounds : Bounds} {a : Choice} {limit : Option ℕ} (ask
             let ns : List ℕ = numbers_said (params_widths bounds.inbits (params_at x.prog i)) bits in
             let same : params_at x.prog i ≡ params_of x.prog o = ap (params_if x.prog) at in
             let below : StartsBelow (params_widths bounds.inbits (params_of x.prog o)) ns = subst (λ (ps : List ParamDef). StartsBelow (params_widths bounds.inbits ps) ns) same (starts_said (params_widths bounds.inbits (params_at x.prog i)) bits) in
-            let here : SaysAnyBad d x a bounds limit (o ∷ []) r = subst (λ m. SaysAnyBad d x a bounds limit (at_most_one m) r) at is in
+            let here : SaysAnyBad d x a bounds (Some most) (o ∷ []) r = subst (λ m. SaysAnyBad d x a bounds (Some most) (at_most_one m) r) at is in
             let alone : StartsBelow (obligations_widths bounds.inbits x.prog (o ∷ [])) ns = subst (λ (ws : List ℕ). StartsBelow ws ns) (sym (append-nil (params_widths bounds.inbits (params_of x.prog o)))) below in
-            let both = here.value d (env_of x bounds (query.BadAt a i limit) bits) ns (Grows-refl d) (has_all ns) alone in
-            let one = bad_of i o ns at below in
+            let both = here.value d (env_of x bounds (query.BadAt a i most) bits) ns (Grows-refl d) (has_all ns) alone in
+            let one = bad_of {limit = Some most} askable range i o ns at below in
             (λ h. one.0 (only ns (both.0 h)), λ h. both.1 (inl (one.1 h)));
       }
         where
-          only : (ns : List ℕ) → BadOf x a bounds limit o ns ⊎ ⊥ → BadOf x a bounds limit o ns
+          only : (ns : List ℕ) → BadOf x a bounds (Some most) o ns ⊎ ⊥ → BadOf x a bounds (Some most) o ns
           only ns (inl h) = h
           only ns (inr h) = absurd h
 

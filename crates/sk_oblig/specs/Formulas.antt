@@ -10,6 +10,7 @@ use Rattle.sk_model.specs.declared.expanded.Expanded.{Expanded}
 use Rattle.sk_model.specs.declared.expanded.Input.{Input}
 use Rattle.sk_model.specs.declared.expanded.Obligation.{Obligation}
 use Rattle.sk_model.specs.Fill.{InRange}
+use Rattle.sk_model.specs.Obligations.{obligations}
 use Rattle.sk_expand_sites.specs.Needs.{HasItsSites, are_narrow}
 use Rattle.sk_holes_choice_laws.specs.Meeting.{IsMetUnder}
 use Rattle.sk_cnf.specs.declared.leaf.Leaf.{Leaf}
@@ -35,10 +36,10 @@ pub record IsAskable (e : Expanded) (bounds : Bounds) : Type 0 where
   pub inbits : bounds.inbits ≤ bounds.int_bits - 1
   pub met : (choice : Choice) → InRange e choice → IsMetUnder e choice bounds
 
--- the choice of a query for an input is in range
+-- the choice of a query for an input is in range, and the one obligation that is asked of is there
 abbrev pub IsAsked : Expanded → Query → Type 0
 IsAsked e (query.Bad choice limit) = InRange e choice
-IsAsked e (query.BadAt choice o limit) = InRange e choice
+IsAsked e (query.BadAt choice o limit) = InRange e choice × (o < length (obligations e.prog))
 IsAsked e (query.Wanted inputs limit) = Unit {0}
 
 -- the query asks for an input
@@ -50,7 +51,7 @@ AsksInput (query.Wanted inputs limit) = ⊥
 -- the input is one that the query asks for
 abbrev pub IsAnswer : Expanded → Bounds → Query → Input → Type 0
 IsAnswer e bounds (query.Bad choice limit) input = IsBad e bounds choice limit input
-IsAnswer e bounds (query.BadAt choice o limit) input = IsBad e bounds choice limit input × (input.obligation ≡ o)
+IsAnswer e bounds (query.BadAt choice o limit) input = IsBad e bounds choice (Some limit) input × (input.obligation ≡ o)
 IsAnswer e bounds (query.Wanted inputs limit) input = ⊥
 
 -- ---- Step by step

@@ -115,7 +115,15 @@ fn root_of(
             obligation,
             limit,
         } => {
-            let r = bad_at(alloc, dag, expanded, bounds, choice, *obligation, *limit)?;
+            let r = bad_at(
+                alloc,
+                dag,
+                expanded,
+                bounds,
+                choice,
+                *obligation,
+                Some(*limit),
+            )?;
             Ok(r)
         }
         Query::Wanted { inputs, limit } => {

@@ -19,6 +19,7 @@ use Rattle.sk_cnf.specs.declared.growing.Growing.{Growing}
 use Rattle.sk_cnf.specs.Formula.{AreTrue, Tight}
 use Rattle.sk_cnf.specs.Leaves.{Says}
 use Rattle.sk_cnf.specs.Standing.{Stands}
+use Rattle.sk_cnf.proofs.StandingLaws.{Begins-refl}
 use Rattle.sk_oblig_queries.specs.declared.query.Query.TheVariants as query
 use Rattle.sk_oblig_queries.specs.Queries.{bits_of_query, leaves_of_query}
 use Rattle.sk_oblig_queries.specs.Said.{choice_said}
@@ -121,6 +122,30 @@ added {x} {bounds} {demands} old new input limit r askable is keeps fine stand t
       stands = stands;
       means = means;
     }
+
+-- A refusal
+
+-- roots say what they said in a graph that has more nodes
+same_roots : {d0 d1 : Graph} {x : Expanded} {bounds : Bounds} {demands : List Demand} (roots : List BoolId) → Keeps d0 d1 → All (HasBool d0.nodes) roots → AreRoots d0 x bounds demands roots → AreRoots d1 x bounds demands roots
+same_roots {d0} {d1} {x} {bounds} {demands} roots keeps there means = record {
+  value = λ bits.
+      let grows : Grows d0 d1 = keeps.later d1 (Grows-refl d1) in
+      let e : Env = env_of x bounds (query.Wanted [] None) bits in
+      let both = means.value bits in (
+        λ h. both.0 (λ i d l. sym (bool_value-grows grows (there i d l) e) ∙ h i d l),
+        λ p. let old = both.1 p in λ i d l. bool_value-grows grows (there i d l) e ∙ old i d l,
+      );
+}
+
+pub still_asks : {x : Expanded} {bounds : Bounds} {demands : List Demand} (old : Asking) (dag : Graph) (growing : Growing) → IsAskable x bounds → IsAsking old x bounds demands → Keeps old.dag dag
+    → ((g : Graph) (roots : List BoolId) → Stands old.growing g roots → Grows g dag → Stands growing dag roots) → growing.leaves ≡ old.growing.leaves
+    → AsksForEach growing.encoded x bounds demands
+still_asks {x} {bounds} {demands} old dag growing askable is keeps stand same =
+    let stands : Stands growing dag is.roots = stand old.dag is.roots is.stands (keeps.later dag (Grows-refl dag)) in
+    let leaves : growing.leaves.keys ≡ leaves_of_query x bounds (query.Wanted [] None) = rw same is.leaves in
+    asks_each growing dag is.roots askable leaves (sym (ap length is.leaves) ∙ sym is.stands.means.encodes.named ∙ is.asks.named) stands (same_roots is.roots keeps is.stands.there is.means)
+
+pub ruleset refusals = (Begins-refl, still_asks)
 
 -- The beginning
 

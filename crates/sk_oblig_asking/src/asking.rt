@@ -1,10 +1,10 @@
 //! A formula that asks for a choice, and for more of it with each input that is added.
 
-ghost use Rattle.std.specs.Prelude.{◌≡◌, ◌++◌, ◌∷◌, [], List as ListOf, None, IfOk, OnOk};
+ghost use Rattle.std.specs.Prelude.{◌≡◌, ◌++◌, ◌∷◌, [], List as ListOf, None, IfOk, OnErr, OnOk};
 ghost use Rattle.sk_cnf.specs.Formula.{Tight};
 ghost use Rattle.sk_cnf.specs.Standing.{Begins};
 ghost use Rattle.sk_oblig.specs.Formulas.{IsAskable};
-ghost use Rattle.sk_oblig_asking.specs.Asking.{Demand, IsAsking};
+ghost use Rattle.sk_oblig_asking.specs.Asking.{AsksForEach, Demand, IsAsking};
 
 use crate::moving::fine_in;
 use sk_base::{Bounds, List};
@@ -48,12 +48,15 @@ impl Asking {
 
     /// Asks also that the choice passes an input within a limit.
     ///
-    /// Names and clauses stay, and new clauses stand behind the old ones. After a refusal it is not to be used again.
+    /// Names and clauses stay, and new clauses stand behind the old ones. After a refusal the formula may hold further variables
+    /// and clauses. They leave the meaning of its names as it was, but bits of the names may extend in more than one way: so it
+    /// asks for what it asked, and is not to be added to again.
     ///
     /// # Errors
     ///
     /// Memory is wanting, or what `execute` counts as that; or the input names a record, or has an `int` that is no word of
     /// the width.
+    #[tactic(auto, using(crate::proofs::Growth::refusals))]
     pub fn add(
         &mut self,
         expanded: &Expanded,
@@ -65,8 +68,10 @@ impl Asking {
         requires stands { (demands : ListOf Demand) × IsAsking self.old expanded.now bounds.now demands }
         ensures asking { (demands : ListOf Demand) → IsAsking self.old expanded.now bounds.now demands
             → OnOk result (IsAsking self.new expanded.now bounds.now (demands ++ (record { input = input.now; limit = limit }) ∷ [])) }
-        ensures behind { OnOk result (Begins self.old.growing.encoded.clauses self.new.growing.encoded.clauses) }
-        ensures names { OnOk result (self.new.growing.encoded.names ≡ self.old.growing.encoded.names) }
+        ensures refused { (demands : ListOf Demand) → IsAsking self.old expanded.now bounds.now demands
+            → OnErr result (AsksForEach self.new.growing.encoded expanded.now bounds.now demands) }
+        ensures behind { Begins self.old.growing.encoded.clauses self.new.growing.encoded.clauses }
+        ensures names { self.new.growing.encoded.names ≡ self.old.growing.encoded.names }
     {
         let root = fine_in(self.alloc, &mut self.dag, expanded, bounds, input, limit)?;
         self.growing.require(&self.dag, root)?;

@@ -3,4 +3,4 @@ use Rattle.sk_loop.proofs.solving.load_from.Given as goal
 
 -- the solver has the clauses so far
 abbrev pub invariant-loop-i : goal.invariant-loop-i
-invariant-loop-i l = (l.solver.vars ≡ l.clauses.vars) × (l.solver.added ≡ take l.i l.clauses.clauses)
+invariant-loop-i l = (l.solver.vars ≡ l.clauses.vars) × (l.solver.added ≡ take l.i l.clauses.clauses) × (l.solver.learnt ≡ l.initial.solver.learnt)

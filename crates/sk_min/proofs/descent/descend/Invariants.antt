@@ -1,5 +1,6 @@
-use Rattle.sk_min.specs.Search.{IsState}
+use Rattle.sk_loop_laws.specs.Shown.{HasRoom}
+use Rattle.sk_min.specs.Search.{IsBehind, IsState}
 use Rattle.sk_min.proofs.descent.descend.Given as goal
 
 abbrev pub invariant-loop-turn : goal.invariant-loop-turn
-invariant-loop-turn l = IsState l.expanded l.bounds l.state
+invariant-loop-turn l = IsState l.expanded l.bounds l.state × HasRoom l.budget l.state.pairs × IsBehind l.first.pairs l.state.pairs

@@ -14,7 +14,7 @@ returns-in_ok-r-in-Bad c =
 pub returns-in_ok-r-in-BadAt : goal.returns-in_ok-r-in-BadAt
 returns-in_ok-r-in-BadAt c =
     let range = subst (λ (q : Query). IsAsked c.args.expanded.now q) c.in-BadAt.is c.requires.asked in
-    let is = bad_at_root c.requires.askable range c.in-BadAt.obligation c.in_ok-r-in-BadAt.r c.in_ok-r-in-BadAt.ensures.bad in
+    let is = bad_at_root c.requires.askable range.0 c.in-BadAt.obligation c.in_ok-r-in-BadAt.r c.in_ok-r-in-BadAt.ensures.bad in
     record { root = subst (λ (q : Query). IsRoot c.bad_at.new.dag c.args.expanded.now c.args.bounds.now q c.in_ok-r-in-BadAt.r) (sym c.in-BadAt.is) is }
 
 pub returns-in_ok-r-in-Wanted : goal.returns-in_ok-r-in-Wanted

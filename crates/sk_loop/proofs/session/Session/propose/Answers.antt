@@ -20,12 +20,12 @@ returns-in_ok-choice-in-Met-clause-stands c =
 
 pub returns-in-Never-clause-proposed : goal.returns-in-Never-clause-proposed
 returns-in-Never-clause-proposed c =
-    never_passes c.args.self.now c.args.expanded.now c.args.bounds.now c.args.pairs.now c.args.limit c.requires.askable c.requires.honest c.requires.stands
-    (subst (IsAnswered c.args.self.now.asking.growing.encoded c.args.budget.now.conflicts) c.in-Never.is c.in_ok-values.ensures.answered)
+    (never_passes c.args.self.now c.args.expanded.now c.args.bounds.now c.args.pairs.now c.args.limit c.requires.askable c.requires.honest c.requires.stands
+    (subst (IsAnswered c.args.self.now.asking.growing.encoded c.args.budget.now.conflicts) c.in-Never.is c.in_ok-values.ensures.answered), c.requires.room)
 
 pub returns-in_ok-inputs-in-Spent-clause-proposed : goal.returns-in_ok-inputs-in-Spent-clause-proposed
 returns-in_ok-inputs-in-Spent-clause-proposed c =
-    spent_wanted c.args.self.now c.args.expanded.now c.args.bounds.now c.args.pairs.now c.in_ok-inputs-in-Spent.inputs c.args.limit c.args.budget.now.conflicts c.in-Spent.formula c.in-Spent.log c.requires.honest c.requires.stands
+    spent_wanted c.args.self.now c.args.expanded.now c.args.bounds.now c.args.pairs.now c.in_ok-inputs-in-Spent.inputs c.args.limit c.args.budget.now c.in-Spent.formula c.in-Spent.log c.requires.honest c.requires.room c.requires.stands
     (subst (IsAnswered c.args.self.now.asking.growing.encoded c.args.budget.now.conflicts) c.in-Spent.is c.in_ok-values.ensures.answered)
     (c.in_ok-inputs-in-Spent.ensures ∙ ap inputs_of c.as_slice-in-Spent.ensures)
 

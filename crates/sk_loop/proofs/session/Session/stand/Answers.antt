@@ -9,4 +9,4 @@ pub returns-clause-stands : goal.returns-clause-stands
 returns-clause-stands c =
     stands_again c.args.self.now _ c.args.expanded.now c.args.bounds.now c.args.pairs.now c.args.limit c.requires.ready
     (subst (λ (ps : List Pair). Asks c.ask_from.new.asking c.args.expanded.now c.args.bounds.now (inputs_of ps) c.args.limit (length ps)) c.as_slice.ensures c.in_ok-ask_from.ensures.asks)
-    c.in_ok-ask_from.ensures.behind c.len-self.ensures refl refl refl
+    c.in_ok-ask_from.ensures.formula.behind c.len-self.ensures refl refl refl
