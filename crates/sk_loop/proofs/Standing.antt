@@ -110,5 +110,4 @@ of_call old mid new budget a same is = subst (λ (learnt : List (List Lit)). IsO
 
 pub ruleset solves_made = (all_loaded, of_call)
 
-
 pub ruleset readying = (stands_ready, ready_within, stands_again)

@@ -31,8 +31,7 @@ returns-in-Choice c =
     let some : 0 < c.args.value = omega (arith, c.if-value-eq0.false) in
     let same = still c.args.expanded.now c.args.bounds.now c.args.pairs c.synthesise.new.pairs c.args.best c.args.value (Some (c.args.value - 1)) c.requires.askable c.requires.top c.in_ok-choice.ensures.grown c.in_ok-choice.ensures.honest in
     let cheapest = cheapest_grown c.args.expanded.now c.args.bounds.now c.args.pairs c.synthesise.new.pairs c.args.best c.args.value c.requires.askable c.requires.top.meeting c.requires.top.greatest c.requires.top.cheapest c.in_ok-choice.ensures.grown in
-    let least = costs_least c.args.expanded.now c.args.bounds.now c.synthesise.new.pairs c.args.best c.in_ok-choice.ensures.honest cheapest in
-    (
+    let least = costs_least c.args.expanded.now c.args.bounds.now c.synthesise.new.pairs c.args.best c.in_ok-choice.ensures.honest cheapest in (
       state_lower c.args.expanded.now c.args.bounds.now c.synthesise.new.self c.synthesise.new.pairs c.in-Choice.choice (c.args.value - 1) c.in_ok-choice.ensures.honest c.in_ok-choice.ensures.stands found.0
           (cheapest_lower c.args.expanded.now c.args.bounds.now c.synthesise.new.pairs c.args.best c.in-Choice.choice c.args.value c.requires.askable some same least found.0),
       lowers c.args.expanded.now c.args.bounds.now c.args.best c.in-Choice.choice c.args.value some c.requires.top.greatest found.0,
@@ -43,8 +42,7 @@ returns-in-Choice c =
 pub returns-in-Nothing : goal.returns-in-Nothing
 returns-in-Nothing c =
     let found = subst (λ (x : Found). IsFound c.args.expanded.now c.args.bounds.now (Some (c.args.value - 1)) c.args.budget.now c.synthesise.new.pairs x) c.in-Nothing.is c.in_ok-choice.ensures.found in
-    let some : 0 < c.args.value = omega (arith, c.if-value-eq0.false) in
-    (
+    let some : 0 < c.args.value = omega (arith, c.if-value-eq0.false) in (
       (
         c.in_ok-choice.ensures.honest,
         best_of c.args.expanded.now c.args.bounds.now c.args.best c.args.value (inputs_of c.synthesise.new.pairs) c.requires.top.meeting c.requires.top.greatest some found.0,
@@ -61,8 +59,7 @@ returns-in-Rounds c =
     let some : 0 < c.args.value = omega (arith, c.if-value-eq0.false) in
     let same = still c.args.expanded.now c.args.bounds.now c.args.pairs c.synthesise.new.pairs c.args.best c.args.value (Some (c.args.value - 1)) c.requires.askable c.requires.top c.in_ok-choice.ensures.grown c.in_ok-choice.ensures.honest in
     let cheapest = cheapest_grown c.args.expanded.now c.args.bounds.now c.args.pairs c.synthesise.new.pairs c.args.best c.args.value c.requires.askable c.requires.top.meeting c.requires.top.greatest c.requires.top.cheapest c.in_ok-choice.ensures.grown in
-    let least = costs_least c.args.expanded.now c.args.bounds.now c.synthesise.new.pairs c.args.best c.in_ok-choice.ensures.honest cheapest in
-    (
+    let least = costs_least c.args.expanded.now c.args.bounds.now c.synthesise.new.pairs c.args.best c.in_ok-choice.ensures.honest cheapest in (
       (
         c.in_ok-choice.ensures.honest,
         found,
@@ -77,8 +74,7 @@ returns-in-Conflicts c =
     let some : 0 < c.args.value = omega (arith, c.if-value-eq0.false) in
     let same = still c.args.expanded.now c.args.bounds.now c.args.pairs c.synthesise.new.pairs c.args.best c.args.value (Some (c.args.value - 1)) c.requires.askable c.requires.top c.in_ok-choice.ensures.grown c.in_ok-choice.ensures.honest in
     let cheapest = cheapest_grown c.args.expanded.now c.args.bounds.now c.args.pairs c.synthesise.new.pairs c.args.best c.args.value c.requires.askable c.requires.top.meeting c.requires.top.greatest c.requires.top.cheapest c.in_ok-choice.ensures.grown in
-    let least = costs_least c.args.expanded.now c.args.bounds.now c.synthesise.new.pairs c.args.best c.in_ok-choice.ensures.honest cheapest in
-    (
+    let least = costs_least c.args.expanded.now c.args.bounds.now c.synthesise.new.pairs c.args.best c.in_ok-choice.ensures.honest cheapest in (
       (
         found.0,
         (c.requires.top.meeting, limited_below c.args.expanded.now c.args.bounds.now c.synthesise.new.pairs c.args.best c.args.value c.in-Conflicts.query some same found.1 found.0.query, least),

@@ -19,9 +19,11 @@ returns-in_ok-choice-in-Met-clause-stands c =
     stands_solved c.args.self.now c.solve.new.self c.args.expanded.now c.args.bounds.now (inputs_of c.args.pairs.now) c.args.limit c.requires.stands c.in_ok-values.ensures.solves
 
 pub returns-in-Never-clause-proposed : goal.returns-in-Never-clause-proposed
-returns-in-Never-clause-proposed c =
-    (never_passes c.args.self.now c.args.expanded.now c.args.bounds.now c.args.pairs.now c.args.limit c.requires.askable c.requires.honest c.requires.stands
-    (subst (IsAnswered c.args.self.now.asking.growing.encoded c.args.budget.now.conflicts) c.in-Never.is c.in_ok-values.ensures.answered), c.requires.room)
+returns-in-Never-clause-proposed c = (
+  never_passes c.args.self.now c.args.expanded.now c.args.bounds.now c.args.pairs.now c.args.limit c.requires.askable c.requires.honest c.requires.stands
+      (subst (IsAnswered c.args.self.now.asking.growing.encoded c.args.budget.now.conflicts) c.in-Never.is c.in_ok-values.ensures.answered),
+  c.requires.room,
+)
 
 pub returns-in_ok-inputs-in-Spent-clause-proposed : goal.returns-in_ok-inputs-in-Spent-clause-proposed
 returns-in_ok-inputs-in-Spent-clause-proposed c =
