@@ -24,7 +24,6 @@ use Rattle.sk_model.specs.Exec.{Flow, Onward, assign, onward}
 use Rattle.sk_model.proofs.Layers.{layer_pattern}
 use Rattle.sk_sym_state.specs.declared.branch.Side.{Side}
 use Rattle.sk_sym_state.specs.declared.state.SymState.{SymState}
-use Rattle.sk_sym_state.specs.Seen.{IsWorth}
 use Rattle.sk_sym_state.specs.Stands.{StateStands}
 use Rattle.sk_sym_state.specs.Shows.{Sees}
 use Rattle.sk_sym_state.specs.Branching.{IsBit, IsForked, AreTurned, AreJoined}
