@@ -1,5 +1,5 @@
 //! Runs texts through stages of the synthesiser that no command shows, and compares what each stage writes with what
-//! rows of files want: `stages FILE ..`. It says how many rows each file has, and of each row that fails the text or the
+//! rows of files want: `rows_stages FILE ..`. It says how many rows each file has, and of each row that fails the text or the
 //! title, what was wanted and what came. It ends with status 1 where a row fails.
 #![tactic(auto)]
 
