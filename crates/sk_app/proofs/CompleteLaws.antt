@@ -35,7 +35,7 @@ use Rattle.sk_cnf.specs.declared.growing.Encoded.{Encoded}
 use Rattle.sk_oblig_queries.specs.declared.query.Query.{Query}
 use Rattle.sk_loop_laws.specs.Honest.{Honest}
 use Rattle.sk_loop_laws.specs.Shown.{AreSpent, Learnt}
-use Rattle.sk_min.specs.Least.{IsBest, Meeting, IsKnown, IsKnownOf}
+use Rattle.sk_min.specs.Least.{IsBest, Meeting, IsKnown, IsKnownOf, IsFreeSpent}
 use Rattle.sk_min.specs.Least as least
 use Rattle.sk_opts.specs.declared.line.Set.{Set}
 use Rattle.sk_front.specs.declared.expansion.Expansion.{Expansion}
@@ -190,13 +190,14 @@ module _ (set : Set) where
       is = is;
     }
 
-    pub conflicts_found : (budget : Budget) (pairs : List Pair) (q : Query) (f : Encoded) (log : List (List Lit)) (best : Option Choice) (out : List ℕ) → Learnt e bounds budget.conflicts pairs q f log → IsKnownOf e bounds pairs q best → out ≡ spent_result e best (OfConflicts budget.conflicts) → IsSpentConflicts set budget text pairs q f log best out
-    conflicts_found budget pairs q f log best out learnt known is = record {
+    pub conflicts_found : (budget : Budget) (pairs : List Pair) (q : Query) (f : Encoded) (log : List (List Lit)) (best : Option Choice) (out : List ℕ) → Learnt e bounds budget.conflicts pairs q f log → IsKnownOf e bounds pairs q best → IsFreeSpent e best → out ≡ spent_result e best (OfConflicts budget.conflicts) → IsSpentConflicts set budget text pairs q f log best out
+    conflicts_found budget pairs q f log best out learnt known free is = record {
       bounds = bounds;
       e = e;
       only = ready.only;
       learnt = learnt;
       known = known;
+      free = free;
       meets = known_of_meets pairs q best known;
       is = is;
     }

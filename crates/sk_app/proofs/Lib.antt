@@ -7,5 +7,6 @@ mod SourceLaws
 mod ExecLaws
 mod LowerLaws
 mod EffectLaws
+mod HeadlineLaws
 pub mod SpentLaws
 pub mod CompleteLaws

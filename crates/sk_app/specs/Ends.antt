@@ -78,71 +78,63 @@ IsToldOf set text WriteFault source_old source_new sink_old sink_new = Rose sink
 IsToldOf set text Memory source_old source_new sink_old sink_new = Unit {0}
 IsToldOf set text _ source_old source_new sink_old sink_new = ⊥
 
--- A text that is taken is completed, or has no completion, or a budget that is not 0 is spent; else a source or a sink
--- failed, or memory was wanting.
+-- The call ends so; or the source failed as this says, or the sink as that, or memory was wanting.
+abbrev pub Ends : (Ending → Type 0) → (source sink : Type 0) → Ending → Type 0
+Ends So source sink Memory = Unit {0}
+Ends So source sink ReadFault = source
+Ends So source sink WriteFault = sink
+Ends So source sink ending = So ending
+
+-- For a text that is taken: it is completed, or has no completion, or a budget that is not 0 is spent.
+abbrev pub IsOfBuilt : Budget → Ending → Type 0
+IsOfBuilt budget Completed = Unit {0}
+IsOfBuilt budget NoCompletion = Unit {0}
+IsOfBuilt budget (SpentRounds pairs best) = 0 < budget.rounds
+IsOfBuilt budget (SpentConflicts pairs q f log best) = 0 < budget.conflicts
+IsOfBuilt budget _ = ⊥
+
 abbrev pub EndsBuilt : Budget → Ending → ℕ → ℕ → ℕ → ℕ → Type 0
-EndsBuilt budget Completed source_old source_new sink_old sink_new = Unit {0}
-EndsBuilt budget NoCompletion source_old source_new sink_old sink_new = Unit {0}
-EndsBuilt budget (SpentRounds pairs best) source_old source_new sink_old sink_new = 0 < budget.rounds
-EndsBuilt budget (SpentConflicts pairs q f log best) source_old source_new sink_old sink_new = 0 < budget.conflicts
-EndsBuilt budget Memory source_old source_new sink_old sink_new = Unit {0}
-EndsBuilt budget ReadFault source_old source_new sink_old sink_new = Rose source_old source_new
-EndsBuilt budget WriteFault source_old source_new sink_old sink_new = Rose sink_old sink_new
-EndsBuilt budget _ source_old source_new sink_old sink_new = ⊥
+EndsBuilt budget result source_old source_new sink_old sink_new = Ends (IsOfBuilt budget) (Rose source_old source_new) (Rose sink_old sink_new) result
 
--- A text with this fault is refused for it, unless the source failed or memory was wanting.
+-- For a text with this fault: it is refused for it.
+abbrev pub IsOfFault : TextFault → Ending → Type 0
+IsOfFault fault (NotText told) = IsSameFault fault told
+IsOfFault fault _ = ⊥
+
 abbrev pub EndsFaulty : TextFault → Ending → ℕ → ℕ → Type 0
-EndsFaulty fault (NotText told) source_old source_new = IsSameFault fault told
-EndsFaulty fault Memory source_old source_new = Unit {0}
-EndsFaulty fault ReadFault source_old source_new = Rose source_old source_new
-EndsFaulty fault _ source_old source_new = ⊥
+EndsFaulty fault result source_old source_new = Ends (IsOfFault fault) (Rose source_old source_new) ⊥ result
 
--- A text whose tree means no program is refused as such, unless the source failed or memory was wanting.
+-- For a text whose tree means no program: it is refused as such.
+abbrev pub IsOfUntyped : Ending → Type 0
+IsOfUntyped (NotTyped fault) = Unit {0}
+IsOfUntyped _ = ⊥
+
 abbrev pub EndsUntyped : Ending → ℕ → ℕ → Type 0
-EndsUntyped (NotTyped fault) source_old source_new = Unit {0}
-EndsUntyped Memory source_old source_new = Unit {0}
-EndsUntyped ReadFault source_old source_new = Rose source_old source_new
-EndsUntyped _ source_old source_new = ⊥
+EndsUntyped result source_old source_new = Ends IsOfUntyped (Rose source_old source_new) ⊥ result
 
--- A text whose program is too large for this reason is refused for it, unless the source failed or memory was wanting.
+-- A text whose program is too large for this reason is refused for it.
 abbrev pub EndsLarge : SizeFault → Ending → ℕ → ℕ → Type 0
-EndsLarge reason (TooLarge told) source_old source_new = reason ≡ told
-EndsLarge reason Memory source_old source_new = Unit {0}
-EndsLarge reason ReadFault source_old source_new = Rose source_old source_new
-EndsLarge reason _ source_old source_new = ⊥
+EndsLarge reason result source_old source_new = Ends (λ e. e ≡ TooLarge reason) (Rose source_old source_new) ⊥ result
 
--- A text that is too long is refused as such, unless the source failed or memory was wanting.
+-- A text that is too long is refused as such.
 abbrev pub EndsLong : Ending → ℕ → ℕ → Type 0
-EndsLong TooLong source_old source_new = Unit {0}
-EndsLong Memory source_old source_new = Unit {0}
-EndsLong ReadFault source_old source_new = Rose source_old source_new
-EndsLong _ source_old source_new = ⊥
+EndsLong result source_old source_new = Ends (λ e. e ≡ TooLong) (Rose source_old source_new) ⊥ result
 
--- Words that spell no line are refused, unless memory was wanting.
+-- Words that spell no line are refused.
 abbrev pub EndsNoLine : Ending → Type 0
-EndsNoLine NotALine = Unit {0}
-EndsNoLine Memory = Unit {0}
-EndsNoLine _ = ⊥
+EndsNoLine result = Ends (λ e. e ≡ NotALine) ⊥ ⊥ result
 
 -- So is a line for which the program does nothing.
 abbrev pub EndsUnbuiltLine : Ending → Type 0
-EndsUnbuiltLine NotBuilt = Unit {0}
-EndsUnbuiltLine Memory = Unit {0}
-EndsUnbuiltLine _ = ⊥
+EndsUnbuiltLine result = Ends (λ e. e ≡ NotBuilt) ⊥ ⊥ result
 
--- A line `--help` writes the help, unless the sink failed or memory was wanting.
+-- A line `--help` writes the help.
 abbrev pub EndsHelp : Ending → ℕ → ℕ → Type 0
-EndsHelp HelpShown sink_old sink_new = Unit {0}
-EndsHelp Memory sink_old sink_new = Unit {0}
-EndsHelp WriteFault sink_old sink_new = Rose sink_old sink_new
-EndsHelp _ sink_old sink_new = ⊥
+EndsHelp result sink_old sink_new = Ends (λ e. e ≡ HelpShown) ⊥ (Rose sink_old sink_new) result
 
 -- The same of a line `--version`.
 abbrev pub EndsVersion : Ending → ℕ → ℕ → Type 0
-EndsVersion VersionShown sink_old sink_new = Unit {0}
-EndsVersion Memory sink_old sink_new = Unit {0}
-EndsVersion WriteFault sink_old sink_new = Rose sink_old sink_new
-EndsVersion _ sink_old sink_new = ⊥
+EndsVersion result sink_old sink_new = Ends (λ e. e ≡ VersionShown) ⊥ (Rose sink_old sink_new) result
 
 -- the ending of a line that runs a function, whose run ends so
 abbrev pub ending_of : Outcome → Ending
@@ -155,50 +147,31 @@ abbrev pub stopped : TraceFault → Ending
 stopped (fault.NotRun reason) = NotRun reason
 stopped (fault.NotFilled reason) = NotFilled reason
 
--- A run ends as its outcome says, unless the source or the sink failed or memory was wanting.
+-- A run ends as its outcome says.
 abbrev pub EndsRun : Outcome → Ending → ℕ → ℕ → ℕ → ℕ → Type 0
-EndsRun outcome Memory source_old source_new sink_old sink_new = Unit {0}
-EndsRun outcome ReadFault source_old source_new sink_old sink_new = Rose source_old source_new
-EndsRun outcome WriteFault source_old source_new sink_old sink_new = Rose sink_old sink_new
-EndsRun outcome result source_old source_new sink_old sink_new = result ≡ ending_of outcome
+EndsRun outcome result source_old source_new sink_old sink_new = Ends (λ e. e ≡ ending_of outcome) (Rose source_old source_new) (Rose sink_old sink_new) result
 
--- Where no function is run for this reason, it is told, unless the source failed or memory was wanting.
+-- Where no function is run for this reason, it is told.
 abbrev pub EndsStopped : TraceFault → Ending → ℕ → ℕ → Type 0
-EndsStopped reason (NotRun told) source_old source_new = fault.NotRun told ≡ reason
-EndsStopped reason (NotFilled told) source_old source_new = fault.NotFilled told ≡ reason
-EndsStopped reason Memory source_old source_new = Unit {0}
-EndsStopped reason ReadFault source_old source_new = Rose source_old source_new
-EndsStopped reason _ source_old source_new = ⊥
+EndsStopped reason result source_old source_new = Ends (λ e. e ≡ stopped reason) (Rose source_old source_new) ⊥ result
 
--- Where the plain form of a text means a program that is tagged, its text is written, unless the source or the sink failed
--- or memory was wanting.
+-- Where the plain form of a text means a program that is tagged, its text is written.
 abbrev pub EndsLowered : Ending → ℕ → ℕ → ℕ → ℕ → Type 0
-EndsLowered Lowered source_old source_new sink_old sink_new = Unit {0}
-EndsLowered Memory source_old source_new sink_old sink_new = Unit {0}
-EndsLowered ReadFault source_old source_new sink_old sink_new = Rose source_old source_new
-EndsLowered WriteFault source_old source_new sink_old sink_new = Rose sink_old sink_new
-EndsLowered _ source_old source_new sink_old sink_new = ⊥
+EndsLowered result source_old source_new sink_old sink_new = Ends (λ e. e ≡ Lowered) (Rose source_old source_new) (Rose sink_old sink_new) result
 
--- Where a text has none for this reason, that is told, unless the source failed or memory was wanting.
+-- Where a text has none for this reason, that is told.
 abbrev pub EndsNotLowered : AdtFault → Ending → ℕ → ℕ → Type 0
-EndsNotLowered reason (NotLowered told) source_old source_new = told ≡ reason
-EndsNotLowered reason Memory source_old source_new = Unit {0}
-EndsNotLowered reason ReadFault source_old source_new = Rose source_old source_new
-EndsNotLowered reason _ source_old source_new = ⊥
+EndsNotLowered reason result source_old source_new = Ends (λ e. e ≡ NotLowered reason) (Rose source_old source_new) ⊥ result
 
--- Where the program of its plain form breaks a rule of tags first at this span, that is told, unless the source failed or
--- memory was wanting.
+-- Where the program of its plain form breaks a rule of tags first at this span, that is told.
 abbrev pub EndsNotTagged : Span → Ending → ℕ → ℕ → Type 0
-EndsNotTagged span (NotTagged told) source_old source_new = told ≡ span
-EndsNotTagged span Memory source_old source_new = Unit {0}
-EndsNotTagged span ReadFault source_old source_new = Rose source_old source_new
-EndsNotTagged span _ source_old source_new = ⊥
+EndsNotTagged span result source_old source_new = Ends (λ e. e ≡ NotTagged span) (Rose source_old source_new) ⊥ result
 
--- A text that has no tokens, or whose plain form means no program, is refused for this cause, unless the source failed or
--- memory was wanting.
+-- For a text that has no tokens, or whose plain form means no program: it is refused for this cause.
+abbrev pub IsOfRefused : SketchFault → Ending → Type 0
+IsOfRefused told (NotText fault) = IsToldAs told (sketch.NotText fault)
+IsOfRefused told (NotTyped fault) = IsToldAs told (sketch.NotTyped fault)
+IsOfRefused told _ = ⊥
+
 abbrev pub EndsRefused : SketchFault → Ending → ℕ → ℕ → Type 0
-EndsRefused told (NotText fault) source_old source_new = IsToldAs told (sketch.NotText fault)
-EndsRefused told (NotTyped fault) source_old source_new = IsToldAs told (sketch.NotTyped fault)
-EndsRefused told Memory source_old source_new = Unit {0}
-EndsRefused told ReadFault source_old source_new = Rose source_old source_new
-EndsRefused told _ source_old source_new = ⊥
+EndsRefused told result source_old source_new = Ends (IsOfRefused told) (Rose source_old source_new) ⊥ result
