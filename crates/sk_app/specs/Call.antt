@@ -1,7 +1,6 @@
 -- A call of `run`: its words, how it ends, and what it does to its source and its sink.
-use Rattle.std.specs.Prelude.{ℕ, ◌≡◌, List, Option, IfSome, map, string_bytes}
+use Rattle.std.specs.Prelude.{ℕ, ◌≡◌, List, Option, IfSome, map, String, string_bytes}
 use Rattle.std.specs.Borrow.{MutBor}
-use Rattle.std.specs.declared.string.String.{String}
 use denote.Triple.Both.{Both}
 use Rattle.sk_base.specs.Stream.{Rose}
 use Rattle.sk_base.specs.declared.source.Source as source
