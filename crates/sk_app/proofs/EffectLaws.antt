@@ -48,7 +48,8 @@ use Rattle.sk_app.specs.Spent.{AreLearnt, IsSpentRounds, IsSpentConflicts}
 use Rattle.sk_app.specs.Results.{IsResult}
 use Rattle.sk_app.specs.Help.{help_text, version_text}
 use Rattle.sk_app.specs.Lines.{IsNoLine, IsSearch, ForSearch, IsSynth, ForSynth, line_by, line_of, IsJob, ForJob, ForTrace, ForLower, TakesText, ForText, ReadsText, is_unbuilt, IsUnbuiltLine}
-use Rattle.sk_app.specs.Ends.{delivered, cut, no_room, Writes, WritesPart, writes_nothing, IsToldOf, EndsBuilt, EndsFaulty, EndsUntyped, EndsLarge, EndsLong, EndsRun, EndsStopped, EndsLowered, EndsNotLowered, EndsNotTagged, EndsRefused, EndsNoLine, EndsUnbuiltLine, EndsHelp, EndsVersion}
+use Rattle.sk_app.specs.Ends.{delivered, cut, no_room, Writes, WritesPart, writes_nothing, IsToldOf}
+use Rattle.sk_app.proofs.Endings.{EndsBuilt, EndsFaulty, EndsUntyped, EndsLarge, EndsLong, EndsRun, EndsStopped, EndsLowered, EndsNotLowered, EndsNotTagged, EndsRefused, EndsNoLine, EndsUnbuiltLine, EndsHelp, EndsVersion}
 use Rattle.sk_app.specs.Call.{Effect}
 use Rattle.sk_app.specs.Effects.{IsRefused, IsShown, is_of_synth, Synthesises, is_of_expansion, IsRunResult, IsRunOutput, Executes, Lowers, Serves, Answers, no_line, served, no_memory, IsOutput}
 use Rattle.sk_app.specs.Effects as output

@@ -22,7 +22,8 @@ use Rattle.sk_app.specs.Jobs.{IsStopped, IsRunOfJob}
 use Rattle.sk_app.proofs.JobLaws.{one_stop, no_stop_of_run, one_run, no_cause_of_job, no_cause_of_stop, run_is_short, stop_is_short}
 use Rattle.sk_app.specs.declared.ending.Ending.{Ending}
 use Rattle.sk_app.specs.declared.ending.Ending.TheVariants as ending
-use Rattle.sk_app.specs.Ends.{delivered, cut, no_room, Writes, WritesPart, writes_nothing, ending_of, stopped, EndsRun, EndsStopped, EndsFaulty, EndsUntyped, EndsLarge, EndsLong}
+use Rattle.sk_app.specs.Ends.{delivered, cut, no_room, Writes, WritesPart, writes_nothing, ending_of, stopped}
+use Rattle.sk_app.proofs.Endings.{EndsRun, EndsStopped, EndsFaulty, EndsUntyped, EndsLarge, EndsLong}
 use Rattle.sk_app.specs.Call.{Effect}
 use Rattle.sk_app.specs.Effects.{refusal, is_of_expansion, RunsText, refused, not_run, ran, RunsSource, failed, long, wanting, whole, IsRunResult, IsRunOutput}
 use Rattle.sk_app.proofs.SourceLaws.{differ, too_long, Came as CameTo, came_failed, came_long, came_wanting, came_whole, told_of}

@@ -1,6 +1,7 @@
 mod StreamLemmas
 mod EndingLemmas
 mod EndedLaws
+mod Endings
 mod ToldLaws
 mod JobLaws
 mod SourceLaws

@@ -14,7 +14,8 @@ use Rattle.sk_adt_text.specs.PlainTexts.{HasNoPlainForm, IsNotTagged, IsLoweredT
 use Rattle.sk_adt_text.proofs.PlainLaws.{one_reason, form_or_reason, reason_or_cause, span_or_cause, text_or_cause, one_span_of, text_or_span_of, only_lowering}
 use Rattle.sk_app.specs.declared.ending.Ending.{Ending}
 use Rattle.sk_app.specs.declared.ending.Ending.TheVariants as ending
-use Rattle.sk_app.specs.Ends.{IsDelivered, delivered, cut, no_room, Writes, WritesPart, writes_nothing, EndsLowered, EndsNotLowered, EndsNotTagged, EndsRefused, EndsLong}
+use Rattle.sk_app.specs.Ends.{IsDelivered, delivered, cut, no_room, Writes, WritesPart, writes_nothing}
+use Rattle.sk_app.proofs.Endings.{EndsLowered, EndsNotLowered, EndsNotTagged, EndsRefused, EndsLong}
 use Rattle.sk_app.specs.Call.{Effect}
 use Rattle.sk_app.specs.Effects.{refusal, LowersText, no_program, not_lowered, not_tagged, lowered, LowersSource, failed, long, wanting, whole}
 use Rattle.sk_app.proofs.SourceLaws.{differ, too_long, Came as CameTo, came_failed, came_long, came_wanting, came_whole, told_of}

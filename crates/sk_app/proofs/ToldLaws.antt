@@ -16,7 +16,8 @@ use Rattle.sk_front.proofs.FrontLaws.{one_cause, sizes_or_cause}
 use Rattle.sk_app.specs.declared.ending.Ending.{Ending}
 use Rattle.sk_app.specs.declared.ending.Ending.TheVariants as ending
 use Rattle.sk_app.specs.Built.{IsBuilt, IsTaken}
-use Rattle.sk_app.specs.Ends.{IsToldOf, EndsBuilt, EndsFaulty, EndsUntyped, EndsLarge, EndsLong}
+use Rattle.sk_app.specs.Ends.{IsToldOf}
+use Rattle.sk_app.proofs.Endings.{EndsBuilt, EndsFaulty, EndsUntyped, EndsLarge, EndsLong}
 
 -- a fault of types: of a text that has one, no definition says which is told
 pub some_fault : TypeFault

@@ -1,4 +1,5 @@
--- The clauses of `run`, in pairs: an ending comes only where it has its cause, and where there is that cause, it comes.
+-- The clauses of `run`, in pairs: an ending comes only where it has its cause; and where there is the cause, it comes, or the
+-- source or the sink failed as `Ends` says, or memory was wanting.
 use Rattle.std.specs.Prelude.{ℕ, ◌≡◌, ◌≤◌, ◌<◌, ◌⊎◌, List, length, Option, IsTrue}
 use Rattle.sk_base.specs.declared.bounds.Bounds.{Bounds}
 use Rattle.sk_base.specs.declared.bounds.Budget.{Budget}
@@ -29,7 +30,6 @@ use Rattle.sk_trace_text.specs.declared.fault.TraceFault.{TraceFault}
 use Rattle.sk_trace_text.specs.declared.fault.TraceFault.TheVariants as reason
 use Rattle.sk_trace_text.specs.Traced.{IsNotTraced}
 use Rattle.sk_app.specs.declared.direct.Job.{Job}
-use Rattle.sk_app.specs.declared.ending.Ending.{Ending}
 use Rattle.sk_app.specs.declared.ending.Ending.TheVariants.{Completed, NoCompletion, SpentRounds, SpentConflicts, HelpShown, VersionShown, ExecDone, ExecFailed, ExecSkipped, Lowered, NotALine, NotText, NotTyped, TooLarge, NotRun, NotFilled, NotLowered, NotTagged, ReadFault, WriteFault, TooLong, NotBuilt}
 use Rattle.sk_app.specs.Built.{IsBuilt}
 use Rattle.sk_app.specs.ResultText.{IsCompletion, IsNone}
@@ -38,7 +38,7 @@ use Rattle.sk_app.specs.Streams.{Appends, AppendsPrefix, TakesFew}
 use Rattle.sk_app.specs.Help.{help_text, version_text}
 use Rattle.sk_app.specs.Lines.{IsNoLine, IsSearch, ForSearch, IsSynth, ForSynth, IsJob, ForJob, ForTrace, ForLower, TakesText, ForText, ReadsText, IsUnbuiltLine}
 use Rattle.sk_app.specs.Jobs.{IsStopped, IsRunOfJob}
-use Rattle.sk_app.specs.Ends.{WritesPart, writes_nothing, EndsBuilt, EndsFaulty, EndsUntyped, EndsLarge, EndsLong, EndsRun, EndsStopped, EndsLowered, EndsNotLowered, EndsNotTagged, EndsRefused, EndsNoLine, EndsUnbuiltLine, EndsHelp, EndsVersion}
+use Rattle.sk_app.specs.Ends.{WritesPart, writes_nothing, Ends, IsOfBuilt, IsOfFault, IsOfUntyped, IsOfRefused, ending_of, stopped}
 use Rattle.sk_app.specs.Effects.{is_of_expansion, IsRunResult, IsOutput}
 use Rattle.sk_app.specs.Call.{Call, OfText, Gets, SourceFailed, SinkFailed}
 
@@ -50,7 +50,7 @@ TellsNoLine c = c.ending ≡ NotALine → IsNoLine c.words
 
 -- Words that are no line end so.
 abbrev pub NoLineEnds : Call → Type 0
-NoLineEnds c = IsNoLine c.words → EndsNoLine c.ending
+NoLineEnds c = IsNoLine c.words → Ends (λ e. e ≡ NotALine) ⊥ ⊥ c.ending
 
 -- The line is one for which the program does nothing: `check`, `self`, or one that asks for a certificate.
 abbrev pub TellsUnbuilt : Call → Type 0
@@ -58,7 +58,7 @@ TellsUnbuilt c = c.ending ≡ NotBuilt → IsUnbuiltLine c.words
 
 -- Such a line ends so.
 abbrev pub UnbuiltEnds : Call → Type 0
-UnbuiltEnds c = IsUnbuiltLine c.words → EndsUnbuiltLine c.ending
+UnbuiltEnds c = IsUnbuiltLine c.words → Ends (λ e. e ≡ NotBuilt) ⊥ ⊥ c.ending
 
 -- The line is `--help`, and the sink got the help.
 abbrev pub TellsHelp : Call → Type 0
@@ -66,7 +66,7 @@ TellsHelp c = c.ending ≡ HelpShown → IsLine c.words line.Help × Appends hel
 
 -- A line `--help` ends so.
 abbrev pub HelpEnds : Call → Type 0
-HelpEnds c = IsLine c.words line.Help → EndsHelp c.ending c.effect.write_faults_old c.effect.write_faults_new
+HelpEnds c = IsLine c.words line.Help → Ends (λ e. e ≡ HelpShown) ⊥ (SinkFailed c) c.ending
 
 -- The line is `--version`, and the sink got the version.
 abbrev pub TellsVersion : Call → Type 0
@@ -74,7 +74,7 @@ TellsVersion c = c.ending ≡ VersionShown → IsLine c.words line.Version × Ap
 
 -- A line `--version` ends so.
 abbrev pub VersionEnds : Call → Type 0
-VersionEnds c = IsLine c.words line.Version → EndsVersion c.ending c.effect.write_faults_old c.effect.write_faults_new
+VersionEnds c = IsLine c.words line.Version → Ends (λ e. e ≡ VersionShown) ⊥ (SinkFailed c) c.ending
 
 -- A line `synth`
 
@@ -97,7 +97,7 @@ TellsConflicts c = (pairs : List Pair) (q : Query) (formula : Encoded) (log : Li
 
 -- A text that is taken ends in one of these ways.
 abbrev pub BuiltEnds : Call → Type 0
-BuiltEnds c = (set : Set) (budget : Budget) → IsSearch c.words set budget → OfText c (λ text. (bounds : Bounds) (e : Expanded) → IsBuilt set text bounds e → EndsBuilt budget c.ending c.effect.read_faults_old c.effect.read_faults_new c.effect.write_faults_old c.effect.write_faults_new)
+BuiltEnds c = (set : Set) (budget : Budget) → IsSearch c.words set budget → OfText c (λ text. (bounds : Bounds) (e : Expanded) → IsBuilt set text bounds e → Ends (IsOfBuilt budget) (SourceFailed c) (SinkFailed c) c.ending)
 
 -- Texts that are refused
 
@@ -112,7 +112,7 @@ PlacesNotText c = (fault : TextFault) → c.ending ≡ NotText fault → OfText 
 
 -- A text with this fault ends so.
 abbrev pub FaultyEnds : Call → Type 0
-FaultyEnds c = (set : Set) → TakesText c.words set → OfText c (λ text. length text ≤ most_bytes → (fault : TextFault) → IsTextFault fault text → EndsFaulty fault c.ending c.effect.read_faults_old c.effect.read_faults_new)
+FaultyEnds c = (set : Set) → TakesText c.words set → OfText c (λ text. length text ≤ most_bytes → (fault : TextFault) → IsTextFault fault text → Ends (IsOfFault fault) (SourceFailed c) ⊥ c.ending)
 
 -- The tree of the text, or for a line `lower` that of its plain form, means no program with the options of the line.
 abbrev pub TellsNotTyped : Call → Type 0
@@ -124,7 +124,7 @@ PlacesNotTyped c = (fault : TypeFault) → c.ending ≡ NotTyped fault → ForTe
 
 -- A text whose tree means no program ends so.
 abbrev pub UntypedEnds : Call → Type 0
-UntypedEnds c = (set : Set) → TakesText c.words set → OfText c (λ text. length text ≤ most_bytes → IsUntyped set text → EndsUntyped c.ending c.effect.read_faults_old c.effect.read_faults_new)
+UntypedEnds c = (set : Set) → TakesText c.words set → OfText c (λ text. length text ≤ most_bytes → IsUntyped set text → Ends IsOfUntyped (SourceFailed c) ⊥ c.ending)
 
 -- The expansion of its program passes this limit, and none before it. For a line `lower` this does not come.
 abbrev pub TellsTooLarge : Call → Type 0
@@ -132,11 +132,11 @@ TellsTooLarge c = (reason : SizeFault) → c.ending ≡ TooLarge reason → ForT
 
 -- For a line `synth` a text whose expansion passes a limit ends so.
 abbrev pub LargeEnds : Call → Type 0
-LargeEnds c = (set : Set) → IsSynth c.words set → OfText c (λ text. (reason : SizeFault) → IsTooLarge set text reason → EndsLarge reason c.ending c.effect.read_faults_old c.effect.read_faults_new)
+LargeEnds c = (set : Set) → IsSynth c.words set → OfText c (λ text. (reason : SizeFault) → IsTooLarge set text reason → Ends (λ e. e ≡ TooLarge reason) (SourceFailed c) ⊥ c.ending)
 
 -- For a line `exec` or `trace` too, where it has too many nodes or sites.
 abbrev pub CopiesEnds : Call → Type 0
-CopiesEnds c = (set : Set) → TakesText c.words set → OfText c (λ text. (reason : SizeFault) → IsTrue (is_of_expansion reason) → IsTooLarge set text reason → EndsLarge reason c.ending c.effect.read_faults_old c.effect.read_faults_new)
+CopiesEnds c = (set : Set) → TakesText c.words set → OfText c (λ text. (reason : SizeFault) → IsTrue (is_of_expansion reason) → IsTooLarge set text reason → Ends (λ e. e ≡ TooLarge reason) (SourceFailed c) ⊥ c.ending)
 
 -- The source gives more bytes than a sketch may have.
 abbrev pub TellsTooLong : Call → Type 0
@@ -144,7 +144,7 @@ TellsTooLong c = c.ending ≡ TooLong → OfText c (λ text. most_bytes < length
 
 -- A text that is too long ends so.
 abbrev pub LongEnds : Call → Type 0
-LongEnds c = (set : Set) → ReadsText c.words set → OfText c (λ text. most_bytes < length text → EndsLong c.ending c.effect.read_faults_old c.effect.read_faults_new)
+LongEnds c = (set : Set) → ReadsText c.words set → OfText c (λ text. most_bytes < length text → Ends (λ e. e ≡ TooLong) (SourceFailed c) ⊥ c.ending)
 
 -- A line `exec` or `trace`
 
@@ -162,7 +162,7 @@ TellsSkipped c = (span : Span) → c.ending ≡ ExecSkipped span → ForJob c.wo
 
 -- A text whose function is run ends as the run does.
 abbrev pub RunEnds : Call → Type 0
-RunEnds c = (set : Set) (job : Job) → IsJob c.words set job → OfText c (λ text. (outcome : Outcome) (out : List ℕ) → IsRunOfJob set job text outcome out → EndsRun outcome c.ending c.effect.read_faults_old c.effect.read_faults_new c.effect.write_faults_old c.effect.write_faults_new)
+RunEnds c = (set : Set) (job : Job) → IsJob c.words set job → OfText c (λ text. (outcome : Outcome) (out : List ℕ) → IsRunOfJob set job text outcome out → Ends (λ e. e ≡ ending_of outcome) (SourceFailed c) (SinkFailed c) c.ending)
 
 -- No function is run, for this reason.
 abbrev pub TellsNotRun : Call → Type 0
@@ -174,7 +174,7 @@ TellsNotFilled c = (told : FillFault) → c.ending ≡ NotFilled told → ForTra
 
 -- A text of which no function is run for a reason ends with it.
 abbrev pub NotRunEnds : Call → Type 0
-NotRunEnds c = (set : Set) (job : Job) → IsJob c.words set job → OfText c (λ text. (told : TraceFault) → IsStopped set job text told → EndsStopped told c.ending c.effect.read_faults_old c.effect.read_faults_new)
+NotRunEnds c = (set : Set) (job : Job) → IsJob c.words set job → OfText c (λ text. (told : TraceFault) → IsStopped set job text told → Ends (λ e. e ≡ stopped told) (SourceFailed c) ⊥ c.ending)
 
 -- A line `lower`
 
@@ -184,7 +184,7 @@ TellsLowered c = c.ending ≡ Lowered → ForLower c.words (λ set. OfText c (λ
 
 -- A text with such a program ends so.
 abbrev pub LoweredEnds : Call → Type 0
-LoweredEnds c = (set : Set) → IsLine c.words (line.Lower set) → OfText c (λ text. (out : List ℕ) → IsLoweredText set text out → EndsLowered c.ending c.effect.read_faults_old c.effect.read_faults_new c.effect.write_faults_old c.effect.write_faults_new)
+LoweredEnds c = (set : Set) → IsLine c.words (line.Lower set) → OfText c (λ text. (out : List ℕ) → IsLoweredText set text out → Ends (λ e. e ≡ Lowered) (SourceFailed c) (SinkFailed c) c.ending)
 
 -- The text has no plain form, for this reason.
 abbrev pub TellsNotLowered : Call → Type 0
@@ -192,7 +192,7 @@ TellsNotLowered c = (told : AdtFault) → c.ending ≡ NotLowered told → ForLo
 
 -- A text that has none for a reason ends with it.
 abbrev pub NotLoweredEnds : Call → Type 0
-NotLoweredEnds c = (set : Set) → IsLine c.words (line.Lower set) → OfText c (λ text. (told : AdtFault) → HasNoPlainForm text told → EndsNotLowered told c.ending c.effect.read_faults_old c.effect.read_faults_new)
+NotLoweredEnds c = (set : Set) → IsLine c.words (line.Lower set) → OfText c (λ text. (told : AdtFault) → HasNoPlainForm text told → Ends (λ e. e ≡ NotLowered told) (SourceFailed c) ⊥ c.ending)
 
 -- The program of its plain form is not tagged: this is the first span that breaks a rule.
 abbrev pub TellsNotTagged : Call → Type 0
@@ -200,11 +200,11 @@ TellsNotTagged c = (span : Span) → c.ending ≡ NotTagged span → ForLower c.
 
 -- A text with such a span ends with it.
 abbrev pub NotTaggedEnds : Call → Type 0
-NotTaggedEnds c = (set : Set) → IsLine c.words (line.Lower set) → OfText c (λ text. (span : Span) → IsNotTagged set text span → EndsNotTagged span c.ending c.effect.read_faults_old c.effect.read_faults_new)
+NotTaggedEnds c = (set : Set) → IsLine c.words (line.Lower set) → OfText c (λ text. (span : Span) → IsNotTagged set text span → Ends (λ e. e ≡ NotTagged span) (SourceFailed c) ⊥ c.ending)
 
 -- A text that has no tokens, or whose plain form reads as no tree or means no program, ends with that fault.
 abbrev pub RefusedEnds : Call → Type 0
-RefusedEnds c = (set : Set) → IsLine c.words (line.Lower set) → OfText c (λ text. length text ≤ most_bytes → (told : SketchFault) → IsCause (IsFaultOfLowering set text) told → EndsRefused told c.ending c.effect.read_faults_old c.effect.read_faults_new)
+RefusedEnds c = (set : Set) → IsLine c.words (line.Lower set) → OfText c (λ text. length text ≤ most_bytes → (told : SketchFault) → IsCause (IsFaultOfLowering set text) told → Ends (IsOfRefused told) (SourceFailed c) ⊥ c.ending)
 
 -- The streams
 

@@ -1,23 +1,20 @@
 -- What the sink holds after an ending, and which endings there are for a text.
 use Rattle.std.specs.Prelude.{ℕ, ◌≡◌, ◌<◌, ◌≤◌, length, Bool, true, false, List, Option}
 use Rattle.sk_base.specs.Stream.{Rose}
-use Rattle.sk_base.specs.declared.span.Span.{Span}
 use Rattle.sk_base.specs.declared.bounds.Budget.{Budget}
 use Rattle.sk_model.specs.declared.outcome.Outcome.{Outcome}
 use Rattle.sk_model.specs.declared.outcome.Outcome.TheVariants as outcome
 use Rattle.sk_app.specs.declared.ending.Ending.{Ending}
-use Rattle.sk_app.specs.declared.ending.Ending.TheVariants.{Completed, NoCompletion, SpentRounds, SpentConflicts, HelpShown, VersionShown, ExecDone, ExecFailed, ExecSkipped, Lowered, NotALine, NotText, NotTyped, TooLarge, NotRun, NotFilled, NotLowered, NotTagged, ReadFault, WriteFault, TooLong, Memory, NotBuilt}
+use Rattle.sk_app.specs.declared.ending.Ending.TheVariants.{Completed, NoCompletion, SpentRounds, SpentConflicts, HelpShown, VersionShown, ExecDone, ExecFailed, ExecSkipped, Lowered, NotText, NotTyped, TooLarge, NotRun, NotFilled, ReadFault, WriteFault, TooLong, Memory}
 use Rattle.sk_front.specs.declared.fault.TextFault.{TextFault}
 use Rattle.sk_front.specs.Texts.{most_bytes, IsTextFault, IsSameFault}
 use Rattle.sk_front.specs.declared.fault.SketchFault.{SketchFault}
 use Rattle.sk_front.specs.declared.fault.SketchFault.TheVariants as sketch
 use Rattle.sk_front.specs.Front.{IsUntyped, IsTooLarge, IsToldAs}
-use Rattle.sk_adt.specs.declared.algebraic.AdtFault.{AdtFault}
 use Rattle.sk_opts.specs.declared.line.Set.{Set}
 use Rattle.sk_trace_text.specs.declared.fault.TraceFault.{TraceFault}
 use Rattle.sk_trace_text.specs.declared.fault.TraceFault.TheVariants as fault
 use Rattle.sk_app.specs.Built.{IsTaken}
-use Rattle.sk_expand_sizes.specs.declared.fault.SizeFault.{SizeFault}
 use Rattle.sk_app.specs.Streams.{Appends, AppendsPrefix}
 
 -- a text of this kind was appended to what the sink held
@@ -93,48 +90,15 @@ IsOfBuilt budget (SpentRounds pairs best) = 0 < budget.rounds
 IsOfBuilt budget (SpentConflicts pairs q f log best) = 0 < budget.conflicts
 IsOfBuilt budget _ = ⊥
 
-abbrev pub EndsBuilt : Budget → Ending → ℕ → ℕ → ℕ → ℕ → Type 0
-EndsBuilt budget result source_old source_new sink_old sink_new = Ends (IsOfBuilt budget) (Rose source_old source_new) (Rose sink_old sink_new) result
-
 -- For a text with this fault: it is refused for it.
 abbrev pub IsOfFault : TextFault → Ending → Type 0
 IsOfFault fault (NotText told) = IsSameFault fault told
 IsOfFault fault _ = ⊥
 
-abbrev pub EndsFaulty : TextFault → Ending → ℕ → ℕ → Type 0
-EndsFaulty fault result source_old source_new = Ends (IsOfFault fault) (Rose source_old source_new) ⊥ result
-
 -- For a text whose tree means no program: it is refused as such.
 abbrev pub IsOfUntyped : Ending → Type 0
 IsOfUntyped (NotTyped fault) = Unit {0}
 IsOfUntyped _ = ⊥
-
-abbrev pub EndsUntyped : Ending → ℕ → ℕ → Type 0
-EndsUntyped result source_old source_new = Ends IsOfUntyped (Rose source_old source_new) ⊥ result
-
--- A text whose program is too large for this reason is refused for it.
-abbrev pub EndsLarge : SizeFault → Ending → ℕ → ℕ → Type 0
-EndsLarge reason result source_old source_new = Ends (λ e. e ≡ TooLarge reason) (Rose source_old source_new) ⊥ result
-
--- A text that is too long is refused as such.
-abbrev pub EndsLong : Ending → ℕ → ℕ → Type 0
-EndsLong result source_old source_new = Ends (λ e. e ≡ TooLong) (Rose source_old source_new) ⊥ result
-
--- Words that spell no line are refused.
-abbrev pub EndsNoLine : Ending → Type 0
-EndsNoLine result = Ends (λ e. e ≡ NotALine) ⊥ ⊥ result
-
--- So is a line for which the program does nothing.
-abbrev pub EndsUnbuiltLine : Ending → Type 0
-EndsUnbuiltLine result = Ends (λ e. e ≡ NotBuilt) ⊥ ⊥ result
-
--- A line `--help` writes the help.
-abbrev pub EndsHelp : Ending → ℕ → ℕ → Type 0
-EndsHelp result sink_old sink_new = Ends (λ e. e ≡ HelpShown) ⊥ (Rose sink_old sink_new) result
-
--- The same of a line `--version`.
-abbrev pub EndsVersion : Ending → ℕ → ℕ → Type 0
-EndsVersion result sink_old sink_new = Ends (λ e. e ≡ VersionShown) ⊥ (Rose sink_old sink_new) result
 
 -- the ending of a line that runs a function, whose run ends so
 abbrev pub ending_of : Outcome → Ending
@@ -147,31 +111,8 @@ abbrev pub stopped : TraceFault → Ending
 stopped (fault.NotRun reason) = NotRun reason
 stopped (fault.NotFilled reason) = NotFilled reason
 
--- A run ends as its outcome says.
-abbrev pub EndsRun : Outcome → Ending → ℕ → ℕ → ℕ → ℕ → Type 0
-EndsRun outcome result source_old source_new sink_old sink_new = Ends (λ e. e ≡ ending_of outcome) (Rose source_old source_new) (Rose sink_old sink_new) result
-
--- Where no function is run for this reason, it is told.
-abbrev pub EndsStopped : TraceFault → Ending → ℕ → ℕ → Type 0
-EndsStopped reason result source_old source_new = Ends (λ e. e ≡ stopped reason) (Rose source_old source_new) ⊥ result
-
--- Where the plain form of a text means a program that is tagged, its text is written.
-abbrev pub EndsLowered : Ending → ℕ → ℕ → ℕ → ℕ → Type 0
-EndsLowered result source_old source_new sink_old sink_new = Ends (λ e. e ≡ Lowered) (Rose source_old source_new) (Rose sink_old sink_new) result
-
--- Where a text has none for this reason, that is told.
-abbrev pub EndsNotLowered : AdtFault → Ending → ℕ → ℕ → Type 0
-EndsNotLowered reason result source_old source_new = Ends (λ e. e ≡ NotLowered reason) (Rose source_old source_new) ⊥ result
-
--- Where the program of its plain form breaks a rule of tags first at this span, that is told.
-abbrev pub EndsNotTagged : Span → Ending → ℕ → ℕ → Type 0
-EndsNotTagged span result source_old source_new = Ends (λ e. e ≡ NotTagged span) (Rose source_old source_new) ⊥ result
-
 -- For a text that has no tokens, or whose plain form means no program: it is refused for this cause.
 abbrev pub IsOfRefused : SketchFault → Ending → Type 0
 IsOfRefused told (NotText fault) = IsToldAs told (sketch.NotText fault)
 IsOfRefused told (NotTyped fault) = IsToldAs told (sketch.NotTyped fault)
 IsOfRefused told _ = ⊥
-
-abbrev pub EndsRefused : SketchFault → Ending → ℕ → ℕ → Type 0
-EndsRefused told result source_old source_new = Ends (IsOfRefused told) (Rose source_old source_new) ⊥ result
