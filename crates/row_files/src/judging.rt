@@ -4,6 +4,7 @@ use std::alloc::{AllocError, Global};
 use std::env::Env;
 use std::fs::Files;
 use std::io::{self, Print, Write};
+use std::process::ExitCode;
 use std::{env, fs};
 
 /// What judges rows.
@@ -13,19 +14,23 @@ pub trait Judge {
 }
 
 /// Goes through the rows of the files that the words of the program's line name. Of each file it writes what is told of the
-/// rows that are wrong, and then how many rows it has. Answered is how many are wrong of all.
+/// rows that are wrong, and then how many rows it has. The status is 0 where no row is wrong.
 pub fn judge_files<R: Env + Files + Print + AllocGlobal, J: Judge>(
     rt: &R,
     judge: &J,
-) -> io::Result<usize> {
+) -> io::Result<ExitCode> {
     let mut wrong = 0usize;
     for path in env::args(rt)?.skip(1) {
         wrong = wrong.saturating_add(judge_file(rt, judge, path.as_str())?);
     }
-    Ok(wrong)
+    if wrong == 0 {
+        Ok(ExitCode::SUCCESS)
+    } else {
+        Ok(ExitCode::FAILURE)
+    }
 }
 
-// The same of one file.
+// The same of one file. Answered is how many rows are wrong.
 fn judge_file<R: Files + Print + AllocGlobal, J: Judge>(
     rt: &R,
     judge: &J,

@@ -44,14 +44,8 @@ pub fn titled(alloc: Global, title: &[u8], told: &[u8]) -> Result<Vec<u8>, Alloc
 }
 
 impl BlockRow<'_> {
-    /// Tells what the row wants, and how its line ended, behind a word for that.
-    pub fn report(
-        &self,
-        alloc: Global,
-        word: &[u8],
-        head: &[u8],
-        body: &[u8],
-    ) -> Result<Vec<u8>, AllocError> {
+    /// Tells what the row wants, and how its line ended.
+    pub fn report(&self, alloc: Global, head: &[u8], body: &[u8]) -> Result<Vec<u8>, AllocError> {
         joined(
             alloc,
             &[
@@ -59,7 +53,7 @@ impl BlockRow<'_> {
                 self.title,
                 b"\n",
                 self.answers,
-                word,
+                b"came ",
                 head,
                 b"\n",
                 body,

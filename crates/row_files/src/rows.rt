@@ -1,19 +1,31 @@
 //! The rows of a file.
 ghost use Rattle.std.specs.Prelude.{◌<◌, ◌≤◌, length};
 
-use crate::lines::first_line;
+use crate::escapes::unescaped;
+use crate::lines::{FirstLine, first_line};
+use crate::reports::joined;
 use crate::sections::{Section, ends_block, first_section, lines_before_mark};
 use std::alloc::{AllocError, Global};
 
-/// What the nearest lines `words`, `before` and `behind` above a row in one line say of it. A line `words` says that
-/// nothing stands before and behind the text.
+/// What the nearest lines `words`, `before`, `behind` and `escaped` above a row in one line say of it. A line `words` says that
+/// nothing stands before and behind the text, and that it stands without escapes.
 #[derive(Debug, Clone, Copy, PartialEq, Eq)]
 pub struct Around<'a> {
     /// What is done with the text.
     pub words: &'a [u8],
     pub before: &'a [u8],
     pub behind: &'a [u8],
+    /// Whether the text stands with escapes.
+    pub is_escaped: bool,
 }
+
+/// What is said of a row that has no such lines above it.
+const NOTHING: Around<'static> = Around {
+    words: b"",
+    before: b"",
+    behind: b"",
+    is_escaped: false,
+};
 
 /// A row in one line.
 #[derive(Debug, Clone, Copy, PartialEq, Eq)]
@@ -29,7 +41,11 @@ pub struct LineRow<'a> {
 #[derive(Debug, Clone, Copy, PartialEq, Eq)]
 pub struct BlockRow<'a> {
     pub title: &'a [u8],
-    /// The full lines between the title and the text.
+    /// The line behind the title: what is done with the text.
+    pub words: &'a [u8],
+    /// Whether the text and what is wanted stand with escapes: whether the next line is `escaped`.
+    pub is_escaped: bool,
+    /// The other full lines before the text.
     pub settings: &'a [u8],
     /// The text. Its head is what else its mark says.
     pub text: Section<'a>,
@@ -42,17 +58,35 @@ pub struct BlockRow<'a> {
 pub enum Row<'a> {
     Line(LineRow<'a>),
     Block(BlockRow<'a>),
-    /// A line that is none, or the title of a block without a text.
+    /// A line that is none, or the title of a block without words or without a text.
     Unreadable(&'a [u8]),
 }
 
 impl LineRow<'_> {
     /// The whole text, with what stands before and behind it.
     pub fn whole(&self, alloc: Global) -> Result<Vec<u8>, AllocError> {
-        let mut text = Vec::from_slice(alloc, self.around.before)?;
-        text.extend_from_slice(self.text)?;
-        text.extend_from_slice(self.around.behind)?;
+        let around = self.around;
+        let text = joined(alloc, &[around.before, self.text, around.behind])?;
+        if around.is_escaped {
+            return unescaped(alloc, text.as_slice());
+        }
         Ok(text)
+    }
+}
+
+impl BlockRow<'_> {
+    /// The whole text.
+    pub fn whole(&self, alloc: Global) -> Result<Vec<u8>, AllocError> {
+        self.spelt(alloc, self.text.body)
+    }
+
+    /// What bytes of the row spell.
+    pub(crate) fn spelt(&self, alloc: Global, bytes: &[u8]) -> Result<Vec<u8>, AllocError> {
+        if self.is_escaped {
+            unescaped(alloc, bytes)
+        } else {
+            Vec::from_slice(alloc, bytes)
+        }
     }
 }
 
@@ -108,11 +142,17 @@ fn without_blank_lines<'a>(bytes: &'a [u8]) -> &'a [u8] {
 fn block_row<'a>(title: &'a [u8], lines: &'a [u8]) -> Row<'a> {
     let lines = without_blank_lines(lines);
     let (settings, marks) = lines.split_at(lines_before_mark(lines));
+    let Some(FirstLine { line: words, rest }) = first_line(settings) else {
+        return Row::Unreadable(title);
+    };
+    let escaped = rest.strip_prefix(b"escaped\n");
     match first_section(marks) {
         None => Row::Unreadable(title),
         Some(first) => Row::Block(BlockRow {
             title,
-            settings,
+            words,
+            is_escaped: escaped.is_some(),
+            settings: escaped.unwrap_or(rest),
             text: first.section,
             answers: first.rest,
         }),
@@ -135,14 +175,16 @@ fn first_row<'a>(around: Around<'a>, line: &'a [u8], rest: &'a [u8]) -> FirstRow
 // What a line says of the rows behind it, if it is one that says this.
 fn around_of<'a>(around: Around<'a>, line: &'a [u8]) -> Option<Around<'a>> {
     if let Some(words) = line.strip_prefix(b"words ") {
-        return Some(Around {
-            words,
-            before: b"",
-            behind: b"",
-        });
+        return Some(Around { words, ..NOTHING });
     }
     if let Some(before) = line.strip_prefix(b"before ") {
         return Some(Around { before, ..around });
+    }
+    if line == b"escaped".as_slice() {
+        return Some(Around {
+            is_escaped: true,
+            ..around
+        });
     }
     let behind = line.strip_prefix(b"behind ")?;
     Some(Around { behind, ..around })
@@ -151,11 +193,7 @@ fn around_of<'a>(around: Around<'a>, line: &'a [u8]) -> Option<Around<'a>> {
 /// The rows of a file, in order.
 pub fn read_rows<'a>(alloc: Global, bytes: &'a [u8]) -> Result<Vec<Row<'a>>, AllocError> {
     let mut rows = Vec::new(alloc);
-    let mut around = Around {
-        words: b"",
-        before: b"",
-        behind: b"",
-    };
+    let mut around = NOTHING;
     let mut rest = bytes;
     while let Some(first) = first_line(rest) {
         rest = first.rest;

@@ -1,13 +1,19 @@
 // Judging of rows.
-use crate::tally::Tally;
+use crate::ends::end_of;
 use crate::ways::{Way, changed, way_of};
-use row_files::{BlockRow, Judge, Row, first_line, first_section, titled};
+use row_files::{BlockRow, Judge, Row, Tally, first_line, first_section, titled};
 use std::alloc::{AllocError, Global};
 
+// Reads one text more.
+fn add(alloc: Global, tally: &mut Tally, text: &[u8]) -> Result<(), AllocError> {
+    let end = end_of(alloc, text)?;
+    tally.add(end.as_bytes())
+}
+
 // The ends of the fronts of a text.
-fn fronts(tally: &mut Tally, text: &[u8]) -> Result<(), AllocError> {
+fn fronts(alloc: Global, tally: &mut Tally, text: &[u8]) -> Result<(), AllocError> {
     for at in 0..text.len() {
-        tally.add(&text[..at])?;
+        add(alloc, tally, &text[..at])?;
     }
     Ok(())
 }
@@ -19,7 +25,7 @@ fn lines(alloc: Global, tally: &mut Tally, way: Way, text: &[u8]) -> Result<(), 
     while let Some(first) = first_line(rest) {
         let front = text.get(..before).unwrap_or(text);
         let other = changed(alloc, way, front, first.line, first.rest)?;
-        tally.add(other.as_slice())?;
+        add(alloc, tally, other.as_slice())?;
         rest = first.rest;
         before = text.len() - rest.len().min(text.len());
     }
@@ -30,8 +36,8 @@ fn lines(alloc: Global, tally: &mut Tally, way: Way, text: &[u8]) -> Result<(), 
 fn ends(alloc: Global, way: Way, text: &[u8]) -> Result<Vec<u8>, AllocError> {
     let mut tally = Tally::new(alloc);
     match way {
-        Way::Whole => tally.add(text)?,
-        Way::Cut => fronts(&mut tally, text)?,
+        Way::Whole => add(alloc, &mut tally, text)?,
+        Way::Cut => fronts(alloc, &mut tally, text)?,
         Way::Without | Way::Twice | Way::AtEnd(_) | Way::AtDigit(_) => {
             lines(alloc, &mut tally, way, text)?
         }
@@ -40,8 +46,8 @@ fn ends(alloc: Global, way: Way, text: &[u8]) -> Result<Vec<u8>, AllocError> {
 }
 
 fn judge_block(alloc: Global, row: &BlockRow) -> Result<Option<Vec<u8>>, AllocError> {
-    let Some(way) = way_of(row.settings) else {
-        return Ok(Some(titled(alloc, row.title, b"no settings\n")?));
+    let Some(way) = way_of(row.words) else {
+        return Ok(Some(titled(alloc, row.title, b"no such words\n")?));
     };
     let Some(wanted) = first_section(row.answers) else {
         return Ok(Some(titled(alloc, row.title, b"no answer\n")?));

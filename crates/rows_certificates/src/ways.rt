@@ -14,17 +14,17 @@ pub enum Way {
     AtDigit(&'static [u8]),
 }
 
-/// What the settings of a row say.
-pub fn way_of(settings: &[u8]) -> Option<Way> {
-    match settings {
-        b"whole\n" => Some(Way::Whole),
-        b"cut\n" => Some(Way::Cut),
-        b"without\n" => Some(Way::Without),
-        b"twice\n" => Some(Way::Twice),
-        b"return\n" => Some(Way::AtEnd(b"\r")),
-        b"blank\n" => Some(Way::AtEnd(b" ")),
-        b"zero\n" => Some(Way::AtDigit(b"0")),
-        b"large\n" => Some(Way::AtDigit(b"18446744073709551616")),
+/// What the words of a row say.
+pub fn way_of(words: &[u8]) -> Option<Way> {
+    match words {
+        b"whole" => Some(Way::Whole),
+        b"cut" => Some(Way::Cut),
+        b"without" => Some(Way::Without),
+        b"twice" => Some(Way::Twice),
+        b"return" => Some(Way::AtEnd(b"\r")),
+        b"blank" => Some(Way::AtEnd(b" ")),
+        b"zero" => Some(Way::AtDigit(b"0")),
+        b"large" => Some(Way::AtDigit(b"18446744073709551616")),
         _ => None,
     }
 }

@@ -1,18 +1,11 @@
 //! How a line ends on a text in memory.
 use crate::halting::Halting;
 use crate::settings::{Settings, Stream};
-use row_files::{head_of, words_of};
+use row_files::{Ended, head_of, words_of};
 use sk_app::{Ending, StdSink, StdSource, message, run, status};
 use sk_base::{List, MemSink, MemSource};
+use sk_explain::{KeptSource, explain};
 use std::alloc::{AllocError, Global};
-
-/// How a line ended, and what it wrote.
-#[derive(Debug, Drop)]
-pub struct Ended {
-    /// The status, and behind a blank the message where there is one.
-    pub head: Vec<u8>,
-    pub output: Vec<u8>,
-}
 
 /// Runs a line on a text.
 pub fn run_line(
@@ -26,9 +19,12 @@ pub fn run_line(
         source,
         sink,
         adapted,
-        once: _,
+        explained,
+        ..
     } = settings;
-    if adapted {
+    if explained {
+        run_explained(alloc, words.as_slice(), text, source, sink)
+    } else if adapted {
         run_adapted(alloc, words.as_slice(), text, source, sink)
     } else {
         run_in_memory(alloc, words.as_slice(), text, source, sink)
@@ -64,9 +60,29 @@ fn run_adapted(
     told(alloc, &ending, writer.into_bytes())
 }
 
-// What there is to tell of an ending.
-fn told(alloc: Global, ending: &Ending, output: Vec<u8>) -> Result<Ended, AllocError> {
+// The streams are those in memory, and what comes is what is told to people of the ending.
+fn run_explained(
+    alloc: Global,
+    words: &[String],
+    text: Vec<u8>,
+    source: Stream,
+    sink: Stream,
+) -> Result<Ended, AllocError> {
+    let source = MemSource::new(List::from_vec(text), source.fails, source.step);
+    let mut source = KeptSource::new(alloc, source);
+    let mut sink = MemSink::new(alloc, sink.fails, sink.step);
+    let ending = run(alloc, words, &mut source, &mut sink);
+    let Some(kept) = source.kept() else {
+        return Err(AllocError);
+    };
+    let told_of = explain(alloc, words, kept, &ending)?;
+    let body = Vec::from_slice(alloc, told_of.as_bytes())?;
+    told(alloc, &ending, body)
+}
+
+// How a line ended, with what came.
+fn told(alloc: Global, ending: &Ending, body: Vec<u8>) -> Result<Ended, AllocError> {
     let message = message(alloc, ending)?;
     let head = head_of(alloc, status(ending), message.as_bytes())?;
-    Ok(Ended { head, output })
+    Ok(Ended { head, body })
 }

@@ -1,4 +1,4 @@
-//! What blocks set: sources, sinks, and whether a completion is run again.
+//! What blocks set: sources, sinks, which texts are run, what is compared, and whether a completion is run again.
 ghost use Rattle.std.specs.Prelude.{◌<◌};
 
 use row_files::{first_line, words_of};
@@ -13,6 +13,16 @@ pub struct Stream {
     ghost positive: { 0 < step },
 }
 
+/// Which texts are made of the text of a row.
+#[derive(Debug, Clone, Copy, PartialEq, Eq, Drop)]
+pub enum Texts {
+    Whole,
+    /// Each front of it, from the empty one to the whole.
+    Fronts,
+    /// Each of its bytes.
+    Bytes,
+}
+
 /// What a row sets.
 #[derive(Debug, Drop)]
 pub struct Settings {
@@ -22,6 +32,9 @@ pub struct Settings {
     pub adapted: bool,
     /// Whether the completion of the text is not to be completed again.
     pub once: bool,
+    /// Whether what is told to people of the ending is compared, and not what is written.
+    pub explained: bool,
+    pub texts: Texts,
 }
 
 // A stream that gives or takes all there is, and never fails.
@@ -80,16 +93,14 @@ fn set_stream(settings: &mut Settings, name: &str, stream: Stream) -> bool {
 // Sets what a word alone sets; nothing is set where it sets nothing.
 fn set_word(settings: &mut Settings, word: &str) -> bool {
     match word {
-        "once" => {
-            settings.once = true;
-            true
-        }
-        "adapted" => {
-            settings.adapted = true;
-            true
-        }
-        _ => false,
+        "once" => settings.once = true,
+        "adapted" => settings.adapted = true,
+        "explained" => settings.explained = true,
+        "fronts" => settings.texts = Texts::Fronts,
+        "bytes" => settings.texts = Texts::Bytes,
+        _ => return false,
     }
+    true
 }
 
 // Whether words set something; nothing is set where they do not.
@@ -118,13 +129,15 @@ fn set_numbers(
     }
 }
 
-/// Streams that never fail, and completions that are run again.
+/// Streams that never fail, the whole text, and completions that are run again.
 pub fn calm_settings(alloc: Global) -> Settings {
     Settings {
         source: calm(alloc),
         sink: calm(alloc),
         adapted: false,
         once: false,
+        explained: false,
+        texts: Texts::Whole,
     }
 }
 

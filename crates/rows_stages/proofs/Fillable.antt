@@ -10,7 +10,7 @@ use Rattle.sk_model.specs.declared.expanded.Expanded.{Expanded}
 use Rattle.sk_model.specs.Expand.{expand}
 use Rattle.sk_model.specs.Limits.{most_sites}
 use Rattle.sk_expand_sites.specs.Small.{IsSmall, AreSmall}
-use Rattle.sk_holes.specs.Needs.{HasItsSites, are_narrow}
+use Rattle.sk_expand_sites.specs.Needs.{HasItsSites, are_narrow}
 
 pub has : (e : Expanded) (p : Prog) (bounds : Bounds) → e ≡ expand p bounds → HasItsSites e
 unfolding expand

@@ -82,8 +82,6 @@ const NAMES: [(&str, Stage); 22] = [
 #[derive(Drop)]
 pub struct Task {
     pub stage: Stage,
-    /// Whether the text stands with escapes.
-    pub is_escaped: bool,
     pub bounds: Bounds,
     /// The words that are none of these.
     pub others: Vec<String>,
@@ -121,8 +119,7 @@ fn with_bound(bounds: Bounds, word: &str, value: u32) -> Option<Bounds> {
     Some(bounds)
 }
 
-/// What the words of a row say: a stage, `escaped` where the text has escapes, bounds by the options of a line, and what
-/// else the stage asks for.
+/// What the words of a row say: a stage, bounds by the options of a line, and what else the stage asks for.
 pub fn task_of(alloc: Global, words: &[String]) -> Result<Task, Fault> {
     let [first, rest @ ..] = words else {
         return Err(Fault::Words);
@@ -132,7 +129,6 @@ pub fn task_of(alloc: Global, words: &[String]) -> Result<Task, Fault> {
     };
     let mut task = Task {
         stage,
-        is_escaped: false,
         bounds: BOUNDS,
         others: Vec::new(alloc),
     };
@@ -144,9 +140,7 @@ fn add_words(task: &mut Task, words: &[String]) -> Result<(), Fault> {
     let mut rest = words;
     while let [word, after @ ..] = rest {
         rest = after;
-        if word.as_str() == "escaped" {
-            task.is_escaped = true;
-        } else if word.as_str().starts_with("--") {
+        if word.as_str().starts_with("--") {
             let [value, after @ ..] = after else {
                 return Err(Fault::Words);
             };

@@ -1,5 +1,4 @@
 //! What is written of a row: what its stage shows of its text.
-use crate::escapes::unescaped;
 use crate::expansion::{push_expansion, push_filling, push_sites, push_sizes_of, push_spans};
 use crate::fault::Fault;
 use crate::front::tree_of;
@@ -75,10 +74,6 @@ fn push_written(
 ) -> Result<(), Fault> {
     let words = words_of(alloc, words)?;
     let task = task_of(alloc, words.as_slice())?;
-    if task.is_escaped {
-        let text = unescaped(alloc, text)?;
-        return push_reading(shown, alloc, &task, text.as_slice());
-    }
     push_reading(shown, alloc, &task, text)
 }
 

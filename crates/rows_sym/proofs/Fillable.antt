@@ -14,7 +14,7 @@ use Rattle.sk_model.specs.Limits.{most_nodes, most_sites}
 use Rattle.sk_model.specs.Nodes.{nodes}
 use Rattle.sk_model.specs.Sites.{sites}
 use Rattle.sk_expand_sites.specs.Small.{IsSmall, AreSmall}
-use Rattle.sk_holes.specs.Needs.{HasItsSites, are_narrow}
+use Rattle.sk_expand_sites.specs.Needs.{HasItsSites, are_narrow}
 use Rattle.sk_opts.specs.declared.line.Set.{Set}
 use Rattle.sk_front.specs.declared.expansion.Expansion.{Expansion}
 use Rattle.sk_front.specs.Front.{Expands}

@@ -2,7 +2,7 @@
 //! runs: `rows_sym FILE ..`. It says how many rows each file has, and tells each row that fails. It ends with status 1
 //! where a row fails.
 //!
-//! The first word of a row's settings is the function, a second how many bits an `int` has (16 where there is none), and the
+//! The first word of a row is the function, a second how many bits an `int` has (16 where there is none), and the
 //! text is a sketch. Each line of the answer has the values of the sites, `:` and the values of the arguments; behind ` => `
 //! may stand how the run ends. In place of the values of the arguments may stand how many clauses at most a formula has, what searches
 //! find, or which nodes the run makes.
@@ -23,7 +23,5 @@ use std::io;
 use std::process::ExitCode;
 
 fn main(rt: HostRuntime) -> io::Result<ExitCode> {
-    let wrong = judge_files(&rt, &Runs)?;
-    let status = if wrong == 0 { 0 } else { 1 };
-    Ok(ExitCode::from(status))
+    judge_files(&rt, &Runs)
 }

@@ -516,7 +516,7 @@ fn judge_block(alloc: Global, row: &BlockRow) -> Result<Vec<u8>, AllocError> {
     let Some(answer) = first_section(row.answers) else {
         return Vec::from_slice(alloc, b"no lines\n");
     };
-    let words = words_of(alloc, row.settings)?;
+    let words = words_of(alloc, row.words)?;
     judge_called(alloc, words.as_slice(), row.text.body, answer.section.body)
 }
 

@@ -1,7 +1,7 @@
 //! The sketch of a row.
 
 ghost use Rattle.std.specs.Prelude.{◌≡◌, ◌≤◌, length, IfSome, IsTrue};
-ghost use Rattle.sk_holes.specs.Needs.{are_narrow};
+ghost use Rattle.sk_expand_sites.specs.Needs.{are_narrow};
 ghost use Rattle.sk_model.specs.Sites.{sites};
 ghost use Rattle.sk_oblig.specs.Formulas.{IsAskable};
 ghost use Rattle.sk_opts.specs.Ranges.{IsInRanges};

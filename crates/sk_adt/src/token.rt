@@ -5,48 +5,42 @@ ghost use Rattle.sk_adt.specs.Forms.{sign_at, keyword_at, name_at, at_close};
 
 use crate::form::Word;
 use sk_base::{List, Span};
-use sk_parser_exprs::token::{begins, copy};
+use sk_parser_exprs::token::{begins, begins_key, copy};
 use sk_parser_laws::Stop;
 use sk_tree::{Key, Kind, Mark, Token};
 use sk_tree_spell::copy_token;
 use std::alloc::{AllocError, Global};
 
 /// The mark at the front, where it stands, and the tokens after it.
-#[tactic(auto, unfolding(crate::specs::Forms::sign_at))]
+#[tactic(auto, unfolding(crate::specs::Forms::sign_at, sk_parser_laws::specs::Readers::mark_ahead))]
 pub(crate) fn sign_at(tokens: &[Token], mark: Mark) -> Option<(Span, &[Token])>
     ensures { option_map (λ x. (x.0, x.1.now)) result ≡ sign_at mark tokens.now }
 {
     match tokens.split_first() {
-        Some((token, after)) => match token.kind {
-            Kind::Mark(found) => {
-                if found == mark {
-                    Some((token.span, after))
-                } else {
-                    None
-                }
+        Some((token, after)) => {
+            if begins(tokens, mark) {
+                Some((token.span, after))
+            } else {
+                None
             }
-            _ => None,
-        },
+        }
         None => None,
     }
 }
 
 /// The keyword at the front, where it stands, and the tokens after it.
-#[tactic(auto, unfolding(crate::specs::Forms::keyword_at))]
+#[tactic(auto, unfolding(crate::specs::Forms::keyword_at, sk_parser_laws::specs::Readers::key_ahead))]
 pub(crate) fn keyword_at(tokens: &[Token], key: Key) -> Option<(Span, &[Token])>
     ensures { option_map (λ x. (x.0, x.1.now)) result ≡ keyword_at key tokens.now }
 {
     match tokens.split_first() {
-        Some((token, after)) => match token.kind {
-            Kind::Key(found) => {
-                if found == key {
-                    Some((token.span, after))
-                } else {
-                    None
-                }
+        Some((token, after)) => {
+            if begins_key(tokens, key) {
+                Some((token.span, after))
+            } else {
+                None
             }
-            _ => None,
-        },
+        }
         None => None,
     }
 }

@@ -26,7 +26,7 @@ use Rattle.sk_model.specs.Meets.{Meets, IsGreatestCost}
 use Rattle.sk_model.specs.Nodes.{nodes}
 use Rattle.sk_expand_sites.specs.Small.{AreSmall}
 use Rattle.sk_expand_sites.specs.Small.{IsSmall as IsSmallSite}
-use Rattle.sk_holes.specs.Needs.{HasItsSites, are_narrow}
+use Rattle.sk_expand_sites.specs.Needs.{HasItsSites, are_narrow}
 use Rattle.sk_holes_choice_laws.specs.Meeting.{IsMetUnder}
 use Rattle.sk_holes_choice_laws.proofs.Meeting.{choices_meet}
 use Rattle.sk_oblig.specs.Formulas.{IsAskable}
@@ -35,7 +35,8 @@ use Rattle.sk_cnf.specs.declared.growing.Encoded.{Encoded}
 use Rattle.sk_oblig_queries.specs.declared.query.Query.{Query}
 use Rattle.sk_loop_laws.specs.Honest.{Honest}
 use Rattle.sk_loop_laws.specs.Shown.{AreSpent, Learnt}
-use Rattle.sk_min.specs.Least.{IsBest, Meeting, IsKnown, IsKnownOf, IsFreeSpent}
+use Rattle.sk_min_laws.specs.Best.{IsBest, Meeting}
+use Rattle.sk_min.specs.Least.{IsKnown, IsKnownOf, IsFreeSpent}
 use Rattle.sk_min.specs.Least as least
 use Rattle.sk_opts.specs.declared.line.Set.{Set}
 use Rattle.sk_front.specs.declared.expansion.Expansion.{Expansion}

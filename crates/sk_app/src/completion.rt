@@ -2,7 +2,7 @@
 
 ghost use Rattle.std.specs.Prelude.{◌≡◌, ◌≤◌, length, IsTrue, IfOk};
 ghost use Rattle.sk_model.specs.Fill.{fill};
-ghost use Rattle.sk_holes.specs.Needs.{HasItsSites, are_narrow};
+ghost use Rattle.sk_expand_sites.specs.Needs.{HasItsSites, are_narrow};
 
 use sk_holes::fill;
 use sk_model::{Choice, Expanded};

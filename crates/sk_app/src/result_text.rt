@@ -2,7 +2,7 @@
 
 ghost use Rattle.std.specs.Prelude.{◌≡◌, ◌≤◌, ◌++◌, length, IsTrue, IfOk, OnOk};
 ghost use Rattle.sk_model.specs.Fill.{fill};
-ghost use Rattle.sk_holes.specs.Needs.{HasItsSites, are_narrow};
+ghost use Rattle.sk_expand_sites.specs.Needs.{HasItsSites, are_narrow};
 ghost use Rattle.sk_app.specs.ResultText.{spaced, completion_lines, completed_text};
 ghost use Rattle.sk_app.specs.SpentText.{known_text, spent_result, OfRounds, OfConflicts};
 

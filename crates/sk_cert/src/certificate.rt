@@ -4,12 +4,18 @@ use sk_cnf::Encoded;
 use sk_model::Choice;
 
 /// A formula, and clauses that follow one after another from it, of which the last is empty.
-#[derive(Debug, Drop)]
+#[derive(Debug)]
 pub struct Proof {
     /// The formula, and the variables of the bits that it speaks of.
     pub formula: Encoded,
     /// The clauses, in the order in which they follow.
     pub log: Log,
+}
+
+impl Drop for Proof {
+    fn drop(self) {
+        let Proof { formula: _, log: _ } = self;
+    }
 }
 
 /// An input of an obligation.
@@ -22,7 +28,7 @@ pub struct CertInput {
 }
 
 /// A completion with its value, or that there is none, and what shows that this is right.
-#[derive(Debug, Drop)]
+#[derive(Debug)]
 pub struct Certificate {
     /// The version of its form: 1 or 2.
     pub version: u32,
@@ -39,4 +45,18 @@ pub struct Certificate {
     pub upper: List<Proof>,
     /// That no choice passes the inputs within less than the value, or at all where there is none.
     pub lower: Option<Proof>,
+}
+
+impl Drop for Certificate {
+    fn drop(self) {
+        let Certificate {
+            version: _,
+            text: _,
+            choice: _,
+            value: _,
+            inputs: _,
+            upper: _,
+            lower: _,
+        } = self;
+    }
 }

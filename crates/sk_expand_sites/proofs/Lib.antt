@@ -1,1 +1,3 @@
 pub mod SiteLaws
+pub mod Counts
+pub mod StmtCounts

@@ -9,8 +9,10 @@ ghost use Rattle.sk_explain_causes.specs.Tokens.{ArePlain, AreTokensRead, bytes_
 use sk_adt::{AdtFault, lower};
 use sk_base::{List, Span};
 use sk_lexer::{LexFault, tokens};
+use sk_parser_exprs::token::{begins, begins_key};
 use sk_tree::{Key, Kind, Mark, Token};
 use std::alloc::{AllocError, Global};
+use std::slice;
 
 /// The greatest number of bytes of a text.
 const MOST_BYTES: usize = 1_048_576;
@@ -120,23 +122,19 @@ pub fn tokens_before(tokens: &[Token], byte: u32) -> usize
 }
 
 /// Whether a token is this keyword.
+#[tactic(auto, unfolding(sk_parser_laws::specs::Readers::key_ahead))]
 pub fn is_key(token: &Token, key: Key) -> bool
     ensures { result ≡ is_key key token.now.kind }
 {
-    match &token.kind {
-        Kind::Key(it) => *it == key,
-        Kind::Word(_) | Kind::Number(_) | Kind::Text(_) | Kind::Mark(_) => false,
-    }
+    begins_key(slice::from_ref(token), key)
 }
 
 /// Whether a token is this mark.
+#[tactic(auto, unfolding(sk_parser_laws::specs::Readers::mark_ahead))]
 pub fn is_mark(token: &Token, mark: Mark) -> bool
     ensures { result ≡ is_mark mark token.now.kind }
 {
-    match &token.kind {
-        Kind::Mark(it) => *it == mark,
-        Kind::Word(_) | Kind::Number(_) | Kind::Text(_) | Kind::Key(_) => false,
-    }
+    begins(slice::from_ref(token), mark)
 }
 
 /// Whether a token is a mark that opens something.

@@ -17,7 +17,7 @@ use Rattle.sk_model.specs.Fill.{Fits, InRange, minimize_of, stmts_count, fill_fu
 use Rattle.sk_model.proofs.Bare.{filled_has_no_sites}
 use Rattle.sk_holes.specs.declared.fault.FillFault.{FillFault}
 use Rattle.sk_holes.specs.declared.fault.FillFault.TheVariants.{WrongLength, OutOfRange, Memory}
-use Rattle.sk_holes.specs.Range.{Tests, IsRefused, IsFirstOut, IsWrongLengthOrMemory, IsOutOrMemory, first_out}
+use Rattle.sk_holes.specs.Range.{are_numbers, Tests, IsRefused, IsFirstOut, IsWrongLengthOrMemory, IsOutOrMemory, first_out}
 use Rattle.sk_holes.proofs.RangeLaws.{none_is_out}
 use Rattle.sk_expand_copies.specs.Ranks.{ranks_from, count_true}
 use Rattle.sk_holes.specs.Table.{numbered}
@@ -25,8 +25,8 @@ use Rattle.sk_holes_standing.specs.declared.met.Paid.{Paid}
 use Rattle.sk_holes_standing.specs.Met.{payment}
 use Rattle.sk_holes_standing.specs.Functions.{minimize_paid, sites_in}
 use Rattle.sk_holes.specs.Whole.{filled_by}
-use Rattle.sk_holes.specs.Needs.{HasItsSites, is_narrow, are_narrow, are_numbers}
-use Rattle.sk_holes.proofs.StmtCounts.{body_sited}
+use Rattle.sk_expand_sites.specs.Needs.{HasItsSites, is_narrow, are_narrow}
+use Rattle.sk_expand_sites.proofs.StmtCounts.{body_sited}
 use Rattle.sk_holes.proofs.Numbers.{ranks}
 
 any_bounds : Bounds

@@ -2,4 +2,3 @@ pub mod Table
 pub mod Filling
 pub mod Range
 pub mod Whole
-pub mod Needs

@@ -1,11 +1,16 @@
 -- Whether a choice is in range, and the first value that is not.
-use Rattle.std.specs.Prelude.{ℕ, ◌+◌, ◌≡◌, ◌≢◌, List, [], ◌∷◌, length, nat_lt, Option, Some, None, Result, Ok, Err, if◌then◌else◌, ◌⊎◌}
+use Rattle.std.specs.Prelude.{ℕ, ◌+◌, ◌≡◌, ◌≢◌, List, [], ◌∷◌, Bool, length, nat_lt, Option, Some, None, Result, Ok, Err, if◌then◌else◌, ◌⊎◌}
+use Rattle.std.specs.List.{list_all}
 use Rattle.sk_model.specs.declared.expanded.Site.{Site}
 use Rattle.sk_model.specs.declared.expanded.Choice.{Choice}
 use Rattle.sk_model.specs.declared.expanded.Expanded.{Expanded}
 use Rattle.sk_model.specs.Fill.{InRange}
 use Rattle.sk_holes.specs.declared.fault.FillFault.{FillFault}
 use Rattle.sk_holes.specs.declared.fault.FillFault.TheVariants.{WrongLength, OutOfRange, Memory}
+
+-- each is a number of a program
+abbrev pub are_numbers : List ℕ → Bool
+are_numbers vs = list_all (λ v. nat_lt v 4294967296) vs
 
 -- Of sites of which the first has place i, the place of the first whose value is not below its size.
 abbrev pub first_out : ℕ → List Site → List ℕ → Option ℕ

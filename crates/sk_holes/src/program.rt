@@ -7,8 +7,8 @@ ghost use Rattle.sk_model.specs.Fill.{InRange, before_body, fill, fill_fun, fill
 ghost use Rattle.sk_holes.specs.Filling.{Reaches, number, stmts};
 ghost use Rattle.sk_holes_standing.specs.Functions.{minimize_paid, sites_in};
 ghost use Rattle.sk_holes.specs.Whole.{filled_by};
-ghost use Rattle.sk_holes.specs.Needs.{HasItsSites, are_narrow, are_numbers};
-ghost use Rattle.sk_holes.specs.Range.{IsRefused, IsFirstOut, IsWrongLengthOrMemory, IsOutOrMemory};
+ghost use Rattle.sk_expand_sites.specs.Needs.{HasItsSites, are_narrow};
+ghost use Rattle.sk_holes.specs.Range.{are_numbers, IsRefused, IsFirstOut, IsWrongLengthOrMemory, IsOutOrMemory};
 
 use crate::fault::FillFault;
 use crate::filler::Filler;

@@ -1,5 +1,5 @@
 //! What statements become under a choice.
-ghost use Rattle.std.specs.Prelude.{◌≡◌, ◌+◌, ◌-◌, ◌≤◌, [], suc, IfOk, OnOk, length, take, option_map};
+ghost use Rattle.std.specs.Prelude.{◌≡◌, ◌+◌, ◌-◌, ◌≤◌, [], suc, Err, IfOk, MatchResult, Ok, OnOk, length, take, option_map};
 ghost use Rattle.sk_prog.specs.declared.stmt.PForm.TheVariants as sform;
 ghost use Rattle.sk_model.specs.Fill.{digit, arrange};
 ghost use Rattle.sk_holes.specs.Filling.{Reaches, value_at, expr, optional, stmt, form, stmts, branch, repeated};
@@ -13,6 +13,17 @@ fn block(ss: Vec<PStmt>) -> PForm
     ensures { result ≡ sform.Block ss.items }
 {
     PForm::Block(List::from_vec(ss))
+}
+
+/// A held value beside one just made, or the error of its making. What is held is dropped here alone, so that the caller's
+/// proof has no drop of a tree at the exit.
+fn beside<A: Drop, B, E>(held: A, made: Result<B, E>) -> Result<(A, B), E>
+    ensures { MatchResult made (λ b. result ≡ Ok (held, b)) (λ e. result ≡ Err e) }
+{
+    match made {
+        Ok(b) => Ok((held, b)),
+        Err(e) => Err(e),
+    }
 }
 
 impl Filler<'_> {
@@ -169,7 +180,7 @@ impl Filler<'_> {
         ensures at { OnOk result (at.new ≡ at.old + ((expr self.now target.now).count + (expr self.now value.now).count)) }
     {
         let target = self.expr(at, target)?;
-        let value = self.expr(at, value)?;
+        let (target, value) = beside(target, self.expr(at, value))?;
         Ok(PForm::Assign { target, value })
     }
 
@@ -180,7 +191,7 @@ impl Filler<'_> {
         ensures at { OnOk result (at.new ≡ at.old + ((expr self.now cond.now).count + (stmt self.now body.now).count)) }
     {
         let cond = self.expr(at, cond)?;
-        let body = self.boxed_stmt(at, body)?;
+        let (cond, body) = beside(cond, self.boxed_stmt(at, body))?;
         Ok(PForm::While { cond, body })
     }
 
@@ -205,8 +216,8 @@ impl Filler<'_> {
             PForm::Call(e) => Ok(PForm::Call(self.expr(at, e)?)),
             PForm::If { cond, then, other } => {
                 let cond = self.expr(at, cond)?;
-                let then = self.boxed_stmt(at, then.get())?;
-                let other = self.other(at, other)?;
+                let parts = beside(cond, self.boxed_stmt(at, then.get()))?;
+                let ((cond, then), other) = beside(parts, self.other(at, other))?;
                 Ok(PForm::If { cond, then, other })
             }
             PForm::While { cond, body } => self.looped(at, body.get(), cond),

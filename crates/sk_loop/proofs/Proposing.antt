@@ -11,7 +11,7 @@ use Rattle.sk_model.specs.declared.expanded.Expanded.{Expanded}
 use Rattle.sk_model.specs.declared.expanded.Input.{Input}
 use Rattle.sk_model.specs.declared.expanded.Pair.{Pair}
 use Rattle.sk_model.specs.declared.expanded.Site.{Site}
-use Rattle.sk_holes.specs.Needs.{are_narrow, is_narrow}
+use Rattle.sk_expand_sites.specs.Needs.{are_narrow, is_narrow}
 use Rattle.sk_cnf.specs.declared.growing.Encoded.{Encoded}
 use Rattle.sk_oblig_queries.specs.declared.query.Query.{Query}
 use Rattle.sk_oblig_queries.specs.declared.query.Query.TheVariants as query

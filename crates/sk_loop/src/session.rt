@@ -29,7 +29,6 @@ use std::alloc::{AllocError, Global};
 /// A search for choices of one program under its bounds, which keeps its formula and what the solver learnt from call to call.
 /// It stands for a query: for a choice that passes some inputs within a limit. After a refusal for want of memory it stands
 /// for none.
-#[derive(Drop)]
 pub struct Session {
     alloc: Global,
     /// the formula of the query for which it stands
@@ -40,6 +39,21 @@ pub struct Session {
     /// for how many inputs it stands, and within which limit
     count: usize,
     limit: Option<u64>,
+}
+
+// By hand, so that a function that holds a session drops it by one call: derived, the drops of all that it owns would be written
+// out at each exit.
+impl Drop for Session {
+    fn drop(self) {
+        let Session {
+            alloc: _,
+            asking: _,
+            solver: _,
+            loaded: _,
+            count: _,
+            limit: _,
+        } = self;
+    }
 }
 
 impl Session {

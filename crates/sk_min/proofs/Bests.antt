@@ -1,6 +1,5 @@
 -- When a choice is the best one.
 use Rattle.std.proofs.Common.{◌≡◌, inl, inr, ℕ, zero, suc, ◌<◌, ◌≤◌, ◌-◌, List, Option, Some, None, sym, subst, ◌∙◌, arith}
-use Rattle.std.proofs.lemmas.Bool.{cases_order}
 use Rattle.sk_base.specs.declared.bounds.Bounds.{Bounds}
 use Rattle.sk_model.specs.declared.expanded.Choice.{Choice}
 use Rattle.sk_model.specs.declared.expanded.Expanded.{Expanded}
@@ -13,9 +12,10 @@ use Rattle.sk_oblig_queries.specs.Queries.{IsWanted}
 use Rattle.sk_oblig.specs.Formulas.{IsAskable}
 use Rattle.sk_loop_laws.specs.Honest.{Honest, inputs_of}
 use Rattle.sk_loop_laws.specs.Shown.{Completes, NonePasses}
-use Rattle.sk_min.specs.Least.{IsBest, IsNone, Meeting, NoneBelow, greatest_on}
+use Rattle.sk_min_laws.specs.Best.{IsBest, Meeting, NoneBelow, greatest_on}
+use Rattle.sk_min.specs.Least.{IsNone}
 use Rattle.sk_min.specs.Search.{IsTop}
-use Rattle.sk_min.proofs.Greatest.{greatest_reached, greatest_within}
+use Rattle.sk_min_laws.proofs.Greatest.{greatest_reached, greatest_within}
 use Rattle.sk_loop_laws.proofs.Pairs.{honest_are_inputs}
 
 module _ (e : Expanded) (bounds : Bounds) where
@@ -44,19 +44,6 @@ module _ (e : Expanded) (bounds : Bounds) where
   pairs_within pairs best value askable honest meeting greatest =
       let met = askable.met best meeting.range in
       greatest_within e bounds best (inputs_of pairs) value (λ k d h. greatest.greatest _ ((met.inputs _).1 (honest_are_inputs e bounds pairs honest k d h)))
-
-  -- where none completes within the value less 1, it is the least
-  pub best_of : (best : Choice) (value : ℕ) (inputs : List Input) → Meeting e bounds best → IsGreatestCost (fill e best) bounds value → 0 < value → NonePasses e bounds inputs (Some (value - 1)) → IsBest e bounds best value
-  best_of best value inputs meeting greatest some none = record {
-    meeting = meeting;
-    costs = greatest;
-    least = λ b m v g.
-        let lower : v < value → value ≤ v = λ lt. absurd (none.completes b (record { range = m.range; meets = m.meets; within = λ input is. let h : cost_on (fill e b) bounds input ≤ v = g.greatest input is in omega arith })) in
-        elim (cases_order v value) [
-          | inl same ↦ omega arith
-          | inr differ ↦ elim differ [ inl lt ↦ lower lt | inr gt ↦ omega arith ]
-        ];
-  }
 
   pub none_below : (value : ℕ) (inputs : List Input) → 0 < value → NonePasses e bounds inputs (Some (value - 1)) → NoneBelow e bounds inputs value
   none_below zero inputs some none = tt

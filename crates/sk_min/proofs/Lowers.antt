@@ -17,10 +17,11 @@ use Rattle.sk_loop.specs.declared.session.Session.{Session}
 use Rattle.sk_loop.specs.Session.{IsReady, StandsFor}
 use Rattle.sk_loop_laws.specs.Honest.{Grown, Honest, inputs_of}
 use Rattle.sk_loop_laws.specs.Shown.{AreSpent, Completes, HasRoom, IsOfPairs, limit_of}
-use Rattle.sk_min.specs.Least.{AllBreak, IsLimited, IsLowered, IsShort, Meeting, greatest_on}
+use Rattle.sk_min_laws.specs.Best.{Meeting, greatest_on}
+use Rattle.sk_min.specs.Least.{AllBreak, IsLimited, IsLowered, IsShort}
 use Rattle.sk_min.specs.Search.{IsBehind, IsReadyBelow, IsState, IsTop}
 use Rattle.sk_min.proofs.Bests.{meeting_of, pairs_within}
-use Rattle.sk_min.proofs.Greatest.{greatest_append, greatest_within}
+use Rattle.sk_min_laws.proofs.Greatest.{greatest_append, greatest_within}
 use Rattle.sk_min.proofs.Lists.{last_there, one_longer, take_front}
 
 pub inputs_append : (old added : List Pair) → inputs_of (old ++ added) ≡ inputs_of old ++ inputs_of added

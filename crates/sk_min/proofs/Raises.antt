@@ -20,9 +20,10 @@ use Rattle.sk_oblig.specs.Formulas.{IsAskable}
 use Rattle.sk_loop.specs.Countered.{IsBadQuery, IsSpentOn}
 use Rattle.sk_loop_laws.specs.Honest.{Grown, Honest, inputs_of}
 use Rattle.sk_loop_laws.specs.Shown.{IsOfPairs, Learnt}
-use Rattle.sk_min.specs.Least.{IsLimited, IsShort, Meeting, greatest_on}
+use Rattle.sk_min_laws.specs.Best.{Meeting, greatest_on}
+use Rattle.sk_min.specs.Least.{IsLimited, IsShort}
 use Rattle.sk_min.specs.Search.{IsBehind, IsRaised}
-use Rattle.sk_min.proofs.Greatest.{each_within, greatest_push}
+use Rattle.sk_min_laws.proofs.Greatest.{each_within, greatest_push}
 use Rattle.sk_loop_laws.proofs.Pairs.{grown_is_honest, honest_are_inputs}
 use Rattle.sk_min.proofs.Lists.{last_read, same_last, take_front}
 

@@ -1,48 +1,27 @@
 -- Completions that cost least, and what is shown where a budget is spent before one is known to do so.
-use Rattle.std.specs.Prelude.{ℕ, zero, suc, ◌≡◌, ◌≢◌, ◌<◌, ◌≤◌, ◌-◌, ◌⊎◌, ◌++◌, max, List, [], ◌∷◌, slice_get, Option, Some, None, IsTrue}
+use Rattle.std.specs.Prelude.{ℕ, ◌≡◌, ◌≢◌, ◌<◌, ◌-◌, ◌⊎◌, ◌++◌, List, [], ◌∷◌, slice_get, Option, Some, None, IsTrue}
 use Rattle.sk_base.specs.declared.bounds.Bounds.{Bounds}
 use Rattle.sk_base.specs.declared.bounds.Budget.{Budget}
 use Rattle.sk_model.specs.declared.expanded.Choice.{Choice}
 use Rattle.sk_model.specs.declared.expanded.Expanded.{Expanded}
 use Rattle.sk_model.specs.declared.expanded.Input.{Input}
 use Rattle.sk_model.specs.declared.expanded.Pair.{Pair}
-use Rattle.sk_model.specs.Fill.{InRange, fill}
-use Rattle.sk_model.specs.Meets.{Breaks, Meets, IsGreatestCost, cost_on}
+use Rattle.sk_model.specs.Fill.{fill}
+use Rattle.sk_model.specs.Meets.{Breaks}
 use Rattle.sk_oblig_queries.specs.declared.query.Query.{Query}
 use Rattle.sk_oblig_queries.specs.declared.query.Query.TheVariants as query
 use Rattle.sk_oblig_queries.specs.Queries.{IsWanted}
 use Rattle.sk_loop_laws.specs.Honest.{Honest, inputs_of}
 use Rattle.sk_loop_laws.specs.Shown.{AreSpent, Learnt, limit_of}
 use Rattle.sk_min_costs.specs.Free.{is_free}
+use Rattle.sk_min_laws.specs.Best.{Meeting, IsBest, NoneBelow, greatest_on}
 use Rattle.sk_min.specs.declared.answer.Least.{Least}
-use Rattle.sk_min_costs.specs.Free.{is_free}
 use Rattle.sk_min.specs.declared.answer.Least.TheVariants as least
-
--- A choice in range whose filling meets its obligations.
-pub record Meeting (e : Expanded) (bounds : Bounds) (choice : Choice) : Type 0 where
-  pub range : InRange e choice
-  pub meets : Meets (fill e choice) bounds
-
--- Its greatest cost is the value, and no other such filling has a smaller one.
-pub record IsBest (e : Expanded) (bounds : Bounds) (choice : Choice) (value : ℕ) : Type 0 where
-  pub meeting : Meeting e bounds choice
-  pub costs : IsGreatestCost (fill e choice) bounds value
-  pub least : (b : Choice) → Meeting e bounds b → (v : ℕ) → IsGreatestCost (fill e b) bounds v → value ≤ v
-
--- where the value is above 0, no choice in range passes the inputs within the value less 1
-abbrev pub NoneBelow : Expanded → Bounds → List Input → ℕ → Type 0
-NoneBelow e bounds inputs zero = Unit {0}
-NoneBelow e bounds inputs (suc less) = (choice : Choice) → IsWanted e bounds inputs (Some less) choice → ⊥
 
 -- No filling meets its obligations: no choice in range passes even the inputs.
 pub record IsNone (e : Expanded) (bounds : Bounds) (inputs : List Input) : Type 0 where
   pub passes : (choice : Choice) → IsWanted e bounds inputs None choice → ⊥
   pub meets : (choice : Choice) → Meeting e bounds choice → ⊥
-
--- the greatest cost of the inputs under a choice, and 0 where there is none
-abbrev pub greatest_on : Expanded → Bounds → Choice → List Input → ℕ
-greatest_on e bounds choice [] = 0
-greatest_on e bounds choice (i ∷ is) = max (cost_on (fill e choice) bounds i) (greatest_on e bounds choice is)
 
 -- each pair's input breaks its choice
 pub record AllBreak (e : Expanded) (bounds : Bounds) (pairs : List Pair) : Type 0 where

@@ -19,7 +19,8 @@ use Rattle.sk_min.specs.declared.search.Raised.TheVariants as raised
 use Rattle.sk_min.specs.declared.search.State.{State}
 use Rattle.sk_min.specs.declared.search.Turn.{Turn}
 use Rattle.sk_min.specs.declared.search.Turn.TheVariants as turn
-use Rattle.sk_min.specs.Least.{IsAnswer, IsLimited, IsShort, Meeting, greatest_on}
+use Rattle.sk_min_laws.specs.Best.{Meeting, greatest_on}
+use Rattle.sk_min.specs.Least.{IsAnswer, IsLimited, IsShort}
 
 -- the program has a `minimize` or a `minrepeat`
 abbrev pub IsCostly : Expanded → Type 0

@@ -5,7 +5,8 @@ ghost use Rattle.sk_loop.specs.Session.{IsReady, StandsFor};
 ghost use Rattle.sk_loop_laws.specs.Honest.{Honest, inputs_of};
 ghost use Rattle.sk_loop_laws.specs.Shown.{HasRoom};
 ghost use Rattle.sk_oblig.specs.Formulas.{IsAskable};
-ghost use Rattle.sk_min.specs.Least.{IsAnswer, Meeting};
+ghost use Rattle.sk_min_laws.specs.Best.{Meeting};
+ghost use Rattle.sk_min.specs.Least.{IsAnswer};
 ghost use Rattle.sk_min.specs.Search.{IsCostly, IsState, IsTop, IsTurn};
 
 use crate::answer::Least;

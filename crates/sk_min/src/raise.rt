@@ -7,7 +7,7 @@ ghost use Rattle.sk_model.specs.Fill.{InRange};
 ghost use Rattle.sk_model.specs.Inputs.{IsInput};
 ghost use Rattle.sk_oblig.specs.Formulas.{IsAskable};
 ghost use Rattle.sk_oblig_queries.specs.Queries.{IsBad};
-ghost use Rattle.sk_min.specs.Least.{Meeting, greatest_on};
+ghost use Rattle.sk_min_laws.specs.Best.{Meeting, greatest_on};
 ghost use Rattle.sk_min.specs.Search.{IsCostlier, IsCostly, IsRaisedTo};
 
 use crate::answer::Least;

@@ -20,7 +20,7 @@ use Rattle.sk_model.specs.Obligations.{obligations}
 use Rattle.sk_model.specs.Inputs.{IsInput}
 use Rattle.sk_model.specs.Fill.{InRange, fill}
 use Rattle.sk_model.specs.Meets.{Breaks, cost_on, Passes}
-use Rattle.sk_holes.specs.Needs.{is_narrow, are_narrow}
+use Rattle.sk_expand_sites.specs.Needs.{is_narrow, are_narrow}
 use Rattle.sk_prog.specs.declared.ty.Elem.{Elem}
 use Rattle.sk_prog.specs.declared.ty.Elem.TheVariants as elem
 use Rattle.sk_prog.specs.declared.prog.ParamDef.{ParamDef}

@@ -10,7 +10,7 @@ use Rattle.sk_model.specs.declared.expanded.Expanded.{Expanded}
 use Rattle.sk_model.specs.declared.expanded.Input.{Input}
 use Rattle.sk_model.specs.declared.expanded.Obligation.{Obligation}
 use Rattle.sk_model.specs.Fill.{InRange}
-use Rattle.sk_holes.specs.Needs.{HasItsSites, are_narrow}
+use Rattle.sk_expand_sites.specs.Needs.{HasItsSites, are_narrow}
 use Rattle.sk_holes_choice_laws.specs.Meeting.{IsMetUnder}
 use Rattle.sk_cnf.specs.declared.leaf.Leaf.{Leaf}
 use Rattle.sk_cnf.specs.declared.growing.Encoded.{Encoded}

@@ -2,7 +2,7 @@
 
 ghost use Rattle.std.specs.Prelude.{◌≡◌, ◌-◌, ◌≤◌, ◌+◌, true, IfOk};
 ghost use Rattle.sk_dag.specs.Eval.{Keeps};
-ghost use Rattle.sk_holes.specs.Needs.{HasItsSites};
+ghost use Rattle.sk_expand_sites.specs.Needs.{HasItsSites};
 ghost use Rattle.sk_model.specs.Fill.{InRange};
 ghost use Rattle.sk_oblig_queries.specs.Widths.{params_of as takes};
 ghost use Rattle.sk_oblig_arguments.specs.Arguments.{count_of};

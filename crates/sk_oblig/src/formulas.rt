@@ -2,7 +2,7 @@
 
 ghost use Rattle.std.specs.Prelude.{◌≡◌, ◌-◌, ◌≤◌, ◌∷◌, [], slice_get, IfOk};
 ghost use Rattle.sk_dag.specs.Graph.{HasBool};
-ghost use Rattle.sk_holes.specs.Needs.{HasItsSites};
+ghost use Rattle.sk_expand_sites.specs.Needs.{HasItsSites};
 ghost use Rattle.sk_model.specs.Fill.{InRange};
 ghost use Rattle.sk_model.specs.Obligations.{obligations};
 ghost use Rattle.sk_cnf.specs.Formula.{AreLeaves, Tight};

@@ -4,7 +4,7 @@ ghost use Rattle.std.specs.Prelude.{◌≡◌, IfOk, OnOk, Some, slice_get};
 ghost use Rattle.sk_dag.specs.Eval.{Keeps};
 ghost use Rattle.sk_arr.specs.Shapes.{AllStand};
 ghost use Rattle.sk_model.specs.Run.{in_frame};
-ghost use Rattle.sk_holes.specs.Needs.{HasItsSites};
+ghost use Rattle.sk_expand_sites.specs.Needs.{HasItsSites};
 ghost use Rattle.sk_sym_state.specs.Stands.{StateStands};
 ghost use Rattle.sk_sym_state.specs.Seen.{AreWorth};
 ghost use Rattle.sk_sym_state.specs.Shows.{EndedIs};

@@ -4,7 +4,7 @@ ghost use Rattle.std.specs.Prelude.{◌≡◌, ◌<◌, IfOk, OnOk, Some, slice_
 ghost use Rattle.std.specs.Option.{option_copied};
 ghost use Rattle.sk_dag.specs.Eval.{Keeps};
 ghost use Rattle.sk_arr.specs.Shapes.{AllStand};
-ghost use Rattle.sk_holes.specs.Needs.{HasItsSites};
+ghost use Rattle.sk_expand_sites.specs.Needs.{HasItsSites};
 ghost use Rattle.sk_sym.specs.Bodies.{IsFirst};
 ghost use Rattle.sk_sym.specs.Outcome.{IsOutcome};
 

@@ -6,7 +6,7 @@ ghost use Rattle.sk_dag.specs.declared.env.Env.{Env};
 ghost use Rattle.sk_dag.specs.Graph.{Graph, Grows, HasBool, HasWord};
 ghost use Rattle.sk_dag.specs.Eval.{bool_value, word_value, Keeps};
 ghost use Rattle.sk_model.specs.Parts.{value};
-ghost use Rattle.sk_holes.specs.Needs.{HasItsSites};
+ghost use Rattle.sk_expand_sites.specs.Needs.{HasItsSites};
 ghost use Rattle.sk_sym_choices.specs.Payments.{AllOwed};
 ghost use Rattle.sk_sym_state.specs.Stands.{StateStands};
 ghost use Rattle.sk_sym_state.specs.Meaning.{Executes, ExecutesOn, choice_at};

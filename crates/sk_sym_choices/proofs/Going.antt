@@ -21,8 +21,8 @@ use Rattle.sk_sym_folds.specs.Chosen.{chosen_values}
 use Rattle.sk_holes_standing.specs.Marks.{marked}
 use Rattle.sk_holes_standing.specs.Functions.{stands_by}
 use Rattle.sk_holes_standing.proofs.StandLaws.{Agrees, agrees_more, none_agrees, marked_length}
-use Rattle.sk_holes.specs.Needs.{HasItsSites}
-use Rattle.sk_holes.proofs.StmtCounts.{body_sited}
+use Rattle.sk_expand_sites.specs.Needs.{HasItsSites}
+use Rattle.sk_expand_sites.proofs.StmtCounts.{body_sited}
 use Rattle.sk_sym_choices.specs.declared.payment.Payment.{Payment}
 use Rattle.sk_sym_choices.specs.declared.payer.Payer.{Payer}
 use Rattle.sk_sym_choices.specs.Guards.{Guarded, called_under, paid_under}

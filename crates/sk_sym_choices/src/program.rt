@@ -4,7 +4,7 @@ ghost use Rattle.std.specs.Prelude.{◌≡◌, ℕ, List, ◌<◌, ◌≤◌, If
 ghost use Rattle.std.specs.Option.{option_copied};
 ghost use Rattle.sk_dag.specs.Eval.{Keeps};
 ghost use Rattle.sk_model.specs.Fill.{digit};
-ghost use Rattle.sk_holes.specs.Needs.{HasItsSites};
+ghost use Rattle.sk_expand_sites.specs.Needs.{HasItsSites};
 ghost use Rattle.sk_sym_choices.specs.Payments.{ArePayments, AreColumns, GiveDigits};
 ghost use Rattle.sk_sym_choices.specs.Sizes.{AreInRange};
 

@@ -16,12 +16,11 @@ use Rattle.sk_sym_state.specs.Shows.{Sees}
 use Rattle.sk_sym_state.specs.Meaning.{IsLater, Evaluates, Executes, ExecutesOn, DoesOn}
 use Rattle.sk_sym_state.proofs.Worth.{IsWorth-grown}
 use Rattle.sk_sym_state.proofs.Carrying.{later_keeps, failed_over, skipped_over, Moves-trans}
-use Rattle.sk_sym_state.proofs.Following.{executes_on, does_beside}
+use Rattle.sk_sym_state.proofs.Following.{executes_on}
 use Rattle.sk_sym_state.proofs.Ends.{executes_same}
 use Rattle.sk_sym_stores.specs.declared.location.Location.{Location}
 use Rattle.sk_sym_stores.specs.Locations.{LocationIs, Locates}
-use Rattle.sk_sym_stores.specs.Stores.{IsStored, Stores}
-use Rattle.sk_sym_stores.proofs.Locating.{LocationIs-grown}
+use Rattle.sk_sym_stores.specs.Stores.{Stores}
 
 abbrev onward_of : Unit {0} → Comp Flow
 onward_of u = pure Onward
@@ -34,20 +33,6 @@ declared {slot = slot} {m = m} one on = executes_same (λ e at. by (m e at)) (ex
     by (Goes v at) = refl
     by (Fails span) = refl
     by (Skips span) = refl
-
--- a target, a value, and the assignment
-pub assigned : {x : Setting} {d0 d1 d2 d3 : Graph} {s0 s1 s2 s3 : SymState} {l : Location} {r : Shape} {m : Env → Comp model.Location} {n : Env → Comp Value} (span : Span) → Locates x d0 d1 s0 s1 l m → Evaluates x d1 d2 s1 s2 r n → ExecutesOn x d2 d3 s2 s3 (IsStored s2.heap l r) (λ e p. onward (model.store span p.0 p.1)) → Executes x d0 d3 s0 s3 (λ e. onward (m e >>= (λ location. n e >>= model.store span location)))
-assigned {m = m} {n = n} span place one on = executes_same (λ e at. by (m e at) (n e)) (executes_on (does_beside place.does one.does (λ g e location later h. LocationIs-grown one.does.moves.grown h)) on)
-  where
-    inside : (location : model.Location) (t : Step Value) → and_then (and_then t (model.store span location)) onward_of ≡ and_then (and_then t (λ v. pure (location, v))) (λ (p : model.Location × Value). onward (model.store span p.0 p.1))
-    inside location (Goes v at) = refl
-    inside location (Fails t) = refl
-    inside location (Skips t) = refl
-
-    by : (t : Step model.Location) (n : Comp Value) → and_then (and_then t (λ location. n >>= model.store span location)) onward_of ≡ and_then (and_then t (λ location. n >>= (λ v. pure (location, v)))) (λ (p : model.Location × Value). onward (model.store span p.0 p.1))
-    by (Goes location at) n = inside location (n at)
-    by (Fails t) n = refl
-    by (Skips t) n = refl
 
 -- a target, and a value that is given is stored there
 pub given_stored : {x : Setting} {d0 d1 d2 : Graph} {s0 s1 s2 : SymState} {l : Location} {r : Shape} {m : Env → Comp model.Location} (span : Span) → Locates x d0 d1 s0 s1 l m → Stores x d1 d2 s1 s2 span l r → DoesOn x d0 d2 s0 s2 (λ g e. IsWorth g e s0.heap r) (λ g e (u : Unit {0}). ⊤) (λ e v. m e >>= (λ location. model.store span location v))

@@ -13,4 +13,4 @@ mod storing;
 pub use creation::{Init, make};
 pub use declaration::declare;
 pub use location::{Location, Root};
-pub use storing::{assign, store};
+pub use storing::store;

@@ -2,17 +2,14 @@
 
 ghost use Rattle.std.specs.Prelude.{OnOk, []};
 ghost use Rattle.sk_arr.specs.Shapes.{Stands};
-ghost use Rattle.sk_model.specs.Exec.{onward};
-ghost use Rattle.sk_model.specs.Heap.{store as stored};
 ghost use Rattle.sk_sym_state.specs.Stands.{StateStands};
-ghost use Rattle.sk_sym_state.specs.Meaning.{ExecutesOn};
 ghost use Rattle.sk_dag.specs.declared.shape.Shape.TheVariants.{Reference};
 ghost use Rattle.sk_dag.specs.Eval.{Keeps};
 ghost use Rattle.sk_heap.specs.Heaps.{RefersTo};
 ghost use Rattle.sk_sym_stores.specs.declared.location.Root.TheVariants.{Variable, Field};
 ghost use Rattle.sk_sym_stores.specs.Kinds.{MayHold, FitsField};
 ghost use Rattle.sk_sym_stores.specs.Locations.{AreWords, LocationStands};
-ghost use Rattle.sk_sym_stores.specs.Stores.{IsStored, Stores};
+ghost use Rattle.sk_sym_stores.specs.Stores.{Stores};
 
 use crate::kind::{fits_field, may_hold};
 use crate::location::{Location, Root};
@@ -204,23 +201,4 @@ pub fn store(
             setting, dag, state, span, reference, *kind, *field, indexes, value,
         ),
     }
-}
-
-/// An assignment of a value to a location, as `store` does it.
-pub fn assign(
-    setting: &Setting<'_>,
-    dag: &mut Dag,
-    state: &mut SymState,
-    span: Span,
-    location: &Location,
-    value: &Shape,
-) -> Result<(), AllocError>
-    requires stands { StateStands dag.old setting.now.expanded.now.prog state.old }
-    requires location { LocationStands dag.old location.now }
-    requires value { Stands dag.old value.now }
-    ensures keeps { Keeps dag.old dag.new }
-    ensures executes { OnOk result (ExecutesOn setting.now dag.old dag.new state.old state.new (IsStored state.old.heap location.now value.now) (λ e p. onward (stored span p.0 p.1))) }
-{
-    store(setting, dag, state, span, location, value)?;
-    Ok(())
 }

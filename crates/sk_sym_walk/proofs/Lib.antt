@@ -10,3 +10,4 @@ pub mod Orders
 pub mod Targets
 pub mod Patterns
 pub mod Copying
+pub mod Placed

@@ -6,11 +6,12 @@ use Rattle.sk_prog.specs.declared.value.Value.{Value}
 use Rattle.sk_prog.specs.declared.expr.PExpr.{PExpr}
 use Rattle.sk_model.specs.Parts.{Part, counts, pick, value}
 use Rattle.sk_model.specs.Step.{Comp}
-use Rattle.sk_model.specs.Exec.{Flow, assign}
+use Rattle.sk_model.specs.Heap as model
 use Rattle.sk_model.specs.Open.{nothing_done}
 use Rattle.sk_sym_walk.specs.declared.activation.Activation.{Activation}
 use Rattle.sk_sym_walk.specs.Walk.{values_at, expr_part, eval_part}
 use Rattle.sk_sym_walk.specs.Parts.{either_part}
+use Rattle.sk_sym_walk.specs.Targets.{target_part}
 
 -- the value of the string with a number, where the first site of all strings has place i
 abbrev pub string_at : Activation → Span → List PExpr → ℕ → ℕ → Env → Comp Value
@@ -34,22 +35,18 @@ pub record AreExprs (list : List PExpr) (first : PExpr) (more : List PExpr) : Ty
 
 -- ---- patterns as targets
 
--- an assignment to a target, of a value whose first site has the place `start`
-abbrev pub assign_at_part : Activation → Span → ℕ → PExpr → PExpr → Env → Part (Comp Flow)
-assign_at_part a span start x y e = record { count = (expr_part a x e).count; at = λ i. assign span ((expr_part a x e).at i) ((expr_part a y e).at start) }
+-- what the string with a number names, where the first site of all strings has place i
+abbrev pub target_at : Activation → Span → List PExpr → ℕ → ℕ → Env → Comp model.Location
+target_at a span xs n i e = (pick nothing_done (map (λ x. expr_part a x e) xs) n i).target span
 
--- so to the string with a number, where the first site of all strings has place i
-abbrev pub assign_string_at : Activation → Span → ℕ → List PExpr → PExpr → ℕ → ℕ → Env → Comp Flow
-assign_string_at a span start xs y n i e = assign span (pick nothing_done (map (λ x. expr_part a x e) xs) n i) ((expr_part a y e).at start)
+-- what one of strings names whose first has number k, as `strings_part` has the value of one
+abbrev pub strings_target : Activation → Span → ℕ → ℕ → List PExpr → Env → Part (Comp model.Location)
+strings_target a span site k xs e = record { count = counts (map (λ x. expr_part a x e) xs); at = λ i. target_at a span xs (value (values_at a e) site - k) i e }
 
--- to one of strings whose first has number k, as `strings_part` has the value of one
-abbrev pub assign_strings_part : Activation → Span → ℕ → ℕ → ℕ → List PExpr → PExpr → Env → Part (Comp Flow)
-assign_strings_part a span start site k xs y e = record { count = counts (map (λ x. expr_part a x e) xs); at = λ i. assign_string_at a span start xs y (value (values_at a e) site - k) i e }
+-- what the first string names where the bit holds, and else one of the others, whose first has number `next`
+abbrev pub string_target : Activation → Span → ℕ → ℕ → PExpr → List PExpr → Env → Part (Value → Comp model.Location)
+string_target a span site next x xs = either_part span (target_part a span x) (strings_target a span site next xs)
 
--- to the first string where the bit holds, and else to one of the others, whose first has number `next`
-abbrev pub assign_string_part : Activation → Span → ℕ → ℕ → ℕ → PExpr → List PExpr → PExpr → Env → Part (Value → Comp Flow)
-assign_string_part a span start site next x xs y = either_part span (assign_at_part a span start x y) (assign_strings_part a span start site next xs y)
-
--- to a pattern
-abbrev pub assign_pattern_part : Activation → Span → ℕ → List PExpr → PExpr → Env → Part (Comp Flow)
-assign_pattern_part a span start xs y e = record { count = suc (counts (map (λ x. expr_part a x e) xs)); at = λ i. assign_string_at a span start xs y (value (values_at a e) i) (suc i) e }
+-- what a pattern names
+abbrev pub pattern_target : Activation → Span → List PExpr → Env → Part (Comp model.Location)
+pattern_target a span xs e = record { count = suc (counts (map (λ x. expr_part a x e) xs)); at = λ i. target_at a span xs (value (values_at a e) i) (suc i) e }

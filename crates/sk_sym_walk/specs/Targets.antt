@@ -16,10 +16,13 @@ use Rattle.sk_model.specs.Eval.{Does, fields_in_order, add_index}
 use Rattle.sk_model.specs.Exec.{Flow, assign}
 use Rattle.sk_model.specs.Open.{open_eform, open_field}
 use Rattle.sk_sym_state.specs.declared.state.SymState.{SymState}
+use Rattle.sk_sym_state.specs.Meaning.{DoesOn}
 use Rattle.sk_sym_stores.specs.declared.location.Location.{Location}
 use Rattle.sk_sym_stores.specs.declared.creation.Init.{Init}
 use Rattle.sk_sym_stores.specs.Locations.{Locates}
 use Rattle.sk_sym_stores.specs.Records.{EvaluateFields}
+use Rattle.sk_sym_places.specs.declared.place.Place.{Place}
+use Rattle.sk_sym_places.specs.Places.{PlaceStands, PlaceIs, Places}
 use Rattle.sk_sym_walk.specs.declared.activation.Activation.{Activation}
 use Rattle.sk_sym_walk.specs.Walk.{prog_of, values_at, calls_at, expr_part, eval_part, IsBehind}
 
@@ -52,6 +55,16 @@ new_part a span s xs e = record { count = (fields_part a span xs e).count; at = 
 -- the walk has gone from place i to place j, and the location is what the part names
 pub record IsLocated (a : Activation) (d0 d1 : Graph) (s0 s1 : SymState) (i j : ℕ) (part : Env → Part (Comp model.Location)) (l : Location) : Type 0 where
   pub locates : Locates a.setting d0 d1 s0 s1 l (λ e. (part e).at i)
+  pub place : IsBehind part i j
+
+-- so of a place, and of one that goes by something that is given
+pub record IsPlaced (a : Activation) (d0 d1 : Graph) (s0 s1 : SymState) (i j : ℕ) (part : Env → Part (Comp model.Location)) (p : Place) : Type 0 where
+  pub places : Places a.setting d0 d1 s0 s1 p (λ e. (part e).at i)
+  pub place : IsBehind part i j
+
+pub record IsPlacedOn {A : Type 0} (a : Activation) (d0 d1 : Graph) (s0 s1 : SymState) (i j : ℕ) (Given : Graph → Env → A → Type 0) (part : Env → Part (A → Comp model.Location)) (p : Place) : Type 0 where
+  pub does : DoesOn a.setting d0 d1 s0 s1 Given (λ g e. PlaceIs g e s1.heap p) (λ e. (part e).at i)
+  pub there : PlaceStands d1 p
   pub place : IsBehind part i j
 
 -- the fields are set to what the expressions give

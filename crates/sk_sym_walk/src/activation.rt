@@ -17,8 +17,8 @@ ghost use Rattle.sk_sym_walk.specs.Calls.{callee, value_called, call_part, ends,
 ghost use Rattle.sk_sym_walk.specs.Turns.{turns_part, turn_part, decided_part};
 ghost use Rattle.sk_sym_walk.specs.Copies.{some_part, copies_part, copy_part, repeat_part};
 ghost use Rattle.sk_sym_walk.specs.Orders.{ordered_part, reorder_part, one_turn_part, AreOrders};
-ghost use Rattle.sk_sym_walk.specs.Patterns.{strings_part, string_part, pattern_part, assign_at_part, assign_string_part, assign_strings_part, assign_pattern_part};
-ghost use Rattle.sk_sym_walk.specs.Targets.{target_part, field_target, index_target, assign_part, fields_part, new_part, IsLocated, AreSetTo};
+ghost use Rattle.sk_sym_walk.specs.Patterns.{strings_part, string_part, pattern_part, strings_target, string_target, pattern_target};
+ghost use Rattle.sk_sym_walk.specs.Targets.{target_part, field_target, index_target, assign_part, fields_part, new_part, IsLocated, IsPlaced, IsPlacedOn, AreSetTo};
 
 use crate::calling::{
     absent, count_of, first_param, first_shape, pays_nothing, value_of, with_function,
@@ -37,9 +37,10 @@ use sk_sym_forms::{
     Act, Double, Single, apply, apply_two, declare_zero, fail_here, give_nothing, perform,
 };
 use sk_sym_frames::{enter, leave};
+use sk_sym_places::{Place, assign};
 use sk_sym_sites::{pass_expr, pass_exprs, pass_stmt, pass_stmts, start_of};
 use sk_sym_state::{Ended, Setting, SymState};
-use sk_sym_stores::{Init, Location, assign, make, store};
+use sk_sym_stores::{Init, Location, make, store};
 use std::alloc::AllocError;
 
 /// A call that is active. Nothing of it changes while it is.
@@ -970,9 +971,11 @@ impl Activation<'_> {
         Ok(location)
     }
 
-    /// An assignment. The sites of the value stand behind those of the target.
+    /// An assignment: the parts of the target, the value, and then what is stored. A value is walked once, also where the target is a
+    /// pattern.
     #[cycle(run)]
     #[inline(never)]
+    #[tactic(auto, using(crate::proofs::Sequences::keeping))]
     fn assign(
         &self,
         room: u32,
@@ -987,111 +990,96 @@ impl Activation<'_> {
         ensures keeps { Keeps dag.old dag.new }
         ensures executed { OnOk result (IsExecuted self.now dag.old dag.new state.old state.new at.old at.new (assign_part self.now span target.now value.now)) }
     {
-        let mut start = *at;
-        pass_expr(&mut start, target)?;
-        self.assign_at(room, dag, state, at, span, start, target, value)?;
-        pass_expr(at, value)?;
+        let place = self.place(room, dag, state, at, span, target)?;
+        let v = self.eval(room, dag, state, at, span, value)?;
+        assign(&self.setting, dag, state, span, &place, &v)?;
         Ok(())
     }
 
-    /// An assignment to a target, of a value whose first site has the place `start`. To a pattern it is one to the string that its
-    /// site names.
+    /// What the target of an assignment may name: of a pattern what the string does that the value of its site names.
     #[cycle(run)]
     #[inline(never)]
-    fn assign_at(
+    fn place(
         &self,
         room: u32,
         dag: &mut Dag,
         state: &mut SymState,
         at: &mut usize,
         span: Span,
-        start: usize,
-        target: &PExpr,
-        value: &PExpr,
-    ) -> Result<(), AllocError>
+        e: &PExpr,
+    ) -> Result<Place, AllocError>
         requires stands { StateStands dag.old self.now.setting.expanded.now.prog state.old }
         ensures keeps { Keeps dag.old dag.new }
-        ensures executed { OnOk result (IsExecuted self.now dag.old dag.new state.old state.new at.old at.new (assign_at_part self.now span start target.now value.now)) }
+        ensures placed { IfOk result (λ p. IsPlaced self.now dag.old dag.new state.old state.new at.old at.new (target_part self.now span e.now) p) }
     {
-        match &target.form {
+        match &e.form {
             PEForm::Pattern(strings) => {
-                let list = strings.as_slice();
-                self.assign_pattern(room, dag, state, at, span, start, list, value)
+                self.pattern_place(room, dag, state, at, span, strings.as_slice())
             }
-            _ => self.assign_one(room, dag, state, at, span, start, target, value),
+            _ => self.target_place(room, dag, state, at, span, e),
         }
     }
 
-    /// An assignment to a target that is no pattern.
+    /// What a target that is no pattern names.
     #[cycle(run)]
     #[inline(never)]
-    #[tactic(auto, using(crate::proofs::Sequences::keeping))]
-    fn assign_one(
+    fn target_place(
         &self,
         room: u32,
         dag: &mut Dag,
         state: &mut SymState,
         at: &mut usize,
         span: Span,
-        start: usize,
-        target: &PExpr,
-        value: &PExpr,
-    ) -> Result<(), AllocError>
+        e: &PExpr,
+    ) -> Result<Place, AllocError>
         requires stands { StateStands dag.old self.now.setting.expanded.now.prog state.old }
         ensures keeps { Keeps dag.old dag.new }
-        ensures executed { OnOk result (IsExecuted self.now dag.old dag.new state.old state.new at.old at.new (assign_at_part self.now span start target.now value.now)) }
+        ensures placed { IfOk result (λ p. IsPlaced self.now dag.old dag.new state.old state.new at.old at.new (target_part self.now span e.now) p) }
     {
-        let location = self.target(room, dag, state, at, span, target)?;
-        let mut from = start;
-        let v = self.eval(room, dag, state, &mut from, span, value)?;
-        assign(&self.setting, dag, state, span, &location, &v)?;
-        Ok(())
+        let location = self.target(room, dag, state, at, span, e)?;
+        Ok(Place::One(location))
     }
 
-    /// An assignment to a pattern. The value is walked once for each string that may be meant.
+    /// What a pattern may name as a target.
     #[cycle(run)]
     #[inline(never)]
-    fn assign_pattern(
+    fn pattern_place(
         &self,
         room: u32,
         dag: &mut Dag,
         state: &mut SymState,
         at: &mut usize,
         span: Span,
-        start: usize,
         list: &[PExpr],
-        value: &PExpr,
-    ) -> Result<(), AllocError>
+    ) -> Result<Place, AllocError>
         requires stands { StateStands dag.old self.now.setting.expanded.now.prog state.old }
         ensures keeps { Keeps dag.old dag.new }
-        ensures executed { OnOk result (IsExecuted self.now dag.old dag.new state.old state.new at.old at.new (assign_pattern_part self.now span start list.now value.now)) }
+        ensures placed { IfOk result (λ p. IsPlaced self.now dag.old dag.new state.old state.new at.old at.new (pattern_target self.now span list.now) p) }
     {
         let site = *at;
         pass_site(at)?;
-        self.assign_strings(room, dag, state, at, span, start, site, 0, list, value)?;
-        Ok(())
+        let p = self.places(room, dag, state, at, span, site, 0, list)?;
+        Ok(p)
     }
 
-    /// An assignment to one of some strings, whose first has number `k`, by the value of a site. One past the last string, which no
-    /// site has, counts as want of memory.
+    /// What one of some strings names, whose first has number `k`, by the value of a site. One past the last string, which no site has,
+    /// counts as want of memory.
     #[cycle(run)]
     #[inline(never)]
-    fn assign_strings(
+    fn places(
         &self,
         room: u32,
         dag: &mut Dag,
         state: &mut SymState,
         at: &mut usize,
         span: Span,
-        start: usize,
         site: usize,
         k: u64,
         list: &[PExpr],
-        value: &PExpr,
-    ) -> Result<(), AllocError>
+    ) -> Result<Place, AllocError>
         requires stands { StateStands dag.old self.now.setting.expanded.now.prog state.old }
         ensures keeps { Keeps dag.old dag.new }
-        ensures executed { OnOk result (IsExecuted self.now dag.old dag.new state.old state.new at.old at.new (assign_strings_part self.now span start site k list.now value.now)) }
+        ensures placed { IfOk result (λ p. IsPlaced self.now dag.old dag.new state.old state.new at.old at.new (strings_target self.now span site k list.now) p) }
     {
         if room == 0 {
             return Err(AllocError);
@@ -1101,91 +1089,85 @@ impl Activation<'_> {
         };
         let next = number_behind(k)?;
         let here = is_at_most(&self.setting, dag, site, k)?;
-        self.assign_string(
+        let p = self.string_place(
             room - 1,
             dag,
             state,
             at,
             span,
-            start,
             site,
             next,
             here,
             found.first,
             found.more,
-            value,
         )?;
-        Ok(())
+        Ok(p)
     }
 
-    /// An assignment to a string where a bit holds, and else to one of those behind it, whose first has number `next`.
+    /// What a string names where a bit holds, and else one of those behind it, whose first has number `next`.
     #[cycle(run)]
     #[inline(never)]
-    fn assign_string(
+    fn string_place(
         &self,
         room: u32,
         dag: &mut Dag,
         state: &mut SymState,
         at: &mut usize,
         span: Span,
-        start: usize,
         site: usize,
         next: u64,
         here: BoolId,
         first: &PExpr,
         more: &[PExpr],
-        value: &PExpr,
-    ) -> Result<(), AllocError>
+    ) -> Result<Place, AllocError>
         requires stands { StateStands dag.old self.now.setting.expanded.now.prog state.old }
         requires here { HasBool dag.old.nodes here }
         ensures keeps { Keeps dag.old dag.new }
-        ensures executed { OnOk result (IsExecutedOn self.now dag.old dag.new state.old state.new at.old at.new (IsBit here) (assign_string_part self.now span start site next first.now more.now value.now)) }
+        ensures placed { IfOk result (λ p. IsPlacedOn self.now dag.old dag.new state.old state.new at.old at.new (IsBit here) (string_target self.now span site next first.now more.now) p) }
     {
         match known_bool(dag, here) {
             Some(true) => {
-                self.assign_at(room, dag, state, at, span, start, first, value)?;
-                pass_exprs(at, more)
+                let p = self.place(room, dag, state, at, span, first)?;
+                pass_exprs(at, more)?;
+                Ok(p)
             }
             Some(false) => {
                 pass_expr(at, first)?;
-                self.assign_strings(room, dag, state, at, span, start, site, next, more, value)
+                self.places(room, dag, state, at, span, site, next, more)
             }
-            None => self.assign_either(
-                room, dag, state, at, span, start, site, next, here, first, more, value,
-            ),
+            None => self.both_places(room, dag, state, at, span, site, next, here, first, more),
         }
     }
 
-    /// Assignments to a string and to those behind it, of which one is done by a bit.
+    /// What a string and those behind it name, of which one is meant by a bit.
     #[cycle(run)]
     #[inline(never)]
     #[tactic(auto, using(crate::proofs::Sequences::keeping))]
-    fn assign_either(
+    fn both_places(
         &self,
         room: u32,
         dag: &mut Dag,
         state: &mut SymState,
         at: &mut usize,
         span: Span,
-        start: usize,
         site: usize,
         next: u64,
         here: BoolId,
         first: &PExpr,
         more: &[PExpr],
-        value: &PExpr,
-    ) -> Result<(), AllocError>
+    ) -> Result<Place, AllocError>
         requires stands { StateStands dag.old self.now.setting.expanded.now.prog state.old }
         requires here { HasBool dag.old.nodes here }
         ensures keeps { Keeps dag.old dag.new }
-        ensures executed { OnOk result (IsExecutedOn self.now dag.old dag.new state.old state.new at.old at.new (IsBit here) (assign_string_part self.now span start site next first.now more.now value.now)) }
+        ensures placed { IfOk result (λ p. IsPlacedOn self.now dag.old dag.new state.old state.new at.old at.new (IsBit here) (string_target self.now span site next first.now more.now) p) }
     {
         let waits = state.fork(&self.setting, dag, here)?;
-        self.assign_at(room, dag, state, at, span, start, first, value)?;
+        let x = self.place(room, dag, state, at, span, first)?;
         let gone = state.turn(waits);
-        self.assign_strings(room, dag, state, at, span, start, site, next, more, value)?;
+        let y = self.places(room, dag, state, at, span, site, next, more)?;
         state.join(&self.setting, dag, here, gone)?;
-        Ok(())
+        let p = Place::either(self.setting.alloc, here, x, y)?;
+        Ok(p)
     }
 
     /// The fields that a new record is given.

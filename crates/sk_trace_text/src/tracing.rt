@@ -2,7 +2,7 @@
 
 ghost use Rattle.std.specs.Prelude.{ℕ, ◌≡◌, ◌≤◌, List, length, IfOk, IfErr, MatchResult, IsTrue};
 ghost use Rattle.sk_model.specs.declared.outcome.Outcome.{Outcome};
-ghost use Rattle.sk_holes.specs.Needs.{HasItsSites, are_narrow};
+ghost use Rattle.sk_expand_sites.specs.Needs.{HasItsSites, are_narrow};
 ghost use Rattle.sk_opts.specs.Ranges.{IsInRanges, AreInRanges};
 ghost use Rattle.sk_front.specs.Texts.{most_bytes};
 ghost use Rattle.sk_front.specs.declared.fault.SketchFault.{SketchFault};

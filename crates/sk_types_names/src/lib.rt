@@ -1,4 +1,4 @@
-//! Typing of expressions: what an expression becomes where a type is wanted.
+//! Tables of names, constants, the own types of expressions, and what forms want of their parts.
 #![tactic(auto)]
 
 mod env;

@@ -5,6 +5,7 @@ ghost use Rattle.sk_types_plain.specs.Plainer.{with_item};
 
 use crate::copy::{copy_any_name, copy_any_ty, copy_fields, copy_params};
 use crate::expr::{copy_expr, copy_name};
+use crate::single::beside;
 use crate::stmt::plain_stmts;
 use sk_base::List;
 use sk_tree::{FunItem, Item, Tree};
@@ -14,11 +15,11 @@ fn plain_fun(alloc: Global, item: &FunItem) -> Result<FunItem, AllocError>
     ensures { IfOk result (λ made. made ≡ plain_fun item.now) }
 {
     let result = copy_any_ty(alloc, &item.result)?;
-    let name = copy_name(alloc, &item.name)?;
-    let params = copy_params(alloc, item.params.as_slice())?;
-    let implements = copy_any_name(alloc, &item.implements)?;
-    let body = plain_stmts(alloc, item.body.as_slice())?;
-    Ok(FunItem {
+    let head = beside(result, copy_name(alloc, &item.name))?;
+    let head = beside(head, copy_params(alloc, item.params.as_slice()))?;
+    let head = beside(head, copy_any_name(alloc, &item.implements))?;
+    let (((result, name), params), implements) = head;
+    plain_stmts(alloc, item.body.as_slice()).map(|body| FunItem {
         kind: item.kind,
         result,
         name,

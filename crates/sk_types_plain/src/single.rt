@@ -1,5 +1,5 @@
 //! Statements that hold no statements, and how those that do are put together.
-ghost use Rattle.std.specs.Prelude.{◌≡◌, ◌++◌, [], ◌∷◌, IfOk};
+ghost use Rattle.std.specs.Prelude.{◌≡◌, ◌++◌, [], ◌∷◌, IfOk, MatchResult, Ok, Err};
 ghost use Rattle.sk_tree.specs.declared.stmt.Form.TheVariants as form;
 ghost use Rattle.sk_types_rules.specs.Plain.{stepped, stmt_at, a_block, in_block, one, declared_alone};
 ghost use Rattle.sk_types_plain.specs.Plainer.{seen};
@@ -10,6 +10,25 @@ use crate::step::stepped;
 use sk_base::{Boxed, List, Span};
 use sk_tree::{Declared, Expr, Form, StepKind, Stmt, TyTree};
 use std::alloc::{AllocError, Global};
+
+/// A held value beside one just made, or the error of its making. What is held is dropped here alone, so that the caller's
+/// proof has no drop of a tree at the exit.
+pub fn beside<A: Drop, B, E>(held: A, made: Result<B, E>) -> Result<(A, B), E>
+    ensures { MatchResult made (λ b. result ≡ Ok (held, b)) (λ e. result ≡ Err e) }
+{
+    match made {
+        Ok(b) => Ok((held, b)),
+        Err(e) => Err(e),
+    }
+}
+
+/// One more statement.
+fn add(stmts: &mut List<Stmt>, stmt: Stmt) -> Result<(), AllocError>
+    ensures { IfOk result (λ done. stmts.new ≡ stmts.old ++ stmt ∷ []) }
+{
+    stmts.push(stmt)?;
+    Ok(())
+}
 
 /// What a statement becomes.
 #[derive(Drop)]
@@ -37,7 +56,7 @@ pub fn into_stmts(alloc: Global, plain: Rewritten) -> Result<List<Stmt>, AllocEr
     match plain {
         Rewritten::Block(stmt) => {
             let mut stmts = List::new(alloc);
-            stmts.push(stmt)?;
+            add(&mut stmts, stmt)?;
             Ok(stmts)
         }
         Rewritten::Row { span: _, stmts } => Ok(stmts),
@@ -59,7 +78,7 @@ pub fn one(alloc: Global, span: Span, form: Form) -> Result<Rewritten, AllocErro
     ensures { IfOk result (λ p. seen p ≡ one span form) }
 {
     let mut stmts = List::new(alloc);
-    stmts.push(Stmt { span, form })?;
+    add(&mut stmts, Stmt { span, form })?;
     Ok(Rewritten::Row { span, stmts })
 }
 
@@ -93,7 +112,7 @@ fn declared_alone(
     let mut stmts = List::new(alloc);
     for declared in names {
         let stmt = declared_one(alloc, span, ty, declared)?;
-        stmts.push(stmt)?;
+        add(&mut stmts, stmt)?;
     }
     Ok(stmts)
 }
@@ -116,7 +135,7 @@ fn turn(alloc: Global, span: Span, body: Stmt, next: List<Stmt>) -> Result<Boxed
     ensures { IfOk result (λ stmt. stmt ≡ stmt_at span (form.Block (body ∷ next))) }
 {
     let mut stmts = List::new(alloc);
-    stmts.push(body)?;
+    add(&mut stmts, body)?;
     stmts.append(next)?;
     let turn = Boxed::new(alloc, block(span, stmts))?;
     Ok(turn)
@@ -136,10 +155,13 @@ pub fn looped(
     let body = turn(alloc, span, body, next)?;
     let cond = copy_expr(alloc, cond)?;
     let mut stmts = first;
-    stmts.push(Stmt {
-        span,
-        form: Form::While { cond, body },
-    })?;
+    add(
+        &mut stmts,
+        Stmt {
+            span,
+            form: Form::While { cond, body },
+        },
+    )?;
     Ok(Rewritten::Block(block(span, stmts)))
 }
 
@@ -153,7 +175,7 @@ pub fn assigned(
     ensures { IfOk result (λ p. seen p ≡ one span (form.Assign target.now value.now)) }
 {
     let target = copy_expr(alloc, target)?;
-    let value = copy_expr(alloc, value)?;
+    let (target, value) = beside(target, copy_expr(alloc, value))?;
     one(alloc, span, Form::Assign { target, value })
 }
 
@@ -168,7 +190,7 @@ pub fn step(
     ensures { IfOk result (λ p. seen p ≡ one span (form.Assign target.now (stepped kind span target.now by.now))) }
 {
     let value = stepped(alloc, kind, span, target, by)?;
-    let target = copy_expr(alloc, target)?;
+    let (value, target) = beside(value, copy_expr(alloc, target))?;
     one(alloc, span, Form::Assign { target, value })
 }
 

@@ -5,8 +5,8 @@ ghost use Rattle.sk_types_rules.specs.Plain.{any_body, all_made, plainly, plain_
 ghost use Rattle.sk_types_plain.specs.Plainer.{seen, form_plainly};
 
 use crate::single::{
-    Rewritten, asserted, assigned, assumed, block, called, conditional, declared_row, into_body,
-    into_stmts, looped, minimized, one, repeated, returned, step, while_loop,
+    Rewritten, asserted, assigned, assumed, beside, block, called, conditional, declared_row,
+    into_body, into_stmts, looped, minimized, one, repeated, returned, step, while_loop,
 };
 use sk_base::{Boxed, List, Span};
 use sk_tree::{Expr, Form, Stmt};
@@ -135,8 +135,8 @@ fn form_plain(alloc: Global, span: Span, form: &Form) -> Result<Rewritten, Alloc
             body,
         } => {
             let first = made(alloc, first.get())?;
-            let next = made(alloc, next.get())?;
-            let body = plainly(alloc, body.get())?;
+            let rows = beside(first, made(alloc, next.get()))?;
+            let ((first, next), body) = beside(rows, plainly(alloc, body.get()))?;
             looped(alloc, span, first, cond, next, into_body(body))
         }
         Form::Return(e) => returned(alloc, span, e),

@@ -2,5 +2,4 @@ pub mod TargetLaws
 pub mod RoomLaws
 pub mod TypeLaws
 pub mod CallLaws
-pub mod IfLaws
 pub mod DeclareLaws

@@ -1,12 +1,13 @@
 //! Statements of plain trees.
 ghost use Rattle.std.specs.Prelude.{◌≡◌, map, option_map};
+ghost use Rattle.sk_types_stmts.specs.Statements.{copies};
 ghost use Rattle.sk_tree.specs.declared.stmt.Form.TheVariants as form;
 ghost use Rattle.sk_types_laws.specs.Making.{inside, any_inside, block, make_form, make, make_all};
 ghost use Rattle.sk_types_names.specs.Envs.{context_of, IsEnv};
 ghost use Rattle.sk_types_names.specs.Leaves.{Leaves};
 
 use crate::single::{
-    alone, assign, body_fault, call_of, count_at, declare_one, may_reorder, returned,
+    alone, assign, beside, body_fault, call_of, count_at, declare_one, may_reorder, returned,
 };
 use crate::target::value_at;
 use sk_base::{Boxed, List, Span};
@@ -34,6 +35,22 @@ fn inside(
 }
 
 #[cycle(making)]
+fn boxed_inside(
+    env: &Env,
+    returns: Option<Ty>,
+    scope: &mut Scope,
+    from: usize,
+    stmt: &Stmt,
+) -> Result<Boxed<PStmt>, Typing>
+    requires { IsEnv env.now }
+    ensures { Leaves result scope.new (inside (make (context_of env.now) returns stmt.now) from scope.old) }
+{
+    let made = inside(env, returns, scope, from, stmt)?;
+    let made = Boxed::new(env.alloc, made)?;
+    Ok(made)
+}
+
+#[cycle(making)]
 fn any_inside(
     env: &Env,
     returns: Option<Ty>,
@@ -47,8 +64,7 @@ fn any_inside(
     match stmt {
         None => Ok(None),
         Some(stmt) => {
-            let made = inside(env, returns, scope, from, stmt.get())?;
-            let made = Boxed::new(env.alloc, made)?;
+            let made = boxed_inside(env, returns, scope, from, stmt.get())?;
             Ok(Some(made))
         }
     }
@@ -110,8 +126,28 @@ fn make(
     })
 }
 
+/// The body of a loop, in a box.
 #[cycle(making)]
 #[tactic(auto, using(sk_types_exprs::proofs::PartLaws::fails_nothing))]
+fn loop_body(
+    env: &Env,
+    returns: Option<Ty>,
+    scope: &mut Scope,
+    from: usize,
+    body: &Stmt,
+) -> Result<Boxed<PStmt>, Typing>
+    requires { IsEnv env.now }
+    ensures { Leaves result scope.new (inside (make (context_of env.now) returns body.now) from scope.old) }
+{
+    let count = scope.len();
+    match boxed_inside(env, returns, scope, from, body) {
+        Ok(made) => Ok(made),
+        Err(Typing::Memory) => Err(Typing::Memory),
+        Err(Typing::Fault(why)) => { Err(body_fault(env, scope, count, body, Typing::Fault(why))) }
+    }
+}
+
+#[cycle(making)]
 fn make_while(
     env: &Env,
     returns: Option<Ty>,
@@ -124,16 +160,39 @@ fn make_while(
     ensures { Leaves result scope.new (make_form (context_of env.now) returns (form.While cond.now body.now) from scope.old) }
 {
     let cond = value_at(env, scope, BIT, cond)?;
-    let count = scope.len();
-    let made = match inside(env, returns, scope, from, body) {
-        Ok(made) => made,
-        Err(Typing::Memory) => return Err(Typing::Memory),
-        Err(Typing::Fault(why)) => {
-            return Err(body_fault(env, scope, count, body, Typing::Fault(why)));
-        }
-    };
-    let body = Boxed::new(env.alloc, made)?;
-    Ok(PForm::While { cond, body })
+    loop_body(env, returns, scope, from, body).map(|body| PForm::While { cond, body })
+}
+
+/// The copies of a repeat before expansion: its body alone.
+#[cycle(making)]
+fn copies(
+    env: &Env,
+    returns: Option<Ty>,
+    scope: &mut Scope,
+    from: usize,
+    body: &Stmt,
+) -> Result<List<PStmt>, Typing>
+    requires { IsEnv env.now }
+    ensures { Leaves result scope.new (copies (make (context_of env.now) returns body.now) from scope.old) }
+{
+    let body = inside(env, returns, scope, from, body)?;
+    alone(env.alloc, body)
+}
+
+#[cycle(making)]
+fn make_repeat(
+    env: &Env,
+    returns: Option<Ty>,
+    scope: &mut Scope,
+    from: usize,
+    body: &Stmt,
+    count: &Expr,
+) -> Result<PForm, Typing>
+    requires { IsEnv env.now }
+    ensures { Leaves result scope.new (make_form (context_of env.now) returns (form.Repeat count.now body.now) from scope.old) }
+{
+    let count = count_at(env, scope, count)?;
+    copies(env, returns, scope, from, body).map(|copies| PForm::Repeat { count, copies })
 }
 
 #[cycle(making)]
@@ -182,10 +241,12 @@ fn make_form(
         }
         Form::If { cond, then, other } => {
             let cond = value_at(env, scope, BIT, cond)?;
-            let then = inside(env, returns, scope, from, then.get())?;
-            let then = Boxed::new(env.alloc, then)?;
-            let other = any_inside(env, returns, scope, from, other)?;
-            Ok(PForm::If { cond, then, other })
+            let (cond, then) = beside(cond, boxed_inside(env, returns, scope, from, then.get()))?;
+            any_inside(env, returns, scope, from, other).map(|other| PForm::If {
+                cond,
+                then,
+                other,
+            })
         }
         Form::While { cond, body } => make_while(env, returns, scope, from, body.get(), cond),
         Form::Return(value) => returned(env, scope, returns, span, value),
@@ -202,14 +263,10 @@ fn make_form(
             Ok(PForm::Minimize(e))
         }
         Form::Repeat { count, body } => {
-            let count = count_at(env, scope, count)?;
-            let body = inside(env, returns, scope, from, body.get())?;
-            let copies = alone(env.alloc, body)?;
-            Ok(PForm::Repeat { count, copies })
+            make_repeat(env, returns, scope, from, body.get(), count)
         }
         Form::MinRepeat(body) => {
-            let body = inside(env, returns, scope, from, body.get())?;
-            let copies = alone(env.alloc, body)?;
+            let copies = copies(env, returns, scope, from, body.get())?;
             Ok(PForm::MinRepeat(copies))
         }
         Form::Reorder(stmts) => { make_reorder(env, returns, scope, from, span, stmts.as_slice()) }

@@ -1,12 +1,12 @@
 //! Statements that hold no statements.
-ghost use Rattle.std.specs.Prelude.{◌≡◌, ◌++◌, [], ◌∷◌, ◌≤◌, Some, IsTrue, map};
+ghost use Rattle.std.specs.Prelude.{◌≡◌, ◌++◌, [], ◌∷◌, ◌≤◌, length, MatchResult, Ok, Err, Some, IsTrue, map};
 ghost use Rattle.std.specs.List.{list_any};
 ghost use Rattle.sk_types_rules.specs.Rules.{only_if, is_length, is_grid};
 ghost use Rattle.sk_prog.specs.declared.ty.Ty.TheVariants as ty;
 ghost use Rattle.sk_types_rules.specs.Constants.{constant_number};
 ghost use Rattle.sk_types_rules.specs.Sorts.{base_elem, with_lengths, written_type};
 ghost use Rattle.sk_types_rules.specs.Types.{is_declaration, may_reorder};
-ghost use Rattle.sk_types_laws.specs.Making.{any_value_at, call_of, count_at, declare, declare_one, returned};
+ghost use Rattle.sk_types_laws.specs.Making.{any_value_at, call_of, count_at, declare, declare_one, makes, returned};
 ghost use Rattle.sk_types_names.specs.Gives.{Gives, Makes};
 ghost use Rattle.sk_types_names.specs.Envs.{context_of, IsEnv};
 ghost use Rattle.sk_types_names.specs.Leaves.{Enters, Leaves};
@@ -21,6 +21,17 @@ use sk_types_laws::{Called, Rule, Typing};
 use sk_types_names::{Env, INT, Scope, copied, fault, numbered, struct_meant, typed};
 use sk_types_rules::{Variable, is_taken};
 use std::alloc::Global;
+
+/// A held value beside one just made, or the error of its making. What is held is dropped here alone, so that the caller's
+/// proof has no drop of a tree at the exit.
+pub fn beside<A: Drop, B>(held: A, made: Result<B, Typing>) -> Result<(A, B), Typing>
+    ensures { MatchResult made (λ b. result ≡ Ok (held, b)) (λ e. result ≡ Err e) }
+{
+    match made {
+        Ok(b) => Ok((held, b)),
+        Err(e) => Err(e),
+    }
+}
 
 /// One more variable.
 pub fn enter(alloc: Global, scope: &mut Scope, name: &Name, ty: Ty) -> Result<(), Typing>
@@ -279,6 +290,16 @@ pub fn written(env: &Env, scope: &Scope, span: Span, ty: &TyTree) -> Result<Ty, 
     }
 }
 
+/// A further variable, and its slot and name.
+fn place(env: &Env, scope: &mut Scope, name: &Name, ty: Ty) -> Result<(u32, Name), Typing>
+    ensures { Leaves result scope.new (makes (length scope.old, name.now) (scope.old ++ record { name = name.now; ty = ty } ∷ [])) }
+{
+    let slot = numbered(scope.len())?;
+    let held = copied(env.alloc, name)?;
+    enter(env.alloc, scope, name, ty)?;
+    Ok((slot, held))
+}
+
 /// A declaration in the block whose variables begin at this slot.
 fn declare(
     env: &Env,
@@ -296,10 +317,7 @@ fn declare(
         return Err(fault(Rule::Twice, span));
     }
     let value = any_value_at(env, scope, ty, &declared.value)?;
-    let slot = numbered(scope.len())?;
-    let name = copied(env.alloc, &declared.name)?;
-    enter(env.alloc, scope, &declared.name, ty)?;
-    Ok(PForm::Declare {
+    place(env, scope, &declared.name, ty).map(|(slot, name)| PForm::Declare {
         slot,
         name,
         ty,
@@ -331,11 +349,14 @@ pub fn assign(env: &Env, scope: &Scope, target: &Expr, value: &Expr) -> Result<P
     ensures { Leaves result scope.now (assigned (context_of env.now) scope.now target.now value.now) }
 {
     let target = target_at(env, scope, target)?;
-    let Some(ty) = target.ty else {
-        return Err(fault(Rule::NotTarget, target.span));
-    };
-    let value = value_at(env, scope, ty, value)?;
-    Ok(PForm::Assign { target, value })
+    match target.ty {
+        None => {
+            let span = target.span;
+            drop(target);
+            Err(fault(Rule::NotTarget, span))
+        }
+        Some(ty) => value_at(env, scope, ty, value).map(|value| PForm::Assign { target, value }),
+    }
 }
 
 /// The first fault of an assignment that stands before the first statement of its block in the text, as the step of a

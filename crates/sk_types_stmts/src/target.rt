@@ -44,7 +44,9 @@ fn stands(env: &Env, scope: &Scope, ty: Ty, e: &Expr) -> Result<bool, Typing>
     ensures { Makes result ((sort (context_of env.now) scope.now e.now).at ty) }
 {
     let made = standing(env, scope, ty, e)?;
-    Ok(made.is_some())
+    let stands = made.is_some();
+    drop(made);
+    Ok(stands)
 }
 
 /// The type of an element of a target, where its index stands as an integer.

@@ -10,6 +10,8 @@ use std::process::ExitCode;
 
 /// The status where the runtime does not give the words.
 const NO_WORDS: u8 = 24;
+/// The first status that a line on standard error tells more of.
+const FIRST_TOLD: u8 = 10;
 
 /// Writes a line to standard error. Where that fails, nothing else is to be done.
 fn say(errors: &mut impl Write, line: &[u8]) {
@@ -17,21 +19,13 @@ fn say(errors: &mut impl Write, line: &[u8]) {
     let _ = errors.write_all(b"\n");
 }
 
-/// Says what an ending has to say. One whose line cannot be made ends as want of memory does, whose line takes none.
-fn tell(rt: &HostRuntime, ending: &Ending) -> u8 {
-    let told = status(ending);
-    if told < 10 {
-        return told;
+/// Says what an ending has to say. Where there is no memory for the line, nothing is said, and the status stays as it is.
+fn tell(rt: &HostRuntime, ending: &Ending) {
+    if status(ending) < FIRST_TOLD {
+        return;
     }
-    match message(rt.alloc(), ending) {
-        Ok(line) => {
-            say(&mut rt.stderr(), line.as_bytes());
-            told
-        }
-        Err(_) => {
-            say(&mut rt.stderr(), b"no memory");
-            status(&Ending::Memory)
-        }
+    if let Ok(line) = message(rt.alloc(), ending) {
+        say(&mut rt.stderr(), line.as_bytes());
     }
 }
 
@@ -64,11 +58,11 @@ fn main(rt: HostRuntime) -> ExitCode {
     let mut source = KeptSource::new(alloc, StdSource::new(rt.stdin()));
     let mut sink = StdSink::new(rt.stdout());
     let ending = run(alloc, words.as_slice(), &mut source, &mut sink);
-    let told = tell(&rt, &ending);
-    if told == status(&ending) && is_explained(&rt) {
+    tell(&rt, &ending);
+    if is_explained(&rt) {
         say_more(&rt, words.as_slice(), source.kept(), &ending);
     }
-    ExitCode::from(told)
+    ExitCode::from(status(&ending))
 }
 
 /// The words behind the program's own name.

@@ -1,6 +1,6 @@
 use Rattle.std.proofs.Common.{◌≡◌, drop, ◌++◌}
 use Rattle.std.specs.Prelude.{IsTrue}
-use Rattle.sk_holes.specs.Needs.{are_numbers}
+use Rattle.sk_holes.specs.Range.{are_numbers}
 use Rattle.sk_holes.proofs.program.numbers.Given as goal
 
 abbrev pub invariant-loop-value : goal.invariant-loop-value

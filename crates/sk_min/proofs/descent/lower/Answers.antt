@@ -2,7 +2,8 @@ use Rattle.std.proofs.Common.{◌-◌, ◌<◌, Some, refl, subst, arith}
 use Rattle.sk_loop.specs.declared.found.Found.{Found}
 use Rattle.sk_loop.specs.Found.{IsFound}
 use Rattle.sk_loop_laws.specs.Honest.{inputs_of}
-use Rattle.sk_min.proofs.Bests.{best_of, none_below}
+use Rattle.sk_min_laws.proofs.Bests.{best_of}
+use Rattle.sk_min.proofs.Bests.{none_below}
 use Rattle.sk_min.proofs.Lowers.{limited_below, short_of_grown, state_lower, still}
 use Rattle.sk_min.proofs.descent.lower.Goals as goal
 

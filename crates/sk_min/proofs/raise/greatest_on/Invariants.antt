@@ -1,6 +1,6 @@
 use Rattle.std.proofs.Common.{◌≡◌, take}
 use Rattle.sk_loop_laws.specs.Honest.{inputs_of}
-use Rattle.sk_min.specs.Least.{greatest_on}
+use Rattle.sk_min_laws.specs.Best.{greatest_on}
 use Rattle.sk_min.proofs.raise.greatest_on.Given as goal
 
 abbrev pub invariant-loop-pair : goal.invariant-loop-pair

@@ -1,6 +1,6 @@
 use Rattle.std.proofs.Common.{◌≡◌}
 use Rattle.sk_loop_laws.specs.Honest.{Honest, inputs_of}
-use Rattle.sk_min.specs.Least.{greatest_on}
+use Rattle.sk_min_laws.specs.Best.{greatest_on}
 use Rattle.sk_min.specs.Search.{IsBehind}
 use Rattle.sk_min.proofs.raise.raise.Given as goal
 

@@ -5,4 +5,4 @@ use Rattle.sk_types_stmts.proofs.TargetLaws.{stands_if}
 use Rattle.sk_types_stmts.proofs.target.stands.Goals as goal
 
 pub returns : goal.returns
-returns c = stands_if (context_of c.args.env.now) c.args.scope.now c.args.ty c.args.e.now ∙ ap is_some c.in_ok-made.ensures ∙ sym c.is_some.ensures
+returns c = stands_if (context_of c.args.env.now) c.args.scope.now c.args.ty c.args.e.now ∙ ap is_some c.in_ok-made.ensures ∙ sym c.is_some-stands.ensures

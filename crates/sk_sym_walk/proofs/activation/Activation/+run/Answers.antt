@@ -37,11 +37,12 @@ use Rattle.sk_sym_walk.proofs.Orders.{same_reorder, turn_more, turns_more, turns
 use Rattle.sk_model.specs.Heap.{allocate}
 use Rattle.sk_sym_steps.specs.Steps.{EvaluatesOn}
 use Rattle.sk_sym_stores.specs.Records.{InitsStand, InitsAre}
-use Rattle.sk_sym_stores.proofs.Locating.{LocationStands-keeps}
-use Rattle.sk_sym_walk.specs.Targets.{fields_part, AreSetTo}
+use Rattle.sk_sym_places.proofs.Places.{PlaceStands-keeps}
+use Rattle.sk_sym_walk.specs.Targets.{target_part, fields_part, AreSetTo}
 use Rattle.sk_sym_walk.proofs.Targets.{located_as, same_variable_target, same_field_target, same_index_target, same_new, same_assign, variable_located, field_located, index_located, fields_none, fields_more, new_evaluated}
-use Rattle.sk_sym_walk.specs.Patterns.{strings_part, assign_at_part, assign_strings_part}
-use Rattle.sk_sym_walk.proofs.Patterns.{same_pattern, pattern_evaluated, strings_evaluated, strings_behind, assign_executed, one_assigned, same_pattern_target, pattern_assigned, strings_assigned, string_behind, assigned_behind}
+use Rattle.sk_sym_walk.specs.Patterns.{strings_part, strings_target}
+use Rattle.sk_sym_walk.proofs.Patterns.{same_pattern, pattern_evaluated, strings_evaluated, strings_behind}
+use Rattle.sk_sym_walk.proofs.Placed.{placed_as, one_placed, same_pattern_target, pattern_placed, strings_placed, first_placed, second_placed, both_placed, assigned}
 use Rattle.sk_sym_walk.proofs.activation.Activation.+run.Goals as goal
 
 -- ---- forms
@@ -1247,117 +1248,120 @@ end_call-returns-clause-evaluates t c =
 
 -- ---- assignments, also to patterns
 
-pub assign-assign_at-requires : goal.assign-assign_at-requires
-assign-assign_at-requires t c = (omega arith, c.requires.stands)
+pub assign-place-requires : goal.assign-place-requires
+assign-place-requires t c = (omega arith, c.requires.stands)
+
+pub assign-eval-requires : goal.assign-eval-requires
+assign-eval-requires t c = (omega arith, c.in_ok-place.ensures.placed.places.does.moves.stands)
+
+pub assign-assign-requires-clause-place : goal.assign-assign-requires-clause-place
+assign-assign-requires-clause-place t c = PlaceStands-keeps c.in_ok-v.ensures.evaluated.evaluates.does.moves.keeps c.in_ok-place.ensures.placed.places.there
+
+pub assign-returns-in_err-v-clause-keeps : goal.assign-returns-in_err-v-clause-keeps
+assign-returns-in_err-v-clause-keeps t c = Keeps-trans c.in_ok-place.ensures.keeps c.eval.ensures.keeps
+
+pub assign-returns-in_err-assign-clause-keeps : goal.assign-returns-in_err-assign-clause-keeps
+assign-returns-in_err-assign-clause-keeps t c = Keeps-trans c.in_ok-place.ensures.keeps (Keeps-trans c.in_ok-v.ensures.keeps c.assign.ensures.keeps)
+
+pub assign-returns-clause-keeps : goal.assign-returns-clause-keeps
+assign-returns-clause-keeps t c = Keeps-trans c.in_ok-place.ensures.keeps (Keeps-trans c.in_ok-v.ensures.keeps c.in_ok-assign.ensures.keeps)
 
 pub assign-returns-clause-executed : goal.assign-returns-clause-executed
-assign-returns-clause-executed t c = assign_executed c.args.span c.args.target.now c.args.value.now c.in_ok-pass_expr.ensures c.in_ok-assign_at.ensures.executed c.in_ok-pass_expr-2.ensures
+assign-returns-clause-executed t c = assigned c.args.span c.args.target.now c.args.value.now c.in_ok-place.ensures.placed c.in_ok-v.ensures.evaluated c.in_ok-assign.ensures.executes
 
-pub assign_at-assign_pattern-requires : goal.assign_at-assign_pattern-requires
-assign_at-assign_pattern-requires t c = (omega arith, c.requires.stands)
+pub place-pattern_place-requires : goal.place-pattern_place-requires
+place-pattern_place-requires t c = (omega arith, c.requires.stands)
 
-pub assign_at-assign_one-requires : goal.assign_at-assign_one-requires
-assign_at-assign_one-requires t c = (omega arith, c.requires.stands)
+pub place-target_place-requires : goal.place-target_place-requires
+place-target_place-requires t c = (omega arith, c.requires.stands)
 
-pub assign_at-returns-in-Pattern-clause-executed : goal.assign_at-returns-in-Pattern-clause-executed
-assign_at-returns-in-Pattern-clause-executed t c =
-    let is = rw (← c.as_slice-list.ensures) at c.in-Pattern.is in
-    on_ok c.assign_pattern.result (executed_as (same_pattern_target c.args.self.now c.args.span c.args.start c.args.target.now c.args.value.now c.as_slice-list.result.now is)) c.assign_pattern.ensures.executed
+pub place-returns-in-Pattern-clause-placed : goal.place-returns-in-Pattern-clause-placed
+place-returns-in-Pattern-clause-placed t c =
+    let is = rw (← c.as_slice.ensures) at c.in-Pattern.is in
+    ok_more c.pattern_place.result (λ p. placed_as (same_pattern_target c.args.self.now c.args.span c.args.e.now c.as_slice.result.now is)) c.pattern_place.ensures.placed
 
-pub assign_one-target-requires : goal.assign_one-target-requires
-assign_one-target-requires t c = (omega arith, c.requires.stands)
+pub target_place-target-requires : goal.target_place-target-requires
+target_place-target-requires t c = (omega arith, c.requires.stands)
 
-pub assign_one-eval-requires : goal.assign_one-eval-requires
-assign_one-eval-requires t c = (omega arith, c.in_ok-location.ensures.located.locates.does.moves.stands)
+pub target_place-returns-clause-placed : goal.target_place-returns-clause-placed
+target_place-returns-clause-placed t c = one_placed c.in_ok-location.ensures.located
 
-pub assign_one-assign-requires-clause-location : goal.assign_one-assign-requires-clause-location
-assign_one-assign-requires-clause-location t c = LocationStands-keeps c.in_ok-v.ensures.evaluated.evaluates.does.moves.keeps c.in_ok-location.ensures.located.locates.there
+pub pattern_place-places-requires : goal.pattern_place-places-requires
+pattern_place-places-requires t c = (omega arith, c.requires.stands)
 
-pub assign_one-returns-in_err-v-clause-keeps : goal.assign_one-returns-in_err-v-clause-keeps
-assign_one-returns-in_err-v-clause-keeps t c = Keeps-trans c.in_ok-location.ensures.keeps c.eval.ensures.keeps
+pub pattern_place-returns-clause-placed : goal.pattern_place-returns-clause-placed
+pattern_place-returns-clause-placed t c = pattern_placed c.args.span c.args.list.now c.in_ok-pass_site.ensures c.in_ok-p.ensures.placed
 
-pub assign_one-returns-in_err-assign-clause-keeps : goal.assign_one-returns-in_err-assign-clause-keeps
-assign_one-returns-in_err-assign-clause-keeps t c = Keeps-trans c.in_ok-location.ensures.keeps (Keeps-trans c.in_ok-v.ensures.keeps c.assign.ensures.keeps)
+pub places-string_place-requires : goal.places-string_place-requires
+places-string_place-requires t c = (omega arith, (StateStands-keeps c.in_ok-here.ensures.keeps c.requires.stands, c.in_ok-here.ensures.there))
 
-pub assign_one-returns-clause-keeps : goal.assign_one-returns-clause-keeps
-assign_one-returns-clause-keeps t c = Keeps-trans c.in_ok-location.ensures.keeps (Keeps-trans c.in_ok-v.ensures.keeps c.in_ok-assign.ensures.keeps)
+pub places-returns-in_err-p-clause-keeps : goal.places-returns-in_err-p-clause-keeps
+places-returns-in_err-p-clause-keeps t c = Keeps-trans c.in_ok-here.ensures.keeps c.string_place.ensures.keeps
 
-pub assign_one-returns-clause-executed : goal.assign_one-returns-clause-executed
-assign_one-returns-clause-executed t c = one_assigned c.args.span c.args.target.now c.args.value.now c.in_ok-location.ensures.located c.in_ok-v.ensures.evaluated c.in_ok-assign.ensures.executes
+pub places-returns-clause-keeps : goal.places-returns-clause-keeps
+places-returns-clause-keeps t c = Keeps-trans c.in_ok-here.ensures.keeps c.in_ok-p.ensures.keeps
 
-pub assign_pattern-assign_strings-requires : goal.assign_pattern-assign_strings-requires
-assign_pattern-assign_strings-requires t c = (omega arith, c.requires.stands)
+pub places-returns-clause-placed : goal.places-returns-clause-placed
+places-returns-clause-placed t c = strings_placed c.in_ok-here.here c.args.span c.args.site c.args.k c.in_ok-next.next c.in-Some.ensures c.in_ok-next.ensures c.requires.stands c.in_ok-here.ensures.keeps c.in_ok-here.ensures.value c.in_ok-p.ensures.placed
 
-pub assign_pattern-returns-clause-executed : goal.assign_pattern-returns-clause-executed
-assign_pattern-returns-clause-executed t c = pattern_assigned c.args.span c.args.start c.args.list.now c.args.value.now c.in_ok-pass_site.ensures c.in_ok-assign_strings.ensures.executed
+pub string_place-place-requires : goal.string_place-place-requires
+string_place-place-requires t c = (omega arith, c.requires.stands)
 
-pub assign_strings-assign_string-requires : goal.assign_strings-assign_string-requires
-assign_strings-assign_string-requires t c = (omega arith, (StateStands-keeps c.in_ok-here.ensures.keeps c.requires.stands, c.in_ok-here.ensures.there))
+pub string_place-places-requires : goal.string_place-places-requires
+string_place-places-requires t c = (omega arith, c.requires.stands)
 
-pub assign_strings-returns-in_err-assign_string-clause-keeps : goal.assign_strings-returns-in_err-assign_string-clause-keeps
-assign_strings-returns-in_err-assign_string-clause-keeps t c = Keeps-trans c.in_ok-here.ensures.keeps c.assign_string.ensures.keeps
+pub string_place-both_places-requires : goal.string_place-both_places-requires
+string_place-both_places-requires t c = (omega arith, (c.requires.stands, c.requires.here))
 
-pub assign_strings-returns-clause-keeps : goal.assign_strings-returns-clause-keeps
-assign_strings-returns-clause-keeps t c = Keeps-trans c.in_ok-here.ensures.keeps c.in_ok-assign_string.ensures.keeps
+pub string_place-returns-in_ok-pass_exprs-in-Some-true-clause-placed : goal.string_place-returns-in_ok-pass_exprs-in-Some-true-clause-placed
+string_place-returns-in_ok-pass_exprs-in-Some-true-clause-placed t c =
+    let h = c.in_ok-p-in-Some-true.ensures.placed in
+    first_placed c.args.span c.args.here (target_part c.args.self.now c.args.span c.args.first.now) (strings_target c.args.self.now c.args.span c.args.site c.args.next c.args.more.now) (λ g more e. c.in-Some-true.ensures g (h.places.does.moves.keeps.later g more) e ∙ c.in-Some-true.field-0-test) h (strings_behind _ c.args.self.now c.args.span c.args.site c.args.next c.args.more.now c.in_ok-pass_exprs-in-Some-true.ensures)
 
-pub assign_strings-returns-clause-executed : goal.assign_strings-returns-clause-executed
-assign_strings-returns-clause-executed t c = strings_assigned c.in_ok-here.here c.args.span c.args.start c.args.site c.args.k c.in_ok-next.next c.args.value.now c.in-Some.ensures c.in_ok-next.ensures c.requires.stands c.in_ok-here.ensures.keeps c.in_ok-here.ensures.value c.in_ok-assign_string.ensures.executed
-
-pub assign_string-assign_at-requires : goal.assign_string-assign_at-requires
-assign_string-assign_at-requires t c = (omega arith, c.requires.stands)
-
-pub assign_string-assign_strings-requires : goal.assign_string-assign_strings-requires
-assign_string-assign_strings-requires t c = (omega arith, c.requires.stands)
-
-pub assign_string-assign_either-requires : goal.assign_string-assign_either-requires
-assign_string-assign_either-requires t c = (omega arith, (c.requires.stands, c.requires.here))
-
-pub assign_string-returns-in_ok-assign_at-in-Some-true-clause-executed : goal.assign_string-returns-in_ok-assign_at-in-Some-true-clause-executed
-assign_string-returns-in_ok-assign_at-in-Some-true-clause-executed t c =
-    let h = c.in_ok-assign_at-in-Some-true.ensures.executed in
-    on_ok c.pass_exprs.result (λ p. first_executed c.args.span c.args.here (assign_at_part c.args.self.now c.args.span c.args.start c.args.first.now c.args.value.now) (assign_strings_part c.args.self.now c.args.span c.args.start c.args.site c.args.next c.args.more.now c.args.value.now) (λ g more e. c.in-Some-true.ensures g (h.executes.moves.keeps.later g more) e ∙ c.in-Some-true.field-0-test) h (assigned_behind _ c.args.self.now c.args.span c.args.start c.args.site c.args.next c.args.more.now c.args.value.now p)) c.pass_exprs.ensures
-
-pub assign_string-returns-in_ok-pass_expr-in-Some-false-clause-executed : goal.assign_string-returns-in_ok-pass_expr-in-Some-false-clause-executed
-assign_string-returns-in_ok-pass_expr-in-Some-false-clause-executed t c =
+pub string_place-returns-in_ok-pass_expr-in-Some-false-clause-placed : goal.string_place-returns-in_ok-pass_expr-in-Some-false-clause-placed
+string_place-returns-in_ok-pass_expr-in-Some-false-clause-placed t c =
     let p = c.in_ok-pass_expr-in-Some-false.ensures in
-    on_ok c.assign_strings.result (λ h. second_executed c.args.span c.args.here (assign_at_part c.args.self.now c.args.span c.args.start c.args.first.now c.args.value.now) (assign_strings_part c.args.self.now c.args.span c.args.start c.args.site c.args.next c.args.more.now c.args.value.now) (λ g more e. c.in-Some-false.ensures g (h.executes.moves.keeps.later g more) e ∙ c.in-Some-false.field-0-test) (string_behind _ c.args.self.now c.args.span c.args.start c.args.first.now c.args.value.now p) h) c.assign_strings.ensures.executed
+    ok_more c.places.result (λ r h. second_placed c.args.span c.args.here (target_part c.args.self.now c.args.span c.args.first.now) (strings_target c.args.self.now c.args.span c.args.site c.args.next c.args.more.now) (λ g more e. c.in-Some-false.ensures g (h.places.does.moves.keeps.later g more) e ∙ c.in-Some-false.field-0-test) (expr_behind _ c.args.self.now c.args.span c.args.first.now p) h) c.places.ensures.placed
 
-pub assign_either-assign_at-requires : goal.assign_either-assign_at-requires
-assign_either-assign_at-requires t c = (omega arith, c.in_ok-waits.ensures.forked.stands)
+pub both_places-place-requires : goal.both_places-place-requires
+both_places-place-requires t c = (omega arith, c.in_ok-waits.ensures.forked.stands)
 
-pub assign_either-assign_strings-requires : goal.assign_either-assign_strings-requires
-assign_either-assign_strings-requires t c =
-    let a = c.in_ok-assign_at.ensures.executed.executes.moves in
+pub both_places-places-requires : goal.both_places-places-requires
+both_places-places-requires t c =
+    let a = c.in_ok-x.ensures.placed.places.does.moves in
     (omega arith, turned_stands c.turn-gone.ensures (SideStands-keeps a.keeps c.in_ok-waits.ensures.forked.waits) a.stands)
 
-pub assign_either-join-requires-clause-stands : goal.assign_either-join-requires-clause-stands
-assign_either-join-requires-clause-stands t c = c.in_ok-assign_strings.ensures.executed.executes.moves.stands
+pub both_places-join-requires-clause-stands : goal.both_places-join-requires-clause-stands
+both_places-join-requires-clause-stands t c = c.in_ok-y.ensures.placed.places.does.moves.stands
 
-pub assign_either-join-requires-clause-cond : goal.assign_either-join-requires-clause-cond
-assign_either-join-requires-clause-cond t c =
+pub both_places-join-requires-clause-cond : goal.both_places-join-requires-clause-cond
+both_places-join-requires-clause-cond t c =
     let f = c.in_ok-waits.ensures.forked in
-    let a = c.in_ok-assign_at.ensures.executed.executes.moves in
-    let b = c.in_ok-assign_strings.ensures.executed.executes.moves in
+    let a = c.in_ok-x.ensures.placed.places.does.moves in
+    let b = c.in_ok-y.ensures.placed.places.does.moves in
     (Keeps-trans f.keeps (Keeps-trans a.keeps b.keeps)).sorts _ BoolSort c.requires.here
 
-pub assign_either-join-requires-clause-gone : goal.assign_either-join-requires-clause-gone
-assign_either-join-requires-clause-gone t c =
+pub both_places-join-requires-clause-gone : goal.both_places-join-requires-clause-gone
+both_places-join-requires-clause-gone t c =
     let f = c.in_ok-waits.ensures.forked in
-    let a = c.in_ok-assign_at.ensures.executed.executes.moves in
-    let b = c.in_ok-assign_strings.ensures.executed.executes.moves in
+    let a = c.in_ok-x.ensures.placed.places.does.moves in
+    let b = c.in_ok-y.ensures.placed.places.does.moves in
     SideStands-keeps b.keeps (gone_stands c.turn-gone.ensures (SideStands-keeps a.keeps f.waits) a.stands)
 
-pub assign_either-returns-in_err-assign_at-clause-keeps : goal.assign_either-returns-in_err-assign_at-clause-keeps
-assign_either-returns-in_err-assign_at-clause-keeps t c = Keeps-trans c.in_ok-waits.ensures.keeps c.assign_at.ensures.keeps
+pub both_places-returns-in_err-x-clause-keeps : goal.both_places-returns-in_err-x-clause-keeps
+both_places-returns-in_err-x-clause-keeps t c = Keeps-trans c.in_ok-waits.ensures.keeps c.place.ensures.keeps
 
-pub assign_either-returns-in_err-assign_strings-clause-keeps : goal.assign_either-returns-in_err-assign_strings-clause-keeps
-assign_either-returns-in_err-assign_strings-clause-keeps t c = Keeps-trans c.in_ok-waits.ensures.keeps (Keeps-trans c.in_ok-assign_at.ensures.keeps c.assign_strings.ensures.keeps)
+pub both_places-returns-in_err-y-clause-keeps : goal.both_places-returns-in_err-y-clause-keeps
+both_places-returns-in_err-y-clause-keeps t c = Keeps-trans c.in_ok-waits.ensures.keeps (Keeps-trans c.in_ok-x.ensures.keeps c.places.ensures.keeps)
 
-pub assign_either-returns-in_err-join-clause-keeps : goal.assign_either-returns-in_err-join-clause-keeps
-assign_either-returns-in_err-join-clause-keeps t c = Keeps_four c.in_ok-waits.ensures.keeps c.in_ok-assign_at.ensures.keeps c.in_ok-assign_strings.ensures.keeps c.join.ensures.keeps
+pub both_places-returns-in_err-join-clause-keeps : goal.both_places-returns-in_err-join-clause-keeps
+both_places-returns-in_err-join-clause-keeps t c = Keeps_four c.in_ok-waits.ensures.keeps c.in_ok-x.ensures.keeps c.in_ok-y.ensures.keeps c.join.ensures.keeps
 
-pub assign_either-returns-clause-keeps : goal.assign_either-returns-clause-keeps
-assign_either-returns-clause-keeps t c = Keeps_four c.in_ok-waits.ensures.keeps c.in_ok-assign_at.ensures.keeps c.in_ok-assign_strings.ensures.keeps c.in_ok-join.ensures.keeps
+pub both_places-returns-in_err-p-clause-keeps : goal.both_places-returns-in_err-p-clause-keeps
+both_places-returns-in_err-p-clause-keeps t c = Keeps_four c.in_ok-waits.ensures.keeps c.in_ok-x.ensures.keeps c.in_ok-y.ensures.keeps c.in_ok-join.ensures.keeps
 
-pub assign_either-returns-clause-executed : goal.assign_either-returns-clause-executed
-assign_either-returns-clause-executed t c = both_executed c.args.span c.in_ok-waits.ensures.forked c.in_ok-assign_at.ensures.executed c.turn-gone.ensures c.in_ok-assign_strings.ensures.executed c.in_ok-join.ensures.joined
+pub both_places-returns-clause-keeps : goal.both_places-returns-clause-keeps
+both_places-returns-clause-keeps t c = Keeps_four c.in_ok-waits.ensures.keeps c.in_ok-x.ensures.keeps c.in_ok-y.ensures.keeps c.in_ok-join.ensures.keeps
+
+pub both_places-returns-clause-placed : goal.both_places-returns-clause-placed
+both_places-returns-clause-placed t c = both_placed c.args.span c.requires.here c.in_ok-waits.ensures.forked c.in_ok-x.ensures.placed c.turn-gone.ensures c.in_ok-y.ensures.placed c.in_ok-join.ensures.joined c.in_ok-p.ensures

@@ -195,20 +195,20 @@ decreases-copy_arg l = 8 * l.room + 2
 abbrev pub decreases-copy_one : goal.decreases-copy_one
 decreases-copy_one l = 8 * l.room + 1
 
-abbrev pub decreases-assign_at : goal.decreases-assign_at
-decreases-assign_at l = 8 * l.room + 3
+abbrev pub decreases-place : goal.decreases-place
+decreases-place l = 8 * l.room + 2
 
-abbrev pub decreases-assign_one : goal.decreases-assign_one
-decreases-assign_one l = 8 * l.room + 1
+abbrev pub decreases-target_place : goal.decreases-target_place
+decreases-target_place l = 8 * l.room + 1
 
-abbrev pub decreases-assign_pattern : goal.decreases-assign_pattern
-decreases-assign_pattern l = 8 * l.room + 2
+abbrev pub decreases-pattern_place : goal.decreases-pattern_place
+decreases-pattern_place l = 8 * l.room + 1
 
-abbrev pub decreases-assign_strings : goal.decreases-assign_strings
-decreases-assign_strings l = 8 * l.room
+abbrev pub decreases-places : goal.decreases-places
+decreases-places l = 8 * l.room
 
-abbrev pub decreases-assign_string : goal.decreases-assign_string
-decreases-assign_string l = 8 * l.room + 5
+abbrev pub decreases-string_place : goal.decreases-string_place
+decreases-string_place l = 8 * l.room + 4
 
-abbrev pub decreases-assign_either : goal.decreases-assign_either
-decreases-assign_either l = 8 * l.room + 4
+abbrev pub decreases-both_places : goal.decreases-both_places
+decreases-both_places l = 8 * l.room + 3

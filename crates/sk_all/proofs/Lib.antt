@@ -1,0 +1,4 @@
+pub mod Copying
+pub mod Passing
+pub mod Thinning
+pub mod Answering

@@ -1,0 +1,7 @@
+mod Clean
+mod Texts
+mod Names
+mod Exprs
+mod Stmts
+mod Programs
+mod Lines

@@ -1,0 +1,3 @@
+mod Excluding
+mod Spared
+mod Certified

@@ -1,0 +1,4 @@
+pub mod Parts
+pub mod Rejected
+pub mod Right
+pub mod Laws

@@ -1,5 +1,0 @@
-use Rattle.sk_sym_stores.proofs.Variables.{on_onward}
-use Rattle.sk_sym_stores.proofs.storing.assign.Goals as goal
-
-pub returns-clause-executes : goal.returns-clause-executes
-returns-clause-executes c = on_onward c.in_ok-store.ensures.stores.does
