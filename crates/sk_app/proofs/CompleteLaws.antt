@@ -34,9 +34,9 @@ use Rattle.sk_clause.specs.declared.lit.Lit.{Lit}
 use Rattle.sk_cnf.specs.declared.growing.Encoded.{Encoded}
 use Rattle.sk_oblig_queries.specs.declared.query.Query.{Query}
 use Rattle.sk_loop_laws.specs.Honest.{Honest}
-use Rattle.sk_loop_laws.specs.Shown.{AreSpent, Learnt}
+use Rattle.sk_loop_laws.specs.Shown.{AreSpent, Learnt, IsOfSearch}
 use Rattle.sk_min_laws.specs.Best.{IsBest, Meeting}
-use Rattle.sk_min.specs.Least.{IsKnown, IsKnownOf}
+use Rattle.sk_min.specs.Least.{IsKnown, IsKnownOf, IsFreeSpent}
 use Rattle.sk_min.specs.Least as least
 use Rattle.sk_opts.specs.declared.line.Set.{Set}
 use Rattle.sk_front.specs.declared.expansion.Expansion.{Expansion}
@@ -191,13 +191,15 @@ module _ (set : Set) where
       is = is;
     }
 
-    pub conflicts_found : (budget : Budget) (pairs : List Pair) (q : Query) (f : Encoded) (log : List (List Lit)) (best : Option Choice) (out : List ℕ) → Learnt e bounds budget.conflicts pairs q f log → IsKnownOf e bounds pairs q best → out ≡ spent_result e best (OfConflicts budget.conflicts) → IsSpentConflicts set budget text pairs q f log best out
-    conflicts_found budget pairs q f log best out learnt known is = record {
+    pub conflicts_found : (budget : Budget) (pairs : List Pair) (q : Query) (f : Encoded) (log : List (List Lit)) (best : Option Choice) (out : List ℕ) → Learnt e bounds budget.conflicts pairs q f log → IsKnownOf e bounds pairs q best → IsFreeSpent e best → IsOfSearch q → out ≡ spent_result e best (OfConflicts budget.conflicts) → IsSpentConflicts set budget text pairs q f log best out
+    conflicts_found budget pairs q f log best out learnt known free of_search is = record {
       bounds = bounds;
       e = e;
       only = ready.only;
       learnt = learnt;
       known = known;
+      free = free;
+      of_search = of_search;
       meets = known_of_meets pairs q best known;
       is = is;
     }

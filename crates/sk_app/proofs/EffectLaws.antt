@@ -48,8 +48,10 @@ use Rattle.sk_app.specs.Spent.{AreLearnt, IsSpentRounds, IsSpentConflicts}
 use Rattle.sk_app.specs.Results.{IsResult}
 use Rattle.sk_app.specs.Help.{help_text, version_text}
 use Rattle.sk_app.specs.Lines.{IsNoLine, IsSearch, ForSearch, IsSynth, ForSynth, line_by, line_of, IsJob, ForJob, ForTrace, ForLower, TakesText, ForText, ReadsText, is_unbuilt, IsUnbuiltLine}
-use Rattle.sk_app.specs.Ends.{delivered, cut, no_room, Writes, WritesPart, writes_nothing, IsToldOf, EndsBuilt, EndsFaulty, EndsUntyped, EndsLarge, EndsLong, EndsRun, EndsStopped, EndsLowered, EndsNotLowered, EndsNotTagged, EndsRefused, EndsNoLine, EndsUnbuiltLine, EndsHelp, EndsVersion}
-use Rattle.sk_app.specs.Effects.{Effect, IsRefused, IsShown, is_of_synth, Synthesises, is_of_expansion, IsRunResult, IsRunOutput, Executes, Lowers, Serves, Answers, no_line, served, no_memory, IsOutput}
+use Rattle.sk_app.specs.Ends.{delivered, cut, no_room, Writes, WritesPart, writes_nothing, IsToldOf}
+use Rattle.sk_app.proofs.Endings.{EndsBuilt, EndsFaulty, EndsUntyped, EndsLarge, EndsLong, EndsRun, EndsStopped, EndsLowered, EndsNotLowered, EndsNotTagged, EndsRefused, EndsNoLine, EndsUnbuiltLine, EndsHelp, EndsVersion}
+use Rattle.sk_app.specs.Call.{Effect}
+use Rattle.sk_app.specs.Effects.{IsRefused, IsShown, is_of_synth, Synthesises, is_of_expansion, IsRunResult, IsRunOutput, Executes, Lowers, Serves, Answers, no_line, served, no_memory, IsOutput}
 use Rattle.sk_app.specs.Effects as output
 use Rattle.sk_app.proofs.StreamLemmas.{front-nil}
 use Rattle.sk_app.proofs.SourceLaws.{every, mapped, came_wanting}
@@ -268,7 +270,7 @@ module _ (words : List (List ℕ)) (r : Ending) (f : Effect) where
   synth_not set budget x s b e = false≢true (sym b ∙ ap is_of_synth (sym e) ∙ s.ends)
 
   -- what is told of the text with this ending
-  told_as : (set : Set) (budget : Budget) → Synthesises set budget r f → (x : Ending) (P : List ℕ → Type 0) → ((text : List ℕ) → IsToldOf set text x f.read_faults_old f.read_faults_new f.write_faults_old f.write_faults_new → P text) → r ≡ x → IfSome f.left_old P
+  pub told_as : (set : Set) (budget : Budget) → Synthesises set budget r f → (x : Ending) (P : List ℕ → Type 0) → ((text : List ℕ) → IsToldOf set text x f.read_faults_old f.read_faults_new f.write_faults_old f.write_faults_new → P text) → r ≡ x → IfSome f.left_old P
   told_as set budget s x P k e = mapped f.left_old (λ text. IsToldOf set text r f.read_faults_old f.read_faults_new f.write_faults_old f.write_faults_new) P (λ text h. k text (subst (λ y. IsToldOf set text y f.read_faults_old f.read_faults_new f.write_faults_old f.write_faults_new) e h)) s.told
 
   -- Clauses that follow from the ending
@@ -396,7 +398,7 @@ module _ (words : List (List ℕ)) (r : Ending) (f : Effect) where
   unbuilt_not l b u h = not_unbuilt l b h u
 
   ends_no_line_of : Kind → IsNoLine words → EndsNoLine r
-  ends_no_line_of (of_none n s) spells = subst EndsNoLine (sym s.is) tt
+  ends_no_line_of (of_none n s) spells = subst EndsNoLine (sym s.is) refl
   ends_no_line_of (of_unbuilt u s) spells = absurd (spells u.line u.is)
   ends_no_line_of (of_synth set budget h s) spells = absurd (spells (line.Synth set budget false) h)
   ends_no_line_of (of_exec set job h s) spells = absurd (spells (line_of set job) h)
@@ -407,7 +409,7 @@ module _ (words : List (List ℕ)) (r : Ending) (f : Effect) where
 
   ends_unbuilt_line_of : Kind → IsUnbuiltLine words → EndsUnbuiltLine r
   ends_unbuilt_line_of (of_none n s) u = absurd (n u.line u.is)
-  ends_unbuilt_line_of (of_unbuilt v s) u = subst EndsUnbuiltLine (sym s.is) tt
+  ends_unbuilt_line_of (of_unbuilt v s) u = subst EndsUnbuiltLine (sym s.is) refl
   ends_unbuilt_line_of (of_synth set budget h s) u = unbuilt_not (line.Synth set budget false) refl u h
   ends_unbuilt_line_of (of_exec set job h s) u = unbuilt_not (line_of set job) (job_is_built set job) u h
   ends_unbuilt_line_of (of_lower set h s) u = unbuilt_not (line.Lower set) refl u h
@@ -425,7 +427,7 @@ module _ (words : List (List ℕ)) (r : Ending) (f : Effect) where
   ends_help_of (of_synth set budget g s) h = let q = one (line.Synth set budget false) line.Help g h in cc
   ends_help_of (of_exec set job g s) h = not_of_job line.Help set job refl (one line.Help (line_of set job) h g)
   ends_help_of (of_lower set g s) h = let q = one (line.Lower set) line.Help g h in cc
-  ends_help_of (of_help g s) h = shown_ends help_text ending.HelpShown (λ x. EndsHelp x f.write_faults_old f.write_faults_new) s tt (λ w. w) tt
+  ends_help_of (of_help g s) h = shown_ends help_text ending.HelpShown (λ x. EndsHelp x f.write_faults_old f.write_faults_new) s refl (λ w. w) tt
   ends_help_of (of_version g s) h = let q = one line.Version line.Help g h in cc
   ends_help_of (of_memory s) h = subst (λ x. EndsHelp x f.write_faults_old f.write_faults_new) (sym s.is) tt
 
@@ -436,7 +438,7 @@ module _ (words : List (List ℕ)) (r : Ending) (f : Effect) where
   ends_version_of (of_exec set job g s) h = not_of_job line.Version set job refl (one line.Version (line_of set job) h g)
   ends_version_of (of_lower set g s) h = let q = one (line.Lower set) line.Version g h in cc
   ends_version_of (of_help g s) h = let q = one line.Help line.Version g h in cc
-  ends_version_of (of_version g s) h = shown_ends version_text ending.VersionShown (λ x. EndsVersion x f.write_faults_old f.write_faults_new) s tt (λ w. w) tt
+  ends_version_of (of_version g s) h = shown_ends version_text ending.VersionShown (λ x. EndsVersion x f.write_faults_old f.write_faults_new) s refl (λ w. w) tt
   ends_version_of (of_memory s) h = subst (λ x. EndsVersion x f.write_faults_old f.write_faults_new) (sym s.is) tt
 
   prefix_help_of : Kind → IsLine words line.Help → r ≡ ending.WriteFault → AppendsPrefix help_text f.held_old f.held_new
@@ -680,6 +682,10 @@ module _ {words : List (List ℕ)} {r : Ending} {f : Effect} (a : Answers words 
   -- what follows for a line `synth` from what is told of its text; of want of memory that is nothing
   for_search : (P : Set → Budget → List ℕ → Type 0) → ((set : Set) (budget : Budget) → Synthesises set budget r f → (text : List ℕ) → IsToldOf set text r f.read_faults_old f.read_faults_new f.write_faults_old f.write_faults_new → P set budget text) → ((set : Set) (budget : Budget) (text : List ℕ) → r ≡ ending.Memory → P set budget text) → (set : Set) (budget : Budget) → IsSearch words set budget → IfSome f.left_old (P set budget)
   for_search P k m = for_synth words r f (λ set budget. IfSome f.left_old (P set budget)) (λ set budget s. mapped f.left_old (λ text. IsToldOf set text r f.read_faults_old f.read_faults_new f.write_faults_old f.write_faults_new) (P set budget) (k set budget s) s.told) (λ set budget e. every f.left_old (P set budget) (λ text. m set budget text e)) the
+
+  -- what a line `synth` does, or that memory was wanting
+  pub of_search : (set : Set) (budget : Budget) → IsSearch words set budget → Synthesises set budget r f ⊎ (r ≡ ending.Memory)
+  of_search = for_synth words r f (λ set budget. Synthesises set budget r f ⊎ (r ≡ ending.Memory)) (λ set budget s. inl s) (λ set budget m. inr m) the
 
   -- whatever its budgets are
   for_text : (P : Set → List ℕ → Type 0) → ((set : Set) (text : List ℕ) → IsToldOf set text r f.read_faults_old f.read_faults_new f.write_faults_old f.write_faults_new → P set text) → (set : Set) → IsSynth words set → IfSome f.left_old (P set)

@@ -22,8 +22,10 @@ use Rattle.sk_app.specs.Jobs.{IsStopped, IsRunOfJob}
 use Rattle.sk_app.proofs.JobLaws.{one_stop, no_stop_of_run, one_run, no_cause_of_job, no_cause_of_stop, run_is_short, stop_is_short}
 use Rattle.sk_app.specs.declared.ending.Ending.{Ending}
 use Rattle.sk_app.specs.declared.ending.Ending.TheVariants as ending
-use Rattle.sk_app.specs.Ends.{delivered, cut, no_room, Writes, WritesPart, writes_nothing, ending_of, stopped, EndsRun, EndsStopped, EndsFaulty, EndsUntyped, EndsLarge, EndsLong}
-use Rattle.sk_app.specs.Effects.{Effect, refusal, is_of_expansion, RunsText, refused, not_run, ran, RunsSource, failed, long, wanting, whole, IsRunResult, IsRunOutput}
+use Rattle.sk_app.specs.Ends.{delivered, cut, no_room, Writes, WritesPart, writes_nothing, ending_of, stopped}
+use Rattle.sk_app.proofs.Endings.{EndsRun, EndsStopped, EndsFaulty, EndsUntyped, EndsLarge, EndsLong}
+use Rattle.sk_app.specs.Call.{Effect}
+use Rattle.sk_app.specs.Effects.{refusal, is_of_expansion, RunsText, refused, not_run, ran, RunsSource, failed, long, wanting, whole, IsRunResult, IsRunOutput}
 use Rattle.sk_app.proofs.SourceLaws.{differ, too_long, Came as CameTo, came_failed, came_long, came_wanting, came_whole, told_of}
 
 -- Kinds of endings
@@ -412,8 +414,8 @@ module _ (set : Set) (job : Job) (r : Ending) (f : Effect) where
       (run_is_short set job text o out is) came
 
   same_told : (told reason : TraceFault) → told ≡ reason → EndsStopped reason (stopped told) f.read_faults_old f.read_faults_new
-  same_told (reason.NotRun a) told e = e
-  same_told (reason.NotFilled a) told e = e
+  same_told (reason.NotRun a) told e = ap stopped e
+  same_told (reason.NotFilled a) told e = ap stopped e
 
   pub ends_not_run_by : (text : List ℕ) → Came text → (told : TraceFault) → IsStopped set job text told → EndsStopped told r f.read_faults_old f.read_faults_new
   ends_not_run_by text came told is =
@@ -445,7 +447,7 @@ module _ (set : Set) (job : Job) (r : Ending) (f : Effect) where
   as_over : (reason : SizeFault) (t : SketchFault) → IsSame (fault.TooLarge reason) t → EndsLarge reason (refusal t) f.read_faults_old f.read_faults_new
   as_over reason (fault.NotText a) h = absurd h
   as_over reason (fault.NotTyped a) h = absurd h
-  as_over reason (fault.TooLarge a) h = h
+  as_over reason (fault.TooLarge a) h = ap ending.TooLarge (sym h)
   as_over reason fault.Memory h = tt
 
   over_cause : (text : List ℕ) (reason : SizeFault) → IsTrue (is_of_expansion reason) → IsTooLarge set text reason → IsCause (IsFaultOfExpansion set text) (fault.TooLarge reason)
@@ -460,6 +462,6 @@ module _ (set : Set) (job : Job) (r : Ending) (f : Effect) where
 
   pub ends_long_by : (text : List ℕ) → Came text → most_bytes < length text → EndsLong r f.read_faults_old f.read_faults_new
   ends_long_by text (came_failed e rose) over = subst (λ x. EndsLong x f.read_faults_old f.read_faults_new) (sym e) rose
-  ends_long_by text (came_long e l) over = subst (λ x. EndsLong x f.read_faults_old f.read_faults_new) (sym e) tt
+  ends_long_by text (came_long e l) over = subst (λ x. EndsLong x f.read_faults_old f.read_faults_new) (sym e) refl
   ends_long_by text (came_wanting e) over = subst (λ x. EndsLong x f.read_faults_old f.read_faults_new) (sym e) tt
   ends_long_by text (came_whole short w) over = too_long text short over

@@ -14,8 +14,10 @@ use Rattle.sk_adt_text.specs.PlainTexts.{HasNoPlainForm, IsNotTagged, IsLoweredT
 use Rattle.sk_adt_text.proofs.PlainLaws.{one_reason, form_or_reason, reason_or_cause, span_or_cause, text_or_cause, one_span_of, text_or_span_of, only_lowering}
 use Rattle.sk_app.specs.declared.ending.Ending.{Ending}
 use Rattle.sk_app.specs.declared.ending.Ending.TheVariants as ending
-use Rattle.sk_app.specs.Ends.{IsDelivered, delivered, cut, no_room, Writes, WritesPart, writes_nothing, EndsLowered, EndsNotLowered, EndsNotTagged, EndsRefused, EndsLong}
-use Rattle.sk_app.specs.Effects.{Effect, refusal, LowersText, no_program, not_lowered, not_tagged, lowered, LowersSource, failed, long, wanting, whole}
+use Rattle.sk_app.specs.Ends.{IsDelivered, delivered, cut, no_room, Writes, WritesPart, writes_nothing}
+use Rattle.sk_app.proofs.Endings.{EndsLowered, EndsNotLowered, EndsNotTagged, EndsRefused, EndsLong}
+use Rattle.sk_app.specs.Call.{Effect}
+use Rattle.sk_app.specs.Effects.{refusal, LowersText, no_program, not_lowered, not_tagged, lowered, LowersSource, failed, long, wanting, whole}
 use Rattle.sk_app.proofs.SourceLaws.{differ, too_long, Came as CameTo, came_failed, came_long, came_wanting, came_whole, told_of}
 
 -- the endings of a line `lower`
@@ -173,14 +175,14 @@ module _ (set : Set) (r : Ending) (f : Effect) where
       (λ t cause. absurd (text_or_cause set text out t is cause))
       (λ a i. absurd (form_or_reason text is.form a is.is_form i))
       (λ s i. absurd (text_or_span_of set text out s is i))
-      (λ other i. (tt, λ rose. rose))
+      (λ other i. (refl, λ rose. rose))
       is.is_form.short came
 
   pub ends_not_lowered_by : (text : List ℕ) → Came text → (reason : AdtFault) → HasNoPlainForm text reason → EndsNotLowered reason r f.read_faults_old f.read_faults_new
   ends_not_lowered_by text came reason is =
       ends text (λ x. EndsNotLowered reason x f.read_faults_old f.read_faults_new) tt (λ rose. rose)
       (λ t cause. absurd (reason_or_cause set text reason t is cause))
-      (λ a i. one_reason text a reason i is)
+      (λ a i. ap ending.NotLowered (one_reason text a reason i is))
       (λ s i. absurd (form_or_reason text i.form reason i.is_form is))
       (λ out i. absurd (form_or_reason text i.form reason i.is_form is))
       is.short came
@@ -190,7 +192,7 @@ module _ (set : Set) (r : Ending) (f : Effect) where
       ends text (λ x. EndsNotTagged span x f.read_faults_old f.read_faults_new) tt (λ rose. rose)
       (λ t cause. absurd (span_or_cause set text span t is cause))
       (λ a i. absurd (form_or_reason text is.form a is.is_form i))
-      (λ s i. one_span_of set text s span i is)
+      (λ s i. ap ending.NotTagged (one_span_of set text s span i is))
       (λ out i. absurd (text_or_span_of set text out span i is))
       is.is_form.short came
 
@@ -211,6 +213,6 @@ module _ (set : Set) (r : Ending) (f : Effect) where
 
   pub ends_long_by : (text : List ℕ) → Came text → most_bytes < length text → EndsLong r f.read_faults_old f.read_faults_new
   ends_long_by text (came_failed e rose) over = subst (λ x. EndsLong x f.read_faults_old f.read_faults_new) (sym e) rose
-  ends_long_by text (came_long e l) over = subst (λ x. EndsLong x f.read_faults_old f.read_faults_new) (sym e) tt
+  ends_long_by text (came_long e l) over = subst (λ x. EndsLong x f.read_faults_old f.read_faults_new) (sym e) refl
   ends_long_by text (came_wanting e) over = subst (λ x. EndsLong x f.read_faults_old f.read_faults_new) (sym e) tt
   ends_long_by text (came_whole short x) over = too_long text short over

@@ -6,7 +6,8 @@ use Rattle.sk_base.specs.Stream.{Rose}
 use Rattle.sk_front.specs.Texts.{most_bytes}
 use Rattle.sk_app.specs.declared.ending.Ending.{Ending}
 use Rattle.sk_app.specs.declared.ending.Ending.TheVariants as ending
-use Rattle.sk_app.specs.Effects.{Effect, TakesSource, failed, long, wanting, whole}
+use Rattle.sk_app.specs.Call.{Effect}
+use Rattle.sk_app.specs.Effects.{TakesSource, failed, long, wanting, whole}
 
 -- two endings differ where a test does
 pub differ : {A : Type 0} (test : Ending → Bool) (x y : Ending) → test x ≡ false → test y ≡ true → x ≡ y → A

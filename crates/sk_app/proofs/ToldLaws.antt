@@ -1,5 +1,5 @@
 -- What is told of a text is all that can be told of it: which endings there are for a text, by its cause.
-use Rattle.std.proofs.Common.{ℕ, List, ◌≤◌, ◌<◌, length, arith}
+use Rattle.std.proofs.Common.{ℕ, List, ◌≤◌, ◌<◌, length, refl, sym, ap, arith}
 use Rattle.sk_base.specs.declared.bounds.Bounds.{Bounds}
 use Rattle.sk_base.specs.declared.bounds.Budget.{Budget}
 use Rattle.sk_types_laws.specs.declared.fault.TypeFault.{TypeFault}
@@ -16,7 +16,8 @@ use Rattle.sk_front.proofs.FrontLaws.{one_cause, sizes_or_cause}
 use Rattle.sk_app.specs.declared.ending.Ending.{Ending}
 use Rattle.sk_app.specs.declared.ending.Ending.TheVariants as ending
 use Rattle.sk_app.specs.Built.{IsBuilt, IsTaken}
-use Rattle.sk_app.specs.Ends.{IsToldOf, EndsBuilt, EndsFaulty, EndsUntyped, EndsLarge, EndsLong}
+use Rattle.sk_app.specs.Ends.{IsToldOf}
+use Rattle.sk_app.proofs.Endings.{EndsBuilt, EndsFaulty, EndsUntyped, EndsLarge, EndsLong}
 
 -- a fault of types: of a text that has one, no definition says which is told
 pub some_fault : TypeFault
@@ -130,7 +131,7 @@ module _ (set : Set) (text : List ℕ) where
     ends_large ending.WriteFault h s is = taken_or_cause (fault.TooLarge s) h.1 is
     ends_large (ending.NotText g) h s is = one (fault.TooLarge s) (fault.NotText g) is h.1 (λ same. absurd same)
     ends_large (ending.NotTyped g) h s is = one (fault.TooLarge s) (fault.NotTyped g) is h.1 (λ same. absurd same)
-    ends_large (ending.TooLarge t) h s is = one (fault.TooLarge s) (fault.TooLarge t) is h (λ same. same)
+    ends_large (ending.TooLarge t) h s is = one (fault.TooLarge s) (fault.TooLarge t) is h (λ same. ap ending.TooLarge (sym same))
     ends_large ending.NotBuilt h s is = absurd h
     ends_large ending.TooLong h s is = too_long is.typed.short h
     ends_large ending.NotALine h s is = absurd h
@@ -157,7 +158,7 @@ module _ (set : Set) (text : List ℕ) where
     ends_long (ending.NotTyped g) h long = too_long h.0 long
     ends_long (ending.TooLarge t) h long = too_long h.typed.short long
     ends_long ending.NotBuilt h long = absurd h
-    ends_long ending.TooLong h long = tt
+    ends_long ending.TooLong h long = refl
     ends_long ending.NotALine h long = absurd h
     ends_long ending.HelpShown h long = absurd h
     ends_long ending.VersionShown h long = absurd h

@@ -35,19 +35,8 @@ use Rattle.sk_app.specs.Spent.{AreLearnt, IsSpentRounds, IsSpentConflicts}
 use Rattle.sk_app.specs.Results.{IsResult}
 use Rattle.sk_app.specs.Help.{help_text, version_text}
 use Rattle.sk_app.specs.Lines.{IsNoLine, ForSearch, ForJob, ForLower}
+use Rattle.sk_app.specs.Call.{Effect}
 use Rattle.sk_app.specs.Ends.{IsDelivered, Writes, WritesPart, writes_nothing, IsToldOf, ending_of, stopped}
-
--- what is left of the source before and after a call, what the sink holds, where they tell it, and the counts of
--- their faults
-pub record Effect : Type 0 where
-  pub left_old : Option (List ℕ)
-  pub left_new : Option (List ℕ)
-  pub read_faults_old : ℕ
-  pub read_faults_new : ℕ
-  pub held_old : Option (List ℕ)
-  pub held_new : Option (List ℕ)
-  pub write_faults_old : ℕ
-  pub write_faults_new : ℕ
 
 -- nothing was read
 pub record ReadsNothing (f : Effect) : Type 0 where

@@ -1,23 +1,20 @@
 -- What the sink holds after an ending, and which endings there are for a text.
 use Rattle.std.specs.Prelude.{ℕ, ◌≡◌, ◌<◌, ◌≤◌, length, Bool, true, false, List, Option}
 use Rattle.sk_base.specs.Stream.{Rose}
-use Rattle.sk_base.specs.declared.span.Span.{Span}
 use Rattle.sk_base.specs.declared.bounds.Budget.{Budget}
 use Rattle.sk_model.specs.declared.outcome.Outcome.{Outcome}
 use Rattle.sk_model.specs.declared.outcome.Outcome.TheVariants as outcome
 use Rattle.sk_app.specs.declared.ending.Ending.{Ending}
-use Rattle.sk_app.specs.declared.ending.Ending.TheVariants.{Completed, NoCompletion, SpentRounds, SpentConflicts, HelpShown, VersionShown, ExecDone, ExecFailed, ExecSkipped, Lowered, NotALine, NotText, NotTyped, TooLarge, NotRun, NotFilled, NotLowered, NotTagged, ReadFault, WriteFault, TooLong, Memory, NotBuilt}
+use Rattle.sk_app.specs.declared.ending.Ending.TheVariants.{Completed, NoCompletion, SpentRounds, SpentConflicts, HelpShown, VersionShown, ExecDone, ExecFailed, ExecSkipped, Lowered, NotText, NotTyped, TooLarge, NotRun, NotFilled, ReadFault, WriteFault, TooLong, Memory}
 use Rattle.sk_front.specs.declared.fault.TextFault.{TextFault}
 use Rattle.sk_front.specs.Texts.{most_bytes, IsTextFault, IsSameFault}
 use Rattle.sk_front.specs.declared.fault.SketchFault.{SketchFault}
 use Rattle.sk_front.specs.declared.fault.SketchFault.TheVariants as sketch
 use Rattle.sk_front.specs.Front.{IsUntyped, IsTooLarge, IsToldAs}
-use Rattle.sk_adt.specs.declared.algebraic.AdtFault.{AdtFault}
 use Rattle.sk_opts.specs.declared.line.Set.{Set}
 use Rattle.sk_trace_text.specs.declared.fault.TraceFault.{TraceFault}
 use Rattle.sk_trace_text.specs.declared.fault.TraceFault.TheVariants as fault
 use Rattle.sk_app.specs.Built.{IsTaken}
-use Rattle.sk_expand_sizes.specs.declared.fault.SizeFault.{SizeFault}
 use Rattle.sk_app.specs.Streams.{Appends, AppendsPrefix}
 
 -- a text of this kind was appended to what the sink held
@@ -78,71 +75,30 @@ IsToldOf set text WriteFault source_old source_new sink_old sink_new = Rose sink
 IsToldOf set text Memory source_old source_new sink_old sink_new = Unit {0}
 IsToldOf set text _ source_old source_new sink_old sink_new = ⊥
 
--- A text that is taken is completed, or has no completion, or a budget that is not 0 is spent; else a source or a sink
--- failed, or memory was wanting.
-abbrev pub EndsBuilt : Budget → Ending → ℕ → ℕ → ℕ → ℕ → Type 0
-EndsBuilt budget Completed source_old source_new sink_old sink_new = Unit {0}
-EndsBuilt budget NoCompletion source_old source_new sink_old sink_new = Unit {0}
-EndsBuilt budget (SpentRounds pairs best) source_old source_new sink_old sink_new = 0 < budget.rounds
-EndsBuilt budget (SpentConflicts pairs q f log best) source_old source_new sink_old sink_new = 0 < budget.conflicts
-EndsBuilt budget Memory source_old source_new sink_old sink_new = Unit {0}
-EndsBuilt budget ReadFault source_old source_new sink_old sink_new = Rose source_old source_new
-EndsBuilt budget WriteFault source_old source_new sink_old sink_new = Rose sink_old sink_new
-EndsBuilt budget _ source_old source_new sink_old sink_new = ⊥
+-- The call ends so; or the source failed as this says, or the sink as that, or memory was wanting.
+abbrev pub Ends : (Ending → Type 0) → (source sink : Type 0) → Ending → Type 0
+Ends So source sink Memory = Unit {0}
+Ends So source sink ReadFault = source
+Ends So source sink WriteFault = sink
+Ends So source sink ending = So ending
 
--- A text with this fault is refused for it, unless the source failed or memory was wanting.
-abbrev pub EndsFaulty : TextFault → Ending → ℕ → ℕ → Type 0
-EndsFaulty fault (NotText told) source_old source_new = IsSameFault fault told
-EndsFaulty fault Memory source_old source_new = Unit {0}
-EndsFaulty fault ReadFault source_old source_new = Rose source_old source_new
-EndsFaulty fault _ source_old source_new = ⊥
+-- For a text that is taken: it is completed, or has no completion, or a budget that is not 0 is spent.
+abbrev pub IsOfBuilt : Budget → Ending → Type 0
+IsOfBuilt budget Completed = Unit {0}
+IsOfBuilt budget NoCompletion = Unit {0}
+IsOfBuilt budget (SpentRounds pairs best) = 0 < budget.rounds
+IsOfBuilt budget (SpentConflicts pairs q f log best) = 0 < budget.conflicts
+IsOfBuilt budget _ = ⊥
 
--- A text whose tree means no program is refused as such, unless the source failed or memory was wanting.
-abbrev pub EndsUntyped : Ending → ℕ → ℕ → Type 0
-EndsUntyped (NotTyped fault) source_old source_new = Unit {0}
-EndsUntyped Memory source_old source_new = Unit {0}
-EndsUntyped ReadFault source_old source_new = Rose source_old source_new
-EndsUntyped _ source_old source_new = ⊥
+-- For a text with this fault: it is refused for it.
+abbrev pub IsOfFault : TextFault → Ending → Type 0
+IsOfFault fault (NotText told) = IsSameFault fault told
+IsOfFault fault _ = ⊥
 
--- A text whose program is too large for this reason is refused for it, unless the source failed or memory was wanting.
-abbrev pub EndsLarge : SizeFault → Ending → ℕ → ℕ → Type 0
-EndsLarge reason (TooLarge told) source_old source_new = reason ≡ told
-EndsLarge reason Memory source_old source_new = Unit {0}
-EndsLarge reason ReadFault source_old source_new = Rose source_old source_new
-EndsLarge reason _ source_old source_new = ⊥
-
--- A text that is too long is refused as such, unless the source failed or memory was wanting.
-abbrev pub EndsLong : Ending → ℕ → ℕ → Type 0
-EndsLong TooLong source_old source_new = Unit {0}
-EndsLong Memory source_old source_new = Unit {0}
-EndsLong ReadFault source_old source_new = Rose source_old source_new
-EndsLong _ source_old source_new = ⊥
-
--- Words that spell no line are refused, unless memory was wanting.
-abbrev pub EndsNoLine : Ending → Type 0
-EndsNoLine NotALine = Unit {0}
-EndsNoLine Memory = Unit {0}
-EndsNoLine _ = ⊥
-
--- So is a line for which the program does nothing.
-abbrev pub EndsUnbuiltLine : Ending → Type 0
-EndsUnbuiltLine NotBuilt = Unit {0}
-EndsUnbuiltLine Memory = Unit {0}
-EndsUnbuiltLine _ = ⊥
-
--- A line `--help` writes the help, unless the sink failed or memory was wanting.
-abbrev pub EndsHelp : Ending → ℕ → ℕ → Type 0
-EndsHelp HelpShown sink_old sink_new = Unit {0}
-EndsHelp Memory sink_old sink_new = Unit {0}
-EndsHelp WriteFault sink_old sink_new = Rose sink_old sink_new
-EndsHelp _ sink_old sink_new = ⊥
-
--- The same of a line `--version`.
-abbrev pub EndsVersion : Ending → ℕ → ℕ → Type 0
-EndsVersion VersionShown sink_old sink_new = Unit {0}
-EndsVersion Memory sink_old sink_new = Unit {0}
-EndsVersion WriteFault sink_old sink_new = Rose sink_old sink_new
-EndsVersion _ sink_old sink_new = ⊥
+-- For a text whose tree means no program: it is refused as such.
+abbrev pub IsOfUntyped : Ending → Type 0
+IsOfUntyped (NotTyped fault) = Unit {0}
+IsOfUntyped _ = ⊥
 
 -- the ending of a line that runs a function, whose run ends so
 abbrev pub ending_of : Outcome → Ending
@@ -155,50 +111,8 @@ abbrev pub stopped : TraceFault → Ending
 stopped (fault.NotRun reason) = NotRun reason
 stopped (fault.NotFilled reason) = NotFilled reason
 
--- A run ends as its outcome says, unless the source or the sink failed or memory was wanting.
-abbrev pub EndsRun : Outcome → Ending → ℕ → ℕ → ℕ → ℕ → Type 0
-EndsRun outcome Memory source_old source_new sink_old sink_new = Unit {0}
-EndsRun outcome ReadFault source_old source_new sink_old sink_new = Rose source_old source_new
-EndsRun outcome WriteFault source_old source_new sink_old sink_new = Rose sink_old sink_new
-EndsRun outcome result source_old source_new sink_old sink_new = result ≡ ending_of outcome
-
--- Where no function is run for this reason, it is told, unless the source failed or memory was wanting.
-abbrev pub EndsStopped : TraceFault → Ending → ℕ → ℕ → Type 0
-EndsStopped reason (NotRun told) source_old source_new = fault.NotRun told ≡ reason
-EndsStopped reason (NotFilled told) source_old source_new = fault.NotFilled told ≡ reason
-EndsStopped reason Memory source_old source_new = Unit {0}
-EndsStopped reason ReadFault source_old source_new = Rose source_old source_new
-EndsStopped reason _ source_old source_new = ⊥
-
--- Where the plain form of a text means a program that is tagged, its text is written, unless the source or the sink failed
--- or memory was wanting.
-abbrev pub EndsLowered : Ending → ℕ → ℕ → ℕ → ℕ → Type 0
-EndsLowered Lowered source_old source_new sink_old sink_new = Unit {0}
-EndsLowered Memory source_old source_new sink_old sink_new = Unit {0}
-EndsLowered ReadFault source_old source_new sink_old sink_new = Rose source_old source_new
-EndsLowered WriteFault source_old source_new sink_old sink_new = Rose sink_old sink_new
-EndsLowered _ source_old source_new sink_old sink_new = ⊥
-
--- Where a text has none for this reason, that is told, unless the source failed or memory was wanting.
-abbrev pub EndsNotLowered : AdtFault → Ending → ℕ → ℕ → Type 0
-EndsNotLowered reason (NotLowered told) source_old source_new = told ≡ reason
-EndsNotLowered reason Memory source_old source_new = Unit {0}
-EndsNotLowered reason ReadFault source_old source_new = Rose source_old source_new
-EndsNotLowered reason _ source_old source_new = ⊥
-
--- Where the program of its plain form breaks a rule of tags first at this span, that is told, unless the source failed or
--- memory was wanting.
-abbrev pub EndsNotTagged : Span → Ending → ℕ → ℕ → Type 0
-EndsNotTagged span (NotTagged told) source_old source_new = told ≡ span
-EndsNotTagged span Memory source_old source_new = Unit {0}
-EndsNotTagged span ReadFault source_old source_new = Rose source_old source_new
-EndsNotTagged span _ source_old source_new = ⊥
-
--- A text that has no tokens, or whose plain form means no program, is refused for this cause, unless the source failed or
--- memory was wanting.
-abbrev pub EndsRefused : SketchFault → Ending → ℕ → ℕ → Type 0
-EndsRefused told (NotText fault) source_old source_new = IsToldAs told (sketch.NotText fault)
-EndsRefused told (NotTyped fault) source_old source_new = IsToldAs told (sketch.NotTyped fault)
-EndsRefused told Memory source_old source_new = Unit {0}
-EndsRefused told ReadFault source_old source_new = Rose source_old source_new
-EndsRefused told _ source_old source_new = ⊥
+-- For a text that has no tokens, or whose plain form means no program: it is refused for this cause.
+abbrev pub IsOfRefused : SketchFault → Ending → Type 0
+IsOfRefused told (NotText fault) = IsToldAs told (sketch.NotText fault)
+IsOfRefused told (NotTyped fault) = IsToldAs told (sketch.NotTyped fault)
+IsOfRefused told _ = ⊥

@@ -13,4 +13,7 @@ pub mod Ends
 pub mod Help
 pub mod Lines
 pub mod Jobs
+pub mod Call
 pub mod Effects
+pub mod Clauses
+pub mod Headline

@@ -16,13 +16,17 @@ IsResultOf set budget text (SpentRounds pairs best) out = IsSpentRounds set budg
 IsResultOf set budget text (SpentConflicts pairs q f log best) out = IsSpentConflicts set budget text pairs q f log best out
 IsResultOf set budget text _ out = ⊥
 
+-- This ending tells that a budget is spent, which is not 0.
+abbrev pub IsSpent : Budget → Ending → Type 0
+IsSpent budget (SpentRounds pairs best) = AreSpent budget.rounds pairs
+IsSpent budget (SpentConflicts pairs q f log best) = AreLearnt budget.conflicts log
+IsSpent budget _ = ⊥
+
 -- Whatever the text is, an ending has a result text only where no budget is spent, or where one is that is not 0.
 abbrev pub HasResult : Budget → Ending → Type 0
 HasResult budget Completed = Unit {0}
 HasResult budget NoCompletion = Unit {0}
-HasResult budget (SpentRounds pairs best) = AreSpent budget.rounds pairs
-HasResult budget (SpentConflicts pairs q f log best) = AreLearnt budget.conflicts log
-HasResult budget _ = ⊥
+HasResult budget ending = IsSpent budget ending
 
 -- a text that a line `synth` writes
 pub record IsResult (set : Set) (budget : Budget) (text out : List ℕ) : Type 0 where

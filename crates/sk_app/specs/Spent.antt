@@ -13,8 +13,8 @@ use Rattle.sk_print.specs.Layout.{layout}
 use Rattle.sk_print.specs.Shows.{Shows}
 use Rattle.sk_oblig_queries.specs.declared.query.Query.{Query}
 use Rattle.sk_loop_laws.specs.Honest.{Honest}
-use Rattle.sk_loop_laws.specs.Shown.{AreSpent, Learnt}
-use Rattle.sk_min.specs.Least.{IsKnown, IsKnownOf}
+use Rattle.sk_loop_laws.specs.Shown.{AreSpent, Learnt, IsOfSearch}
+use Rattle.sk_min.specs.Least.{IsKnown, IsKnownOf, IsFreeSpent}
 use Rattle.sk_opts.specs.declared.line.Set.{Set}
 use Rattle.sk_app.specs.Built.{IsOnly}
 use Rattle.sk_app.specs.SpentText.{OfRounds, OfConflicts, spent_result}
@@ -38,14 +38,17 @@ pub record IsSpentRounds (set : Set) (budget : Budget) (text : List ℕ) (pairs 
   pub meets : IfSome best (IsMeeting bounds e)
   pub is : out ≡ spent_result e best (OfRounds budget.rounds pairs)
 
--- As many clauses were learnt as the budget of conflicts says, from the formula of a query to which the pairs lead. The
--- result text tells the choice that is known, whose filling meets its obligations.
+-- As many clauses were learnt as the budget of conflicts says, from the formula of a query of the search to which the pairs
+-- lead. The result text tells the choice that is known, whose filling meets its obligations; of a program with neither `minimize`
+-- nor `minrepeat` none is known.
 pub record IsSpentConflicts (set : Set) (budget : Budget) (text : List ℕ) (pairs : List Pair) (q : Query) (f : Encoded) (log : List (List Lit)) (best : Option Choice) (out : List ℕ) : Type 0 where
   pub bounds : Bounds
   pub e : Expanded
   pub only : IsOnly set text bounds e
   pub learnt : Learnt e bounds budget.conflicts pairs q f log
   pub known : IsKnownOf e bounds pairs q best
+  pub free : IsFreeSpent e best
+  pub of_search : IsOfSearch q
   pub meets : IfSome best (IsMeeting bounds e)
   pub is : out ≡ spent_result e best (OfConflicts budget.conflicts)
 

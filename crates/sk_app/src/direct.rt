@@ -7,6 +7,7 @@ ghost use Rattle.sk_front.specs.Texts.{most_bytes, HasSpan};
 ghost use Rattle.sk_front.specs.Front.{IsFaultOfExpansion, IsPlacedFault};
 ghost use Rattle.sk_app.specs.Ends.{ending_of, stopped};
 ghost use Rattle.sk_app.specs.Jobs.{as_traced, IsDone};
+ghost use Rattle.sk_app.specs.Call.{effect};
 ghost use Rattle.sk_app.specs.Effects.{refusal, RunsText, Executes};
 
 use crate::ending::Ending;
@@ -129,16 +130,7 @@ pub fn run_source<S: Source, K: Sink>(
     sink: &mut K,
 ) -> Ending
     requires { IsInRanges set.now }
-    ensures { Executes set.now job.now result (record {
-      left_old = S.left source.old;
-      left_new = S.left source.new;
-      read_faults_old = S.faults source.old;
-      read_faults_new = S.faults source.new;
-      held_old = K.held sink.old;
-      held_new = K.held sink.new;
-      write_faults_old = K.faults sink.old;
-      write_faults_new = K.faults sink.new;
-    }) }
+    ensures { Executes set.now job.now result (effect S.Source K.Sink source sink) }
 {
     match read_text(alloc, source) {
         Err(_) => Ending::Memory,

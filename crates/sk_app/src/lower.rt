@@ -3,6 +3,7 @@
 ghost use Rattle.std.specs.Prelude.{◌≤◌, length};
 ghost use Rattle.sk_opts.specs.Ranges.{IsInRanges};
 ghost use Rattle.sk_front.specs.Texts.{most_bytes};
+ghost use Rattle.sk_app.specs.Call.{effect};
 ghost use Rattle.sk_app.specs.Effects.{LowersText, Lowers};
 
 use crate::direct::refusal;
@@ -36,16 +37,7 @@ pub fn lower_source<S: Source, K: Sink>(
     sink: &mut K,
 ) -> Ending
     requires { IsInRanges set.now }
-    ensures { Lowers set.now result (record {
-      left_old = S.left source.old;
-      left_new = S.left source.new;
-      read_faults_old = S.faults source.old;
-      read_faults_new = S.faults source.new;
-      held_old = K.held sink.old;
-      held_new = K.held sink.new;
-      write_faults_old = K.faults sink.old;
-      write_faults_new = K.faults sink.new;
-    }) }
+    ensures { Lowers set.now result (effect S.Source K.Sink source sink) }
 {
     match read_text(alloc, source) {
         Err(_) => Ending::Memory,

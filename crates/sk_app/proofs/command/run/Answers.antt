@@ -1,5 +1,9 @@
 use Rattle.sk_app.proofs.EffectLaws as laws
+use Rattle.sk_app.proofs.HeadlineLaws.{headline}
 use Rattle.sk_app.proofs.command.run.Goals as goal
+
+pub returns-clause-headline : goal.returns-clause-headline
+returns-clause-headline g c = headline c.answer-ending.ensures
 
 pub returns-clause-not_a_line : goal.returns-clause-not_a_line
 returns-clause-not_a_line g c = laws.not_a_line c.answer-ending.ensures

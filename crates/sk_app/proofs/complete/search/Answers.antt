@@ -20,4 +20,4 @@ pub returns-clause-found : goal.returns-clause-found
 returns-clause-found c set text ready =
     let m = c.in-Conflicts in
     let answer = subst (IsAnswer c.args.expanded.now c.args.bounds.now c.args.budget.now) m.is c.in_ok-choice.ensures.answer in
-    conflicts_found set text c.args.bounds.now c.args.expanded.now ready c.args.budget.now m.pairs m.query m.formula m.log m.best c.in_ok-out-in-Conflicts.out.items answer.0 answer.1 c.in_ok-out-in-Conflicts.ensures
+    conflicts_found set text c.args.bounds.now c.args.expanded.now ready c.args.budget.now m.pairs m.query m.formula m.log m.best c.in_ok-out-in-Conflicts.out.items answer.0 answer.1 answer.2 answer.3 c.in_ok-out-in-Conflicts.ensures

@@ -1,0 +1,241 @@
+-- The clauses of `run`, in pairs: an ending comes only where it has its cause; and where there is the cause, it comes, or the
+-- source or the sink failed as `Ends` says, or memory was wanting.
+use Rattle.std.specs.Prelude.{ℕ, ◌≡◌, ◌≤◌, ◌<◌, ◌⊎◌, List, length, Option, IsTrue}
+use Rattle.sk_base.specs.declared.bounds.Bounds.{Bounds}
+use Rattle.sk_base.specs.declared.bounds.Budget.{Budget}
+use Rattle.sk_base.specs.declared.span.Span.{Span}
+use Rattle.sk_clause.specs.declared.lit.Lit.{Lit}
+use Rattle.sk_cnf.specs.declared.growing.Encoded.{Encoded}
+use Rattle.sk_model.specs.declared.expanded.Choice.{Choice}
+use Rattle.sk_model.specs.declared.expanded.Expanded.{Expanded}
+use Rattle.sk_model.specs.declared.expanded.Pair.{Pair}
+use Rattle.sk_model.specs.declared.outcome.Outcome.{Outcome}
+use Rattle.sk_oblig_queries.specs.declared.query.Query.{Query}
+use Rattle.sk_loop_laws.specs.Shown.{AreSpent}
+use Rattle.sk_opts.specs.declared.line.Set.{Set}
+use Rattle.sk_opts.specs.declared.line.Line.TheVariants as line
+use Rattle.sk_opts.specs.CommandLine.{IsLine}
+use Rattle.sk_front.specs.Texts.{most_bytes, byte_of, HasSpan, IsTextFault}
+use Rattle.sk_front.specs.Front.{IsUntyped, IsTooLarge, IsCause}
+use Rattle.sk_front.specs.declared.fault.TextFault.{TextFault}
+use Rattle.sk_front.specs.declared.fault.SketchFault.{SketchFault}
+use Rattle.sk_front.specs.declared.fault.SketchFault.TheVariants as sketch
+use Rattle.sk_adt.specs.declared.algebraic.AdtFault.{AdtFault}
+use Rattle.sk_adt_text.specs.PlainTexts.{HasNoPlainForm, IsNotTagged, IsLoweredText, IsFaultOfLowering, IsPlacedFault}
+use Rattle.sk_types_laws.specs.declared.fault.TypeFault.{TypeFault}
+use Rattle.sk_expand_sizes.specs.declared.fault.SizeFault.{SizeFault}
+use Rattle.sk_exec.specs.declared.fault.ExecFault.{ExecFault}
+use Rattle.sk_holes.specs.declared.fault.FillFault.{FillFault}
+use Rattle.sk_trace_text.specs.declared.fault.TraceFault.{TraceFault}
+use Rattle.sk_trace_text.specs.declared.fault.TraceFault.TheVariants as reason
+use Rattle.sk_trace_text.specs.Traced.{IsNotTraced}
+use Rattle.sk_app.specs.declared.direct.Job.{Job}
+use Rattle.sk_app.specs.declared.ending.Ending.TheVariants.{Completed, NoCompletion, SpentRounds, SpentConflicts, HelpShown, VersionShown, ExecDone, ExecFailed, ExecSkipped, Lowered, NotALine, NotText, NotTyped, TooLarge, NotRun, NotFilled, NotLowered, NotTagged, ReadFault, WriteFault, TooLong, NotBuilt}
+use Rattle.sk_app.specs.Built.{IsBuilt}
+use Rattle.sk_app.specs.ResultText.{IsCompletion, IsNone}
+use Rattle.sk_app.specs.Spent.{AreLearnt, IsSpentRounds, IsSpentConflicts}
+use Rattle.sk_app.specs.Streams.{Appends, AppendsPrefix, TakesFew}
+use Rattle.sk_app.specs.Help.{help_text, version_text}
+use Rattle.sk_app.specs.Lines.{IsNoLine, IsSearch, ForSearch, IsSynth, ForSynth, IsJob, ForJob, ForTrace, ForLower, TakesText, ForText, ReadsText, IsUnbuiltLine}
+use Rattle.sk_app.specs.Jobs.{IsStopped, IsRunOfJob}
+use Rattle.sk_app.specs.Ends.{WritesPart, writes_nothing, Ends, IsOfBuilt, IsOfFault, IsOfUntyped, IsOfRefused, ending_of, stopped}
+use Rattle.sk_app.specs.Effects.{is_of_expansion, IsRunResult, IsOutput}
+use Rattle.sk_app.specs.Call.{Call, OfText, Gets, SourceFailed, SinkFailed}
+
+-- Words
+
+-- The words are no line.
+abbrev pub TellsNoLine : Call → Type 0
+TellsNoLine c = c.ending ≡ NotALine → IsNoLine c.words
+
+-- Words that are no line end so.
+abbrev pub NoLineEnds : Call → Type 0
+NoLineEnds c = IsNoLine c.words → Ends (λ e. e ≡ NotALine) ⊥ ⊥ c.ending
+
+-- The line is one for which the program does nothing: `check`, `self`, or one that asks for a certificate.
+abbrev pub TellsUnbuilt : Call → Type 0
+TellsUnbuilt c = c.ending ≡ NotBuilt → IsUnbuiltLine c.words
+
+-- Such a line ends so.
+abbrev pub UnbuiltEnds : Call → Type 0
+UnbuiltEnds c = IsUnbuiltLine c.words → Ends (λ e. e ≡ NotBuilt) ⊥ ⊥ c.ending
+
+-- The line is `--help`, and the sink got the help.
+abbrev pub TellsHelp : Call → Type 0
+TellsHelp c = c.ending ≡ HelpShown → IsLine c.words line.Help × Appends help_text c.effect.held_old c.effect.held_new
+
+-- A line `--help` ends so.
+abbrev pub HelpEnds : Call → Type 0
+HelpEnds c = IsLine c.words line.Help → Ends (λ e. e ≡ HelpShown) ⊥ (SinkFailed c) c.ending
+
+-- The line is `--version`, and the sink got the version.
+abbrev pub TellsVersion : Call → Type 0
+TellsVersion c = c.ending ≡ VersionShown → IsLine c.words line.Version × Appends version_text c.effect.held_old c.effect.held_new
+
+-- A line `--version` ends so.
+abbrev pub VersionEnds : Call → Type 0
+VersionEnds c = IsLine c.words line.Version → Ends (λ e. e ≡ VersionShown) ⊥ (SinkFailed c) c.ending
+
+-- A line `synth`
+
+-- The sink got the result text of a filling that meets its obligations and costs least.
+abbrev pub TellsCompletion : Call → Type 0
+TellsCompletion c = c.ending ≡ Completed → ForSynth c.words (λ set. OfText c (λ text. Gets c (IsCompletion set text)))
+
+-- No filling meets them.
+abbrev pub TellsNone : Call → Type 0
+TellsNone c = c.ending ≡ NoCompletion → ForSynth c.words (λ set. OfText c (λ text. Gets c (IsNone set text)))
+
+-- The line's budget of rounds is spent, which is not 0: the pairs are as many. The sink got them, and a choice whose filling
+-- meets its obligations, where one is known.
+abbrev pub TellsRounds : Call → Type 0
+TellsRounds c = (pairs : List Pair) (best : Option Choice) → c.ending ≡ SpentRounds pairs best → ForSearch c.words (λ set budget. AreSpent budget.rounds pairs × OfText c (λ text. Gets c (IsSpentRounds set budget text pairs best)))
+
+-- The line's budget of conflicts is spent, which is not 0: as many clauses were learnt from the formula of the query.
+abbrev pub TellsConflicts : Call → Type 0
+TellsConflicts c = (pairs : List Pair) (q : Query) (formula : Encoded) (log : List (List Lit)) (best : Option Choice) → c.ending ≡ SpentConflicts pairs q formula log best → ForSearch c.words (λ set budget. AreLearnt budget.conflicts log × OfText c (λ text. Gets c (IsSpentConflicts set budget text pairs q formula log best)))
+
+-- A text that is taken ends in one of these ways.
+abbrev pub BuiltEnds : Call → Type 0
+BuiltEnds c = (set : Set) (budget : Budget) → IsSearch c.words set budget → OfText c (λ text. (bounds : Bounds) (e : Expanded) → IsBuilt set text bounds e → Ends (IsOfBuilt budget) (SourceFailed c) (SinkFailed c) c.ending)
+
+-- Texts that are refused
+
+-- The text has this fault: its first as bytes, or what its tokens read as; for a line `lower`, what those of its plain form
+-- read as.
+abbrev pub TellsNotText : Call → Type 0
+TellsNotText c = (fault : TextFault) → c.ending ≡ NotText fault → ForText c.words (λ set. OfText c (IsTextFault fault)) ⊎ ForLower c.words (λ set. OfText c (λ text. IsFaultOfLowering set text (sketch.NotText fault)))
+
+-- It is told at a byte of the text, or at its end.
+abbrev pub PlacesNotText : Call → Type 0
+PlacesNotText c = (fault : TextFault) → c.ending ≡ NotText fault → OfText c (λ text. byte_of fault ≤ length text)
+
+-- A text with this fault ends so.
+abbrev pub FaultyEnds : Call → Type 0
+FaultyEnds c = (set : Set) → TakesText c.words set → OfText c (λ text. length text ≤ most_bytes → (fault : TextFault) → IsTextFault fault text → Ends (IsOfFault fault) (SourceFailed c) ⊥ c.ending)
+
+-- The tree of the text, or for a line `lower` that of its plain form, means no program with the options of the line.
+abbrev pub TellsNotTyped : Call → Type 0
+TellsNotTyped c = (fault : TypeFault) → c.ending ≡ NotTyped fault → ForText c.words (λ set. OfText c (IsUntyped set)) ⊎ ForLower c.words (λ set. OfText c (λ text. IsFaultOfLowering set text (sketch.NotTyped fault)))
+
+-- That is told at the span of an expression or a statement of the tree, which lies within the text, or at none, as 0 to 0.
+abbrev pub PlacesNotTyped : Call → Type 0
+PlacesNotTyped c = (fault : TypeFault) → c.ending ≡ NotTyped fault → ForText c.words (λ set. OfText c (λ text. HasSpan text fault.span)) ⊎ ForLower c.words (λ set. OfText c (λ text. IsPlacedFault text (sketch.NotTyped fault)))
+
+-- A text whose tree means no program ends so.
+abbrev pub UntypedEnds : Call → Type 0
+UntypedEnds c = (set : Set) → TakesText c.words set → OfText c (λ text. length text ≤ most_bytes → IsUntyped set text → Ends IsOfUntyped (SourceFailed c) ⊥ c.ending)
+
+-- The expansion of its program passes this limit, and none before it. For a line `lower` this does not come.
+abbrev pub TellsTooLarge : Call → Type 0
+TellsTooLarge c = (reason : SizeFault) → c.ending ≡ TooLarge reason → ForText c.words (λ set. OfText c (λ text. IsTooLarge set text reason))
+
+-- For a line `synth` a text whose expansion passes a limit ends so.
+abbrev pub LargeEnds : Call → Type 0
+LargeEnds c = (set : Set) → IsSynth c.words set → OfText c (λ text. (reason : SizeFault) → IsTooLarge set text reason → Ends (λ e. e ≡ TooLarge reason) (SourceFailed c) ⊥ c.ending)
+
+-- For a line `exec` or `trace` too, where it has too many nodes or sites.
+abbrev pub CopiesEnds : Call → Type 0
+CopiesEnds c = (set : Set) → TakesText c.words set → OfText c (λ text. (reason : SizeFault) → IsTrue (is_of_expansion reason) → IsTooLarge set text reason → Ends (λ e. e ≡ TooLarge reason) (SourceFailed c) ⊥ c.ending)
+
+-- The source gives more bytes than a sketch may have.
+abbrev pub TellsTooLong : Call → Type 0
+TellsTooLong c = c.ending ≡ TooLong → OfText c (λ text. most_bytes < length text)
+
+-- A text that is too long ends so.
+abbrev pub LongEnds : Call → Type 0
+LongEnds c = (set : Set) → ReadsText c.words set → OfText c (λ text. most_bytes < length text → Ends (λ e. e ≡ TooLong) (SourceFailed c) ⊥ c.ending)
+
+-- A line `exec` or `trace`
+
+-- The run of the line's function is done; the sink got its text, for `trace` with its steps.
+abbrev pub TellsDone : Call → Type 0
+TellsDone c = c.ending ≡ ExecDone → ForJob c.words (λ set job. OfText c (λ text. Gets c (IsRunResult set job ExecDone text)))
+
+-- It failed at this span.
+abbrev pub TellsFailed : Call → Type 0
+TellsFailed c = (span : Span) → c.ending ≡ ExecFailed span → ForJob c.words (λ set job. OfText c (λ text. Gets c (IsRunResult set job (ExecFailed span) text)))
+
+-- It was skipped at this span.
+abbrev pub TellsSkipped : Call → Type 0
+TellsSkipped c = (span : Span) → c.ending ≡ ExecSkipped span → ForJob c.words (λ set job. OfText c (λ text. Gets c (IsRunResult set job (ExecSkipped span) text)))
+
+-- A text whose function is run ends as the run does.
+abbrev pub RunEnds : Call → Type 0
+RunEnds c = (set : Set) (job : Job) → IsJob c.words set job → OfText c (λ text. (outcome : Outcome) (out : List ℕ) → IsRunOfJob set job text outcome out → Ends (λ e. e ≡ ending_of outcome) (SourceFailed c) (SinkFailed c) c.ending)
+
+-- No function is run, for this reason.
+abbrev pub TellsNotRun : Call → Type 0
+TellsNotRun c = (told : ExecFault) → c.ending ≡ NotRun told → ForJob c.words (λ set job. OfText c (λ text. IsStopped set job text (reason.NotRun told)))
+
+-- The numbers of a line `trace` do not fill the sketch, for this reason.
+abbrev pub TellsNotFilled : Call → Type 0
+TellsNotFilled c = (told : FillFault) → c.ending ≡ NotFilled told → ForTrace c.words (λ set holes name values. OfText c (λ text. IsNotTraced set holes name values text (reason.NotFilled told)))
+
+-- A text of which no function is run for a reason ends with it.
+abbrev pub NotRunEnds : Call → Type 0
+NotRunEnds c = (set : Set) (job : Job) → IsJob c.words set job → OfText c (λ text. (told : TraceFault) → IsStopped set job text told → Ends (λ e. e ≡ stopped told) (SourceFailed c) ⊥ c.ending)
+
+-- A line `lower`
+
+-- The sink got the text of the program that the plain form of the text means, which is tagged.
+abbrev pub TellsLowered : Call → Type 0
+TellsLowered c = c.ending ≡ Lowered → ForLower c.words (λ set. OfText c (λ text. Gets c (IsLoweredText set text)))
+
+-- A text with such a program ends so.
+abbrev pub LoweredEnds : Call → Type 0
+LoweredEnds c = (set : Set) → IsLine c.words (line.Lower set) → OfText c (λ text. (out : List ℕ) → IsLoweredText set text out → Ends (λ e. e ≡ Lowered) (SourceFailed c) (SinkFailed c) c.ending)
+
+-- The text has no plain form, for this reason.
+abbrev pub TellsNotLowered : Call → Type 0
+TellsNotLowered c = (told : AdtFault) → c.ending ≡ NotLowered told → ForLower c.words (λ set. OfText c (λ text. HasNoPlainForm text told))
+
+-- A text that has none for a reason ends with it.
+abbrev pub NotLoweredEnds : Call → Type 0
+NotLoweredEnds c = (set : Set) → IsLine c.words (line.Lower set) → OfText c (λ text. (told : AdtFault) → HasNoPlainForm text told → Ends (λ e. e ≡ NotLowered told) (SourceFailed c) ⊥ c.ending)
+
+-- The program of its plain form is not tagged: this is the first span that breaks a rule.
+abbrev pub TellsNotTagged : Call → Type 0
+TellsNotTagged c = (span : Span) → c.ending ≡ NotTagged span → ForLower c.words (λ set. OfText c (λ text. IsNotTagged set text span))
+
+-- A text with such a span ends with it.
+abbrev pub NotTaggedEnds : Call → Type 0
+NotTaggedEnds c = (set : Set) → IsLine c.words (line.Lower set) → OfText c (λ text. (span : Span) → IsNotTagged set text span → Ends (λ e. e ≡ NotTagged span) (SourceFailed c) ⊥ c.ending)
+
+-- A text that has no tokens, or whose plain form reads as no tree or means no program, ends with that fault.
+abbrev pub RefusedEnds : Call → Type 0
+RefusedEnds c = (set : Set) → IsLine c.words (line.Lower set) → OfText c (λ text. length text ≤ most_bytes → (told : SketchFault) → IsCause (IsFaultOfLowering set text) told → Ends (IsOfRefused told) (SourceFailed c) ⊥ c.ending)
+
+-- The streams
+
+-- The source failed.
+abbrev pub TellsReadFault : Call → Type 0
+TellsReadFault c = c.ending ≡ ReadFault → SourceFailed c
+
+-- The sink failed.
+abbrev pub TellsWriteFault : Call → Type 0
+TellsWriteFault c = c.ending ≡ WriteFault → SinkFailed c
+
+-- After a write fault the sink holds a prefix of what the line writes behind what it held.
+abbrev pub CutsOutput : Call → Type 0
+CutsOutput c = c.ending ≡ WriteFault → OfText c (λ text. WritesPart (IsOutput c.words text) c.effect.held_old c.effect.held_new)
+
+-- For `--help` that is a prefix of the help.
+abbrev pub CutsHelp : Call → Type 0
+CutsHelp c = IsLine c.words line.Help → c.ending ≡ WriteFault → AppendsPrefix help_text c.effect.held_old c.effect.held_new
+
+-- For `--version` that is a prefix of the version.
+abbrev pub CutsVersion : Call → Type 0
+CutsVersion c = IsLine c.words line.Version → c.ending ≡ WriteFault → AppendsPrefix version_text c.effect.held_old c.effect.held_new
+
+-- After any other status from 10 on it holds what it held.
+abbrev pub KeepsSink : Call → Type 0
+KeepsSink c = IsTrue (writes_nothing c.ending) → c.effect.held_new ≡ c.effect.held_old
+
+-- At most one byte past the limit is read.
+abbrev pub ReadsFew : Call → Type 0
+ReadsFew c = TakesFew c.effect.left_old c.effect.left_new
+
+-- Nothing is read but for a line that reads its source.
+abbrev pub LeavesSource : Call → Type 0
+LeavesSource c = ((set : Set) → ReadsText c.words set → ⊥) → c.effect.left_new ≡ c.effect.left_old
