@@ -64,6 +64,7 @@ impl Write for Counted {
 }
 
 /// What a source answers, read after read, over a reader of six bytes.
+#[derive(Drop)]
 struct Reads {
     step: usize,
     fails: u32,
@@ -114,6 +115,7 @@ fn a_read_is_one_call(rt: HostRuntime) -> Result<(), Fail> {
 }
 
 /// What a sink answers, write after write, where six bytes are offered and then what is left of them.
+#[derive(Drop)]
 struct Writes {
     step: usize,
     fails: u32,
