@@ -151,7 +151,7 @@ fn a_write_is_one_call(rt: HostRuntime) -> Result<(), Fail> {
         let mut sink = StdSink::new(&mut writer);
         let mut rest = b"sketch".as_slice();
         for answer in row.answers {
-            assert!(rt; !rest.is_empty());
+            assert!(rt; !rest.is_empty() && rest.len() <= 6);
             let put = sink.write(rest);
             assert_eq!(rt; put, *answer, "at step {}", row.step);
             if let Put::Wrote(count) = put {
