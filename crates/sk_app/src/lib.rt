@@ -12,12 +12,11 @@ mod output;
 mod prepare;
 mod result_text;
 mod spent;
-mod std_streams;
 mod text;
 
 pub use command::run;
 pub use ending::{Ending, message, status};
+pub use sk_app_streams::{StdSink, StdSource};
 pub use sk_exec::ExecFault;
 pub use sk_front::TextFault;
 pub use sk_holes::FillFault;
-pub use std_streams::{StdSink, StdSource};
