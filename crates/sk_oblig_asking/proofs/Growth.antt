@@ -1,5 +1,6 @@
 -- What a formula asks after one input more.
 use Rattle.std.proofs.Common.{◌≡◌, ℕ, zero, suc, All, Bool, true, List, [], ◌∷◌, ◌++◌, length, Option, None, refl, sym, ap, subst, ◌∙◌, arith}
+use Rattle.std.proofs.lemmas.List.{append-nil}
 use Rattle.std.proofs.lemmas.List.Elements.{All-nil}
 use Rattle.sk_base.specs.declared.bounds.Bounds.{Bounds}
 use Rattle.sk_dag.specs.declared.env.Env.{Env}
@@ -14,12 +15,12 @@ use Rattle.sk_model.specs.declared.expanded.Input.{Input}
 use Rattle.sk_model.specs.declared.expanded.Site.{Site}
 use Rattle.sk_model.specs.Fill.{fill}
 use Rattle.sk_model.specs.Meets.{Passes}
+use Rattle.sk_clause.specs.Problem.{Problem}
 use Rattle.sk_cnf.specs.declared.leaf.Leaf.{Leaf}
 use Rattle.sk_cnf.specs.declared.growing.Growing.{Growing}
 use Rattle.sk_cnf.specs.Formula.{AreTrue, Tight}
 use Rattle.sk_cnf.specs.Leaves.{Says}
-use Rattle.sk_cnf.specs.Standing.{Stands}
-use Rattle.sk_cnf.proofs.StandingLaws.{Begins-refl}
+use Rattle.sk_cnf.specs.Standing.{Begins, Stands}
 use Rattle.sk_oblig_queries.specs.declared.query.Query.TheVariants as query
 use Rattle.sk_oblig_queries.specs.Queries.{bits_of_query, leaves_of_query}
 use Rattle.sk_oblig_queries.specs.Said.{choice_said}
@@ -125,6 +126,10 @@ added {x} {bounds} {demands} old new input limit r askable is keeps fine stand t
 
 -- A refusal
 
+-- clauses begin with themselves
+pub begins_itself : (p : Problem) → Begins p p
+begins_itself p = record { vars = omega arith; added = []; clauses = sym (append-nil p.clauses) }
+
 -- roots say what they said in a graph that has more nodes
 same_roots : {d0 d1 : Graph} {x : Expanded} {bounds : Bounds} {demands : List Demand} (roots : List BoolId) → Keeps d0 d1 → All (HasBool d0.nodes) roots → AreRoots d0 x bounds demands roots → AreRoots d1 x bounds demands roots
 same_roots {d0} {d1} {x} {bounds} {demands} roots keeps there means = record {
@@ -145,7 +150,7 @@ still_asks {x} {bounds} {demands} old dag growing askable is keeps stand same =
     let leaves : growing.leaves.keys ≡ leaves_of_query x bounds (query.Wanted [] None) = rw same is.leaves in
     asks_each growing dag is.roots askable leaves (sym (ap length is.leaves) ∙ sym is.stands.means.encodes.named ∙ is.asks.named) stands (same_roots is.roots keeps is.stands.there is.means)
 
-pub ruleset refusals = (Begins-refl, still_asks)
+pub ruleset refusals = (begins_itself, still_asks)
 
 -- The beginning
 
