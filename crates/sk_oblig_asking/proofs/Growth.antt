@@ -1,5 +1,6 @@
 -- What a formula asks after one input more.
-use Rattle.std.proofs.Common.{◌≡◌, ℕ, zero, suc, All, Bool, true, List, [], ◌∷◌, ◌++◌, length, Option, None, refl, sym, ap, subst, ◌∙◌, arith}
+use Rattle.std.proofs.Common.{◌≡◌, ℕ, zero, suc, All, Bool, true, List, [], ◌∷◌, ◌++◌, length, Option, None, Result, Ok, Err, refl, sym, ap, subst, ◌∙◌, arith}
+use Rattle.std.specs.Result.{OnErr}
 use Rattle.std.proofs.lemmas.List.{append-nil}
 use Rattle.std.proofs.lemmas.List.Elements.{All-nil}
 use Rattle.sk_base.specs.declared.bounds.Bounds.{Bounds}
@@ -149,6 +150,10 @@ still_asks {x} {bounds} {demands} old dag growing askable is keeps stand same =
     let stands : Stands growing dag is.roots = stand old.dag is.roots is.stands (keeps.later dag (Grows-refl dag)) in
     let leaves : growing.leaves.keys ≡ leaves_of_query x bounds (query.Wanted [] None) = rw same is.leaves in
     asks_each growing dag is.roots askable leaves (sym (ap length is.leaves) ∙ sym is.stands.means.encodes.named ∙ is.asks.named) stands (same_roots is.roots keeps is.stands.there is.means)
+
+pub on_err : {A E P : Type 0} (r : Result A E) → P → OnErr r P
+on_err (Ok a) p = tt
+on_err (Err e) p = p
 
 pub ruleset refusals = (begins_itself, still_asks)
 
