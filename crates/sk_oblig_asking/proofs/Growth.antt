@@ -18,8 +18,9 @@ use Rattle.sk_cnf.specs.declared.leaf.Leaf.{Leaf}
 use Rattle.sk_cnf.specs.declared.growing.Growing.{Growing}
 use Rattle.sk_cnf.specs.Formula.{AreTrue, Tight}
 use Rattle.sk_cnf.specs.Leaves.{Says}
-use Rattle.sk_cnf.specs.Standing.{Stands}
-use Rattle.sk_cnf.proofs.StandingLaws.{Begins-refl}
+use Rattle.std.proofs.lemmas.List.{append-nil}
+use Rattle.sk_clause.specs.Problem.{Problem}
+use Rattle.sk_cnf.specs.Standing.{Begins, Stands}
 use Rattle.sk_oblig_queries.specs.declared.query.Query.TheVariants as query
 use Rattle.sk_oblig_queries.specs.Queries.{bits_of_query, leaves_of_query}
 use Rattle.sk_oblig_queries.specs.Said.{choice_said}
@@ -145,7 +146,10 @@ still_asks {x} {bounds} {demands} old dag growing askable is keeps stand same =
     let leaves : growing.leaves.keys ≡ leaves_of_query x bounds (query.Wanted [] None) = rw same is.leaves in
     asks_each growing dag is.roots askable leaves (sym (ap length is.leaves) ∙ sym is.stands.means.encodes.named ∙ is.asks.named) stands (same_roots is.roots keeps is.stands.there is.means)
 
-pub ruleset refusals = (Begins-refl, still_asks)
+pub begins_same : (f : Problem) → Begins f f
+begins_same f = record { vars = omega arith; added = []; clauses = sym (append-nil f.clauses) }
+
+pub ruleset refusals = (begins_same, still_asks)
 
 -- The beginning
 
