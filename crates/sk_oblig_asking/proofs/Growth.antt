@@ -1,5 +1,6 @@
 -- What a formula asks after one input more.
-use Rattle.std.proofs.Common.{◌≡◌, ℕ, zero, suc, All, Bool, true, List, [], ◌∷◌, ◌++◌, length, Option, None, refl, sym, ap, subst, ◌∙◌, arith}
+use Rattle.std.proofs.Common.{◌≡◌, ℕ, zero, suc, All, Bool, true, List, [], ◌∷◌, ◌++◌, length, Option, None, refl, sym, ap, subst, ◌∙◌, arith, Result, Ok, Err}
+use Rattle.std.specs.Prelude.{OnErr}
 use Rattle.std.proofs.lemmas.List.Elements.{All-nil}
 use Rattle.sk_base.specs.declared.bounds.Bounds.{Bounds}
 use Rattle.sk_dag.specs.declared.env.Env.{Env}
@@ -145,6 +146,11 @@ still_asks {x} {bounds} {demands} old dag growing askable is keeps stand same =
     let stands : Stands growing dag is.roots = stand old.dag is.roots is.stands (keeps.later dag (Grows-refl dag)) in
     let leaves : growing.leaves.keys ≡ leaves_of_query x bounds (query.Wanted [] None) = rw same is.leaves in
     asks_each growing dag is.roots askable leaves (sym (ap length is.leaves) ∙ sym is.stands.means.encodes.named ∙ is.asks.named) stands (same_roots is.roots keeps is.stands.there is.means)
+
+-- what holds anyhow holds after a refusal
+pub on_err : {T E : Type 0} (r : Result T E) (P : Type 0) → P → OnErr r P
+on_err (Ok x) P p = tt
+on_err (Err e) P p = p
 
 pub begins_same : (f : Problem) → Begins f f
 begins_same f = record { vars = omega arith; added = []; clauses = sym (append-nil f.clauses) }
