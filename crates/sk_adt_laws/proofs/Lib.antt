@@ -1,0 +1,5 @@
+pub mod Read
+pub mod Walk
+pub mod Built
+mod Words
+mod Stay

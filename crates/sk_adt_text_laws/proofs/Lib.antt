@@ -1,0 +1,4 @@
+mod Others
+mod Bodies
+mod Heads
+mod Typed
