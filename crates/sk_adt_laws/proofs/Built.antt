@@ -70,10 +70,13 @@ module _ (test : Kind → Bool) (made : Makes test) where
     name_passes lists x after h None e = set_passes lists x after h
     name_passes lists x after h (Some k) e = e.each k refl
 
+    abbrev comma : Span → Tokens
+    comma s = record { kind = kind.Mark mark.Comma; span = s } ∷ []
+
     gap_few : (after : List Token) (s : Span) → (passes test (gap after s) ≡ true) × (length (gap after s) ≤ 1)
     gap_few after s = go (mark_ahead mark.CloseParen after)
       where
-        go : (c : Bool) → (passes test (if c then [] else record { kind = kind.Mark mark.Comma; span = s } ∷ []) ≡ true) × (length (if c then [] else record { kind = kind.Mark mark.Comma; span = s } ∷ []) ≤ 1)
+        go : (c : Bool) → (passes test (if c then [] else comma s) ≡ true) × (length (if c then [] else comma s) ≤ 1)
         go true = (refl, omega arith)
         go false = (both _ _ (made.sign mark.Comma) refl, omega arith)
 
@@ -100,7 +103,7 @@ module _ (test : Kind → Bool) (made : Makes test) where
         let k = both_true (test t.kind) _ h in
         let q = token_few b lists t ts k.0 in
         let r = built_few (next_before known b t ts) (next_lists b lists t) ts k.1 in
-        (passes_append test (token_built known b lists t ts) _ q.0 r.0, omega (arith, q.1, r.1, length-append (token_built known b lists t ts) (built_from known (next_before known b t ts) (next_lists b lists t) ts)))
+        (passes_append test (token_built known b lists t ts) (built_from known (next_before known b t ts) (next_lists b lists t) ts) q.0 r.0, omega (arith, q.1, r.1, length-append (token_built known b lists t ts) (built_from known (next_before known b t ts) (next_lists b lists t) ts)))
 
   known_passes : (n : ℕ) (ty : List ℕ) (vs : List VariantWords) → Word-passes test ty → list_all of_type (known_from n ty vs) ≡ true
   unfolding known_from

@@ -3,3 +3,4 @@ pub mod Walk
 pub mod Built
 mod Words
 mod Stay
+mod Structs

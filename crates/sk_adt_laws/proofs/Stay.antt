@@ -95,6 +95,10 @@ plain_stands t ts h = record {
   plain = h;
 }
 
+kept : (x f : List ℕ) → member_name [] [] x f ≡ f
+unfolding member_name innermost
+kept x f = refl
+
 member_stands : (t : Token) (ts : List Token) (x : List ℕ) → t.kind ≡ kind.Word x → are_plain ts ≡ true → (o : Option (Span × (Word × List Token))) → Every (λ r. ts ≡ token (kind.Mark mark.Dot) r.0 ∷ (token (kind.Word r.1.0.name) r.1.0.span ∷ r.1.1)) o → Stands (t ∷ ts) (member t ts x o).0 (member t ts x o).1
 member_stands t ts x k h None e = plain_stands t ts h
 member_stands t ts x k h (Some s) e =
@@ -105,12 +109,8 @@ member_stands t ts x k h (Some s) e =
       less = omega (arith, ap length is);
       types = types_of_member on s.0 s.1.0;
       switches = switches_of_member on s.0 s.1.0;
-      plain = tail_plain (token (kind.Word s.1.0.name) s.1.0.span) s.1.1 (tail_plain (token (kind.Mark mark.Dot) s.0) _ (ap are_plain (sym is) ∙ h));
+      plain = tail_plain (token (kind.Word s.1.0.name) s.1.0.span) s.1.1 (tail_plain (token (kind.Mark mark.Dot) s.0) (token (kind.Word s.1.0.name) s.1.0.span ∷ s.1.1) (ap are_plain (sym is) ∙ h));
     }
-  where
-    kept : (x f : List ℕ) → member_name [] [] x f ≡ f
-    unfolding member_name innermost
-    kept x f = refl
 
 behind_stands : (t : Token) (ts : List Token) → t.kind ≡ kind.Mark mark.Dot → are_plain ts ≡ true → (o : Option (Word × List Token)) → Every (λ r. ts ≡ token (kind.Word r.0.name) r.0.span ∷ r.1) o → Stands (t ∷ ts) (behind t ts o).0 (behind t ts o).1
 behind_stands t ts k h None e = plain_stands t ts h

@@ -99,8 +99,9 @@ module _ (test : Kind → Bool) (made : Makes test) where
   fields_few [] a b h i j = (refl, omega (arith, h))
   fields_few (f ∷ fs) a b h i j =
       let r = fields_few fs h.0 b h.2 i (suc j) in
-      let one : ok (field_tokens i j f) = passes_append test f.ty _ (h.1).0 (both _ _ (made.field i j) (both _ _ (made.sign mark.Semicolon) refl)) in
-      (passes_append test (field_tokens i j f) (fields_from i (suc j) fs) one r.0, omega (arith, r.1, (h.1).1, length-append (field_tokens i j f) (fields_from i (suc j) fs), length-append f.ty _))
+      let behind : Tokens = record { kind = kind.Word (made_name i j); span = f.word.span } ∷ (record { kind = kind.Mark mark.Semicolon; span = f.end } ∷ []) in
+      let one : ok (field_tokens i j f) = passes_append test f.ty behind (h.1).0 (both _ _ (made.field i j) (both _ _ (made.sign mark.Semicolon) refl)) in
+      (passes_append test (field_tokens i j f) (fields_from i (suc j) fs) one r.0, omega (arith, r.1, (h.1).1, length-append (field_tokens i j f) (fields_from i (suc j) fs), length-append f.ty behind))
 
   variants_few : (vs : List VariantForm) (a b : ℕ) → VariantsFit test vs a b → (i : ℕ) → ok (variants_from i vs) × (length (variants_from i vs) + b ≤ a)
   unfolding variants_from
@@ -115,7 +116,7 @@ module _ (test : Kind → Bool) (made : Makes test) where
       let r = variants_few t.variants h.from h.upto h.variants 0 in
       (both _ _ (made.keyword key.Struct refl) (both _ _ h.named (both _ _ (made.sign mark.OpenBrace)
       (both _ _ (made.keyword key.Int refl) (both _ _ made.tag (both _ _ (made.sign mark.Semicolon)
-      (passes_append test (variants_from 0 t.variants) _ r.0 (both _ _ (made.sign mark.CloseBrace) refl))))))),
+      (passes_append test (variants_from 0 t.variants) (record { kind = kind.Mark mark.CloseBrace; span = t.close } ∷ []) r.0 (both _ _ (made.sign mark.CloseBrace) refl))))))),
       omega (arith, r.1, h.front, h.back, length-append (variants_from 0 t.variants) (record { kind = kind.Mark mark.CloseBrace; span = t.close } ∷ [])))
 
   -- Members
@@ -297,17 +298,17 @@ module _ (test : Kind → Bool) (made : Makes test) where
     types = ap (list_all named) (types_of_plain t);
   }
 
+  renamed : (known : List Known) (inside : List Inside) (x f : List ℕ) → Word-passes test f → Word-passes test (member_name known inside x f)
+  unfolding member_name
+  renamed known inside x f h = or_made (option_and_then (variant_named known) (innermost None inside x)) f h
+
   member_fits : (on : Word) (dot : Span) (field : Word) (a b : ℕ) → Word-passes test on.name → Word-passes test field.name → b + 3 ≤ a → PieceFits (piece.Member on dot field) a b
   member_fits on dot field a b h k l = record {
     tokens = λ known inside.
       let e : branched_piece known (piece.Member on dot field) inside ≡ member_tokens known inside on dot field = ap (λ (f : List Inside → Tokens). f inside) (member_is known on dot field) in
-      (ap (passes test) e ∙ both _ _ h (both _ _ (made.sign mark.Dot) (both _ _ (renamed known inside) refl)), omega (arith, l, ap length e));
+      (ap (passes test) e ∙ both _ _ h (both _ _ (made.sign mark.Dot) (both _ _ (renamed known inside on.name field.name k) refl)), omega (arith, l, ap length e));
     types = ap (list_all named) (types_of_member on dot field);
   }
-    where
-      renamed : (known : List Known) (inside : List Inside) → Word-passes test (member_name known inside on.name field.name)
-      unfolding member_name
-      renamed known inside = or_made (option_and_then (variant_named known) (innermost None inside on.name)) field.name k
 
   behind_fits : (dot : Span) (field : Word) (a b : ℕ) → Word-passes test field.name → b + 2 ≤ a → PieceFits (piece.Behind dot field) a b
   behind_fits dot field a b k l = record {

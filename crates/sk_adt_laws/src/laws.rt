@@ -1,5 +1,5 @@
 //! What holds of plain forms.
-ghost use Rattle.sk_adt_laws.specs.Laws.{PlainTextsStay, NoWordIsLeft, PlainFormsAreSmall};
+ghost use Rattle.sk_adt_laws.specs.Laws.{PlainTextsStay, NoWordIsLeft, PlainFormsAreSmall, TypesBecomeStructs};
 
 /// A text without the words `adt`, `switch` and `case` is its own plain form.
 pub fn plain_texts_stay()
@@ -14,4 +14,9 @@ pub fn no_word_is_left()
 /// A plain form has at most 15 times as many tokens as the text.
 pub fn plain_forms_are_small()
     ensures { PlainFormsAreSmall }
+{}
+
+/// Each algebraic type is a struct in the plain form, whose first field is the tag, an integer.
+pub fn types_become_structs()
+    ensures { TypesBecomeStructs }
 {}

@@ -3,4 +3,4 @@
 
 mod laws;
 
-pub use laws::{no_word_is_left, plain_forms_are_small, plain_texts_stay};
+pub use laws::{no_word_is_left, plain_forms_are_small, plain_texts_stay, types_become_structs};

@@ -27,7 +27,7 @@ use Rattle.sk_tree.proofs.Says.{kinds}
 use Rattle.sk_tree.proofs.KindLaws.{tree_says}
 use Rattle.sk_parser.specs.Parses.{IsTreeOf}
 use Rattle.sk_types_laws.proofs.Ats.{both_true}
-use Rattle.sk_adt_text_laws.specs.Heads.{head, HasHead}
+use Rattle.sk_adt_laws.specs.Heads.{head, HasHead}
 use Rattle.sk_adt_text_laws.proofs.Others.{is_other, others, Free, then, one, sign, word, Clean, expr_free}
 use Rattle.sk_adt_text_laws.proofs.Bodies.{Held, halves, each_free, field_free, fun_free}
 

@@ -2,3 +2,6 @@ mod Others
 mod Bodies
 mod Heads
 mod Typed
+mod Tags
+mod Rules
+mod Composed

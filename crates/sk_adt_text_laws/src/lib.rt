@@ -1,6 +1,6 @@
-//! Laws of lowered texts, with nothing to run.
+//! Laws of the programs that plain forms mean: laws alone, with nothing to run.
 #![tactic(auto)]
 
 mod laws;
 
-pub use laws::structs_have_tags;
+pub use laws::{lowered_programs_keep_rules, lowered_runs_keep_variants, lowered_tags_are_integers};
