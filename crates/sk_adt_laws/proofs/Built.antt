@@ -27,7 +27,7 @@ use Rattle.sk_adt.specs.Branches.{Tokens, made_field, or_name, number_of_variant
 use Rattle.sk_adt.specs.Builds.{Lists, innermost_list, gap, tag_set, behind_new, set_name, new_name, opening, word_built, token_kind, token_built, next_before, next_lists, built_from, built}
 use Rattle.sk_adt.specs.Lowering.{plain_form, or_plain, lowered_pieces, lowered}
 use Rattle.sk_adt_laws.specs.Plain.{is_plain}
-use Rattle.sk_adt_laws.proofs.Read.{passes, passes_append, Makes, Word-passes, Old}
+use Rattle.sk_adt_laws.proofs.Read.{passes, passes_append, Makes, WordPasses, Old}
 use Rattle.sk_adt_laws.proofs.Walk.{or_made, PiecesFit, pieces_few, pieces_types, of_pieces}
 
 module _ (test : Kind → Bool) (made : Makes test) where
@@ -58,15 +58,15 @@ module _ (test : Kind → Bool) (made : Makes test) where
     new_passes before.Other x after = every_none
     new_passes (before.Variant v) x after = every_none
 
-    set_passes : (lists : Lists) (x : List ℕ) (after : List Token) → Word-passes test x → Word-passes test (set_name known lists x after)
+    set_passes : (lists : Lists) (x : List ℕ) (after : List Token) → WordPasses test x → WordPasses test (set_name known lists x after)
     unfolding set_name
     set_passes lists x after h = go (mark_ahead mark.Assign after)
       where
-        go : (c : Bool) → Word-passes test (if c then or_name x (option_and_then (λ k. made_field k x) (option_and_then (variant_named known) (innermost_list lists))) else x)
+        go : (c : Bool) → WordPasses test (if c then or_name x (option_and_then (λ k. made_field k x) (option_and_then (variant_named known) (innermost_list lists))) else x)
         go true = or_made test made (option_and_then (variant_named known) (innermost_list lists)) x h
         go false = h
 
-    name_passes : (lists : Lists) (x : List ℕ) (after : List Token) → Word-passes test x → (o : Option Known) → Every (λ k. of_type k ≡ true) o → Word-passes test (new_name known lists x after o)
+    name_passes : (lists : Lists) (x : List ℕ) (after : List Token) → WordPasses test x → (o : Option Known) → Every (λ k. of_type k ≡ true) o → WordPasses test (new_name known lists x after o)
     name_passes lists x after h None e = set_passes lists x after h
     name_passes lists x after h (Some k) e = e.each k refl
 
@@ -105,7 +105,7 @@ module _ (test : Kind → Bool) (made : Makes test) where
         let r = built_few (next_before known b t ts) (next_lists b lists t) ts k.1 in
         (passes_append test (token_built known b lists t ts) (built_from known (next_before known b t ts) (next_lists b lists t) ts) q.0 r.0, omega (arith, q.1, r.1, length-append (token_built known b lists t ts) (built_from known (next_before known b t ts) (next_lists b lists t) ts)))
 
-  known_passes : (n : ℕ) (ty : List ℕ) (vs : List VariantWords) → Word-passes test ty → list_all of_type (known_from n ty vs) ≡ true
+  known_passes : (n : ℕ) (ty : List ℕ) (vs : List VariantWords) → WordPasses test ty → list_all of_type (known_from n ty vs) ≡ true
   unfolding known_from
   known_passes n ty [] h = refl
   known_passes n ty (v ∷ vs) h = both _ _ h (known_passes (suc n) ty vs h)

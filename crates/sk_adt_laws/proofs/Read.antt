@@ -52,8 +52,8 @@ chain_push Fits [] x a m b h f = (b, subst (λ n. Fits x n b) (sym h) f, refl)
 chain_push Fits (y ∷ ys) x a m b h f = (h.0, h.1, chain_push Fits ys x h.0 m b h.2 f)
 
 module _ (test : Kind → Bool) where
-  abbrev pub Word-passes : List ℕ → Type 0
-  Word-passes x = test (kind.Word x) ≡ true
+  abbrev pub WordPasses : List ℕ → Type 0
+  WordPasses x = test (kind.Word x) ≡ true
 
   -- the tokens of a text of which the plain ones pass the test
   abbrev pub Old : List Token → Type 0
@@ -91,14 +91,14 @@ module _ (test : Kind → Bool) where
   mark_rest m [] h = every_none
   mark_rest m (t ∷ ts) h = every_if (is_mark m t.kind) (Some ts) None (λ e. every_some (rest_of t ts h)) (λ e. every_none)
 
-  word_rest : (k : Kind) (s : Span) (ts : List Token) → (is_plain k ≡ true → test k ≡ true) → Every (λ r. (r.1 ≡ ts) × Word-passes r.0.name) (word_kind k s ts)
+  word_rest : (k : Kind) (s : Span) (ts : List Token) → (is_plain k ≡ true → test k ≡ true) → Every (λ r. (r.1 ≡ ts) × WordPasses r.0.name) (word_kind k s ts)
   word_rest (kind.Word x) s ts h = every_some (refl, h refl)
   word_rest (kind.Number n) s ts h = every_none
   word_rest (kind.Text x) s ts h = every_none
   word_rest (kind.Key k) s ts h = every_none
   word_rest (kind.Mark m) s ts h = every_none
 
-  pub name_rest : (ts : List Token) → Old ts → Every (λ r. Rest ts r.1 × Word-passes r.0.name) (name_at ts)
+  pub name_rest : (ts : List Token) → Old ts → Every (λ r. Rest ts r.1 × WordPasses r.0.name) (name_at ts)
   unfolding name_at
   name_rest [] h = every_none
   name_rest (t ∷ ts) h = every_more (word_rest t.kind t.span ts (old_here t ts h)) (λ r w. (subst (Rest (t ∷ ts)) (sym w.0) (rest_of t ts h), w.1))
@@ -229,7 +229,7 @@ module _ (test : Kind → Bool) where
       (λ first a. every_more (every_repeated at_close next_variant (λ s rest. VariantsFit s (length ts) (length rest) × Old rest) (λ s rest i e. next_variant_fits (length ts) s rest i) first.0 first.1 a) (λ r c. c.0))
 
   pub record TypeFits (t : TypeForm) (a b : ℕ) : Type 0 where
-    pub named : Word-passes t.word.name
+    pub named : WordPasses t.word.name
     pub from : ℕ
     pub upto : ℕ
     pub front : from + 3 ≤ a
@@ -282,7 +282,7 @@ module _ (test : Kind → Bool) where
 
   pub record HeadRest (ts : List Token) (head : SwitchHead) (rest : List Token) : Type 0 where
     pub less : length rest + 4 ≤ length ts
-    pub named : Word-passes head.on.name
+    pub named : WordPasses head.on.name
     pub old : Old rest
 
   pub head_rest : (ts : List Token) → Old ts → Every (λ r. HeadRest ts r.0 r.1) (head_at ts)
@@ -294,7 +294,7 @@ module _ (test : Kind → Bool) where
       (λ on c. every_bind (sign_at mark.CloseParen on.1) _ (sign_rest mark.CloseParen on.1 (c.0).old)
       (λ close d. every_some (record { less = omega (arith, a.less, b.less, (c.0).less, d.less); named = c.1; old = d.old })))))
 
-  pub selected_rest : (ts : List Token) → Old ts → Every (λ r. (length r.1.1 + 2 ≤ length ts) × Word-passes r.1.0.name × Old r.1.1) (selected_at ts)
+  pub selected_rest : (ts : List Token) → Old ts → Every (λ r. (length r.1.1 + 2 ≤ length ts) × WordPasses r.1.0.name × Old r.1.1) (selected_at ts)
   unfolding selected_at
   selected_rest ts h =
       every_bind (sign_at mark.Dot ts) _ (sign_rest mark.Dot ts h)

@@ -66,13 +66,13 @@ selected_read ts =
     (λ dot a. every_bind (name_at dot.1) _ (name_read dot.1)
     (λ field b. every_some (a ∙ ap (λ l. token (kind.Mark mark.Dot) dot.0 ∷ l) b)))
 
-switches_of_member : (on : Word) (dot : Span) (field : Word) → switches_of_piece (piece.Member on dot field) ≡ []
+pub switches_of_member : (on : Word) (dot : Span) (field : Word) → switches_of_piece (piece.Member on dot field) ≡ []
 switches_of_member on dot field = ap switches_of_piece (sym (piece.rolls-Member on dot field)) ∙ fold-roll-Piece (List (List Word)) (Word × List (List Word)) switches_step (λ c. (c.head.word, each c.body)) (P.Member on dot field)
 
 switches_of_behind : (dot : Span) (field : Word) → switches_of_piece (piece.Behind dot field) ≡ []
 switches_of_behind dot field = ap switches_of_piece (sym (piece.rolls-Behind dot field)) ∙ fold-roll-Piece (List (List Word)) (Word × List (List Word)) switches_step (λ c. (c.head.word, each c.body)) (P.Behind dot field)
 
-switches_of_plain : (t : Token) → switches_of_piece (piece.Plain t) ≡ []
+pub switches_of_plain : (t : Token) → switches_of_piece (piece.Plain t) ≡ []
 switches_of_plain t = ap switches_of_piece (sym (piece.rolls-Plain t)) ∙ fold-roll-Piece (List (List Word)) (Word × List (List Word)) switches_step (λ c. (c.head.word, each c.body)) (P.Plain t)
 
 -- the piece at the front of these tokens is the tokens before the rest, without types and switches

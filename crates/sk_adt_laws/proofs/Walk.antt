@@ -33,7 +33,7 @@ use Rattle.sk_adt.specs.Words.{each, types_step, types_of_piece, types_of_case, 
 use Rattle.sk_adt.specs.Forms.{at_close, name_at, type_at, case_at, head_at, selected_at, Found, with_case, next_case, cases_at, switched, switch_at, typed_at, or_outside, member, behind, plain_kind, plain_at, ok_plain, piece_kind, piece_at, with_piece, pieces_from, pieces_of}
 use Rattle.sk_adt.specs.Branches.{Tokens, made_name, field_tokens, fields_from, variants_from, struct_of, made_field, or_name, member_name, innermost, all_at, number_of_variant, test_tokens, condition, refusal, Branch, block_of, otherwise, last_close, branch, chain, switch_tokens, member_tokens, piece_tokens, case_branch, branched_case, branched_piece, branched}
 use Rattle.sk_adt_laws.specs.Plain.{is_plain}
-use Rattle.sk_adt_laws.proofs.Read.{passes, passes_append, Makes, Chain, chain_push, Word-passes, Old, old_here, old_rest, mark_rest, name_rest, FieldFits, FieldsFit, VariantFits, VariantsFit, TypeFits, type_fits, CaseRest, case_rest, HeadRest, head_rest, selected_rest}
+use Rattle.sk_adt_laws.proofs.Read.{passes, passes_append, Makes, Chain, chain_push, WordPasses, Old, old_here, old_rest, mark_rest, name_rest, FieldFits, FieldsFit, VariantFits, VariantsFit, TypeFits, type_fits, CaseRest, case_rest, HeadRest, head_rest, selected_rest}
 
 -- The parts of folds over pieces
 
@@ -121,11 +121,11 @@ module _ (test : Kind → Bool) (made : Makes test) where
 
   -- Members
 
-  pub or_made : (o : Option Known) (f : List ℕ) → Word-passes test f → Word-passes test (or_name f (option_and_then (λ k. made_field k f) o))
+  pub or_made : (o : Option Known) (f : List ℕ) → WordPasses test f → WordPasses test (or_name f (option_and_then (λ k. made_field k f) o))
   or_made None f h = h
   or_made (Some k) f h = go (place_of k.fields f)
     where
-      go : (o : Option ℕ) → Word-passes test (or_name f (option_map (made_name k.number) o))
+      go : (o : Option ℕ) → WordPasses test (or_name f (option_map (made_name k.number) o))
       go None = h
       go (Some j) = made.field k.number j
 
@@ -168,7 +168,7 @@ module _ (test : Kind → Bool) (made : Makes test) where
 
   -- Chains of cases
 
-  cond_few : (s : Spots) (x : List ℕ) (n : ℕ) → Word-passes test x → Few (condition s x n) 8
+  cond_few : (s : Spots) (x : List ℕ) (n : ℕ) → WordPasses test x → Few (condition s x n) 8
   cond_few s x n h = record {
     ok = both _ _ (made.keyword key.If refl) (both _ _ (made.sign mark.OpenParen) (both _ _ h (both _ _ (made.sign mark.Dot) (both _ _ made.tag (both _ _ (made.sign mark.Equal) (both _ _ (made.number n) (both _ _ (made.sign mark.CloseParen) refl)))))));
     few = omega arith;
@@ -184,7 +184,7 @@ module _ (test : Kind → Bool) (made : Makes test) where
   else_few : (s : Span) → Few (otherwise s) 2
   else_few s = record { ok = both _ _ (made.keyword key.Else refl) (both _ _ (made.sign mark.OpenBrace) refl); few = omega arith }
 
-  branch_few : (known : List Known) (inside : List Inside) (x : List ℕ) (spots : Spots) (b : Branch) (m : ℕ) → Word-passes test x → Few (b.block (inside ++ record { on = x; variant = b.head.word.name } ∷ [])) m → Few (branch known inside x spots b) (m + 12)
+  branch_few : (known : List Known) (inside : List Inside) (x : List ℕ) (spots : Spots) (b : Branch) (m : ℕ) → WordPasses test x → Few (b.block (inside ++ record { on = x; variant = b.head.word.name } ∷ [])) m → Few (branch known inside x spots b) (m + 12)
   branch_few known inside x spots b m h f =
       let n = number_of_variant (variant_named known b.head.word.name) in
       few_append (condition spots x n) (block_of b inside x ++ otherwise b.head.close) 8 (m + 4) (m + 12) (cond_few spots x n h)
@@ -194,7 +194,7 @@ module _ (test : Kind → Bool) (made : Makes test) where
   refusal_ok : (s : Span) → ok (refusal s)
   refusal_ok s = both _ _ (made.keyword key.Assert refl) (both _ _ (made.keyword key.False refl) (both _ _ (made.sign mark.Semicolon) refl))
 
-  chain_few : (cs : List CaseForm) (a b : ℕ) → CasesFit cs a b → (known : List Known) (inside : List Inside) (x : List ℕ) (last : Span) (spots : Spots) → Word-passes test x → ok (chain known inside x last spots (map (branched_case known) cs)) × (length (chain known inside x last spots (map (branched_case known) cs)) + 3 * b ≤ 3 * a + 3)
+  chain_few : (cs : List CaseForm) (a b : ℕ) → CasesFit cs a b → (known : List Known) (inside : List Inside) (x : List ℕ) (last : Span) (spots : Spots) → WordPasses test x → ok (chain known inside x last spots (map (branched_case known) cs)) × (length (chain known inside x last spots (map (branched_case known) cs)) + 3 * b ≤ 3 * a + 3)
   unfolding chain
   chain_few [] a b h known inside x last spots w = (refusal_ok last, omega (arith, h))
   chain_few (c ∷ cs) a b h known inside x last spots w =
@@ -247,7 +247,7 @@ module _ (test : Kind → Bool) (made : Makes test) where
   PieceOk (Err at) a b = Unit {0}
   PieceOk (Ok p) a b = PieceFits p a b
 
-  switch_fits : (head : SwitchHead) (cs : List CaseForm) (a n k b : ℕ) → Word-passes test head.on.name → CasesFit cs n k → n + 5 ≤ a → b + 1 ≤ k → PieceFits (piece.Switch head cs) a b
+  switch_fits : (head : SwitchHead) (cs : List CaseForm) (a n k b : ℕ) → WordPasses test head.on.name → CasesFit cs n k → n + 5 ≤ a → b + 1 ≤ k → PieceFits (piece.Switch head cs) a b
   switch_fits head cs a n k b w h front back = record {
     tokens = λ known inside.
       let r = chain_few cs n k h known inside head.on.name _ _ w in
@@ -256,7 +256,7 @@ module _ (test : Kind → Bool) (made : Makes test) where
     types = ap (list_all named) (types_of_switch head cs) ∙ cases_types cs n k h;
   }
 
-  switched_ok : (head : SwitchHead) (f : Found (List CaseForm)) (a n k b : ℕ) → Word-passes test head.on.name → CasesOk f n k → n + 5 ≤ a → b + 1 ≤ k → PieceOk (switched head f) a b
+  switched_ok : (head : SwitchHead) (f : Found (List CaseForm)) (a n k b : ℕ) → WordPasses test head.on.name → CasesOk f n k → n + 5 ≤ a → b + 1 ≤ k → PieceOk (switched head f) a b
   switched_ok head (Err at) a n k b w h front back = tt
   switched_ok head (Ok cs) a n k b w h front back = switch_fits head cs a n k b w h front back
 
@@ -298,11 +298,11 @@ module _ (test : Kind → Bool) (made : Makes test) where
     types = ap (list_all named) (types_of_plain t);
   }
 
-  renamed : (known : List Known) (inside : List Inside) (x f : List ℕ) → Word-passes test f → Word-passes test (member_name known inside x f)
+  renamed : (known : List Known) (inside : List Inside) (x f : List ℕ) → WordPasses test f → WordPasses test (member_name known inside x f)
   unfolding member_name
   renamed known inside x f h = or_made (option_and_then (variant_named known) (innermost None inside x)) f h
 
-  member_fits : (on : Word) (dot : Span) (field : Word) (a b : ℕ) → Word-passes test on.name → Word-passes test field.name → b + 3 ≤ a → PieceFits (piece.Member on dot field) a b
+  member_fits : (on : Word) (dot : Span) (field : Word) (a b : ℕ) → WordPasses test on.name → WordPasses test field.name → b + 3 ≤ a → PieceFits (piece.Member on dot field) a b
   member_fits on dot field a b h k l = record {
     tokens = λ known inside.
       let e : branched_piece known (piece.Member on dot field) inside ≡ member_tokens known inside on dot field = ap (λ (f : List Inside → Tokens). f inside) (member_is known on dot field) in
@@ -310,7 +310,7 @@ module _ (test : Kind → Bool) (made : Makes test) where
     types = ap (list_all named) (types_of_member on dot field);
   }
 
-  behind_fits : (dot : Span) (field : Word) (a b : ℕ) → Word-passes test field.name → b + 2 ≤ a → PieceFits (piece.Behind dot field) a b
+  behind_fits : (dot : Span) (field : Word) (a b : ℕ) → WordPasses test field.name → b + 2 ≤ a → PieceFits (piece.Behind dot field) a b
   behind_fits dot field a b k l = record {
     tokens = λ known inside.
       let e : branched_piece known (piece.Behind dot field) inside ≡ piece_tokens known (P.Behind dot field) inside = ap (λ (f : List Inside → Tokens). f inside) (behind_is known dot field) in
@@ -321,11 +321,11 @@ module _ (test : Kind → Bool) (made : Makes test) where
   abbrev PlainAt : ℕ → Piece × List Token → Type 0
   PlainAt a r = PieceFits r.0 a (length r.1) × Old test r.1
 
-  member_ok : (t : Token) (ts : List Token) (x : List ℕ) → test t.kind ≡ true → Word-passes test x → Old test ts → (o : Option (Span × (Word × List Token))) → Every (λ r. (length r.1.1 + 2 ≤ length ts) × Word-passes test r.1.0.name × Old test r.1.1) o → PlainAt (suc (length ts)) (member t ts x o)
+  member_ok : (t : Token) (ts : List Token) (x : List ℕ) → test t.kind ≡ true → WordPasses test x → Old test ts → (o : Option (Span × (Word × List Token))) → Every (λ r. (length r.1.1 + 2 ≤ length ts) × WordPasses test r.1.0.name × Old test r.1.1) o → PlainAt (suc (length ts)) (member t ts x o)
   member_ok t ts x p w h None e = (plain_fits t ts p, h)
   member_ok t ts x p w h (Some s) e = let r = e.each s refl in (member_fits (record { name = x; span = t.span }) s.0 s.1.0 (suc (length ts)) (length s.1.1) w r.1 (omega (arith, r.0)), r.2)
 
-  behind_ok : (t : Token) (ts : List Token) → test t.kind ≡ true → Old test ts → (o : Option (Word × List Token)) → Every (λ r. (length r.1 < length ts) × Word-passes test r.0.name × Old test r.1) o → PlainAt (suc (length ts)) (behind t ts o)
+  behind_ok : (t : Token) (ts : List Token) → test t.kind ≡ true → Old test ts → (o : Option (Word × List Token)) → Every (λ r. (length r.1 < length ts) × WordPasses test r.0.name × Old test r.1) o → PlainAt (suc (length ts)) (behind t ts o)
   behind_ok t ts p h None e = (plain_fits t ts p, h)
   behind_ok t ts p h (Some f) e = let r = e.each f refl in (behind_fits t.span f.0 (suc (length ts)) (length f.1) r.1 (omega (arith, r.0)), r.2)
 
