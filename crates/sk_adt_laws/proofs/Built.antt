@@ -1,6 +1,6 @@
 -- What takes the place of `new V (` and the fields in it: the kinds of its tokens, and how many they are.
-use Rattle.std.proofs.Common.{◌≡◌, ℕ, zero, suc, ◌+◌, ◌*◌, ◌≤◌, Bool, true, false, List, [], ◌∷◌, ◌++◌, length, map, Option, Some, None, refl, sym, ap, subst, ◌∙◌, arith, length-append, if◌then◌else◌}
-use Rattle.std.specs.Prelude.{Result, Ok, Err, option_and_then, slice_get}
+use Rattle.std.proofs.Common.{◌≡◌, ℕ, zero, suc, ◌*◌, ◌≤◌, Bool, true, false, List, [], ◌∷◌, length, map, Option, Some, None, refl, sym, ap, ◌∙◌, arith, length-append, if◌then◌else◌}
+use Rattle.std.specs.Prelude.{Ok, Err, option_and_then, slice_get}
 use Rattle.std.specs.List.{list_all}
 use Rattle.std.proofs.lemmas.List.Folds.{list_all-append}
 use Rattle.sk_base.specs.declared.span.Span.{Span}
@@ -21,14 +21,13 @@ use Rattle.sk_adt.specs.declared.form.Piece.{Piece}
 use Rattle.sk_adt.specs.declared.form.TypeWords.{TypeWords}
 use Rattle.sk_adt.specs.declared.form.VariantWords.{VariantWords}
 use Rattle.sk_adt.specs.Forms.{Found, pieces_of}
-use Rattle.sk_adt.specs.Words.{each, known_from, known_of, known_in, types_in, switches_in, variant_named}
+use Rattle.sk_adt.specs.Words.{known_from, known_of, known_in, types_in, switches_in, variant_named}
 use Rattle.sk_adt.specs.Faults.{fault_of}
-use Rattle.sk_adt.specs.Branches.{Tokens, made_field, or_name, number_of_variant, branched}
-use Rattle.sk_adt.specs.Builds.{Lists, innermost_list, gap, tag_set, behind_new, set_name, new_name, opening, word_built, token_kind, token_built, next_before, next_lists, built_from, built}
+use Rattle.sk_adt.specs.Branches.{Tokens, made_field, or_name, branched}
+use Rattle.sk_adt.specs.Builds.{Lists, innermost_list, gap, behind_new, set_name, new_name, opening, token_kind, token_built, next_before, next_lists, built_from, built}
 use Rattle.sk_adt.specs.Lowering.{plain_form, or_plain, lowered_pieces, lowered}
-use Rattle.sk_adt_laws.specs.Plain.{is_plain}
 use Rattle.sk_adt_laws.proofs.Read.{passes, passes_append, Makes, WordPasses, Old}
-use Rattle.sk_adt_laws.proofs.Walk.{or_made, PiecesFit, pieces_few, pieces_types, of_pieces}
+use Rattle.sk_adt_laws.proofs.Walk.{or_made, pieces_few, pieces_types, of_pieces}
 
 module _ (test : Kind → Bool) (made : Makes test) where
   abbrev of_type : Known → Bool

@@ -1,6 +1,7 @@
-pub mod Read
-pub mod Walk
-pub mod Built
+mod Read
+mod Walk
+mod Built
 mod Words
 mod Stay
-mod Structs
+pub mod Structs
+mod Computed

@@ -1,6 +1,6 @@
 -- What the readers of forms say of the tokens that they read: their kinds, and how many they are.
-use Rattle.std.proofs.Common.{◌≡◌, ℕ, zero, suc, ◌+◌, ◌-◌, ◌*◌, ◌<◌, ◌≤◌, Bool, true, false, List, [], ◌∷◌, ◌++◌, length, take, map, Option, Some, None, codes, refl, sym, ap, subst, ◌∙◌, arith, append_assoc, append-nil, length-append, if◌then◌else◌}
-use Rattle.std.specs.Prelude.{not, ◌&&◌, ◌||◌}
+use Rattle.std.proofs.Common.{◌≡◌, ℕ, ◌+◌, ◌-◌, ◌<◌, ◌≤◌, Bool, true, false, List, [], ◌∷◌, ◌++◌, length, take, Option, Some, None, codes, refl, sym, ap, subst, ◌∙◌, arith, append_assoc, length-append}
+use Rattle.std.specs.Prelude.{not, ◌||◌}
 use Rattle.std.specs.List.{list_all}
 use Rattle.std.proofs.lemmas.List.{take_at}
 use Rattle.std.proofs.lemmas.List.Folds.{list_all-append}
@@ -13,16 +13,15 @@ use Rattle.sk_tree.specs.declared.token.Mark.TheVariants as mark
 use Rattle.sk_tree.specs.declared.token.Key.{Key}
 use Rattle.sk_tree.specs.declared.token.Key.TheVariants as key
 use Rattle.sk_types_laws.proofs.Ats.{both_true, both}
-use Rattle.sk_parser_laws.specs.Readers.{◌>>=◌, Reader, is_mark, is_key, mark_ahead, mark_at, taken, repeated}
+use Rattle.sk_parser_laws.specs.Readers.{is_mark, is_key, mark_ahead, mark_at, taken, repeated}
 use Rattle.sk_parser_laws.proofs.Loops.{pair, Every, every_none, every_some, every_bind, every_if, every_more, every_repeated}
-use Rattle.sk_adt.specs.declared.form.Word.{Word}
 use Rattle.sk_adt.specs.declared.form.FieldForm.{FieldForm}
 use Rattle.sk_adt.specs.declared.form.VariantForm.{VariantForm}
 use Rattle.sk_adt.specs.declared.form.TypeForm.{TypeForm}
 use Rattle.sk_adt.specs.declared.form.CaseHead.{CaseHead}
 use Rattle.sk_adt.specs.declared.form.SwitchHead.{SwitchHead}
 use Rattle.sk_adt.specs.Forms.{sign_at, keyword_at, word_kind, name_at, at_close, is_base, is_length, behind_one, behind_length, behind_any_length, behind_type, field_at, next_field, variant_at, next_variant, variants_at, type_at, depth_after, or_here, close_at, case_at, head_at, selected_at}
-use Rattle.sk_adt.specs.Branches.{Tokens, made_name, field_tokens, fields_from, variants_from, struct_of}
+use Rattle.sk_adt.specs.Branches.{made_name}
 use Rattle.sk_adt_laws.specs.Plain.{is_plain}
 
 abbrev pub passes : (Kind → Bool) → List Token → Bool

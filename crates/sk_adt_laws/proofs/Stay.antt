@@ -1,6 +1,6 @@
 -- A text without the words of algebraic types is its own plain form.
-use Rattle.std.proofs.Common.{◌≡◌, ℕ, zero, suc, ◌≤◌, Bool, true, false, List, [], ◌∷◌, ◌++◌, length, map, Option, Some, None, refl, sym, ap, subst, ◌∙◌, arith, append_assoc, append-nil, if◌then◌else◌}
-use Rattle.std.specs.Prelude.{Result, Ok, Err, option_and_then}
+use Rattle.std.proofs.Common.{◌≡◌, ℕ, zero, suc, ◌≤◌, Bool, true, false, List, [], ◌∷◌, ◌++◌, length, Option, Some, None, refl, sym, ap, subst, ◌∙◌, arith, append_assoc, append-nil, if◌then◌else◌}
+use Rattle.std.specs.Prelude.{Ok, option_and_then}
 use Rattle.sk_base.specs.declared.span.Span.{Span}
 use Rattle.sk_tree.specs.declared.token.Token.{Token}
 use Rattle.sk_tree.specs.declared.token.Kind.{Kind}
@@ -8,16 +8,13 @@ use Rattle.sk_tree.specs.declared.token.Kind.TheVariants as kind
 use Rattle.sk_tree.specs.declared.token.Mark.TheVariants as mark
 use Rattle.sk_tree.specs.declared.token.Key.TheVariants as key
 use Rattle.sk_types_laws.proofs.Ats.{both_true}
-use Rattle.sk_parser_laws.specs.Readers.{◌>>=◌, is_mark, mark_ahead}
-use Rattle.sk_parser_laws.proofs.Loops.{pair, Every, every_none, every_some, every_bind, every_if, every_more}
-use Rattle.sk_adt.specs.declared.algebraic.Lowered.{Lowered}
+use Rattle.sk_parser_laws.specs.Readers.{is_mark, mark_ahead}
+use Rattle.sk_parser_laws.proofs.Loops.{pair, Every, every_none, every_some, every_bind, every_if}
 use Rattle.sk_adt.specs.declared.form.Word.{Word}
-use Rattle.sk_adt.specs.declared.form.CaseForm.{CaseForm}
 use Rattle.sk_adt.specs.declared.form.Inside.{Inside}
 use Rattle.sk_adt.specs.declared.form.Known.{Known}
 use Rattle.sk_adt.specs.declared.form.Before.{Before}
 use Rattle.sk_adt.specs.declared.form.Before.TheVariants as before
-use Rattle.sk_adt.specs.declared.form.TypeWords.{TypeWords}
 use Rattle.sk_adt.specs.declared.form.Piece.{Piece}
 use Rattle.sk_adt.specs.declared.form.Piece.TheVariants as piece
 use Rattle.sk_adt.specs.declared.form.Piece.TheOpen as P
@@ -25,9 +22,9 @@ use Rattle.sk_adt.specs.declared.form.Piece.TheFolds.{fold-roll-Piece}
 use Rattle.sk_adt.specs.Words.{each, types_of_piece, types_in, switches_step, switches_of_piece, switches_in, variant_named}
 use Rattle.sk_adt.specs.Forms.{sign_at, word_kind, name_at, selected_at, Found, member, behind, plain_kind, plain_at, ok_plain, piece_kind, piece_at, with_piece, pieces_from, pieces_of}
 use Rattle.sk_adt.specs.Faults.{first_again, fault_of}
-use Rattle.sk_adt.specs.Branches.{Tokens, made_field, or_name, member_name, innermost, member_tokens, piece_tokens, branched_piece, branched}
-use Rattle.sk_adt.specs.Builds.{Lists, innermost_list, behind_new, set_name, new_name, opening, word_built, token_kind, token_built, variant_before, before_kind, next_before, next_lists, built_from}
-use Rattle.sk_adt.specs.Lowering.{plain_form, or_plain, lowered_pieces, lowered}
+use Rattle.sk_adt.specs.Branches.{Tokens, made_field, or_name, member_name, innermost, branched_piece, branched}
+use Rattle.sk_adt.specs.Builds.{Lists, innermost_list, behind_new, set_name, new_name, opening, token_kind, token_built, variant_before, before_kind, next_before, next_lists, built_from}
+use Rattle.sk_adt.specs.Lowering.{or_plain, lowered_pieces, lowered}
 use Rattle.sk_adt_laws.specs.Plain.{is_plain, are_plain}
 use Rattle.sk_adt_laws.specs.Laws.{PlainTextsStay}
 use Rattle.sk_adt_laws.proofs.Walk.{member_is, behind_is, plain_is, types_of_member, types_of_behind, types_of_plain}
@@ -167,8 +164,8 @@ all_pieces (suc left) so_far (t ∷ ts) h l =
     record {
       pieces = p ∷ r.pieces;
       read =
-        ap (λ (q : Found Piece × List Token). with_piece (pieces_from left) so_far q.0 q.1) (is_front (pieces_from left []) t ts (both_true (is_plain t.kind) _ h).0)
-        ∙ r.read ∙ ap Ok (append_assoc so_far (p ∷ []) r.pieces);
+          ap (λ (q : Found Piece × List Token). with_piece (pieces_from left) so_far q.0 q.1) (is_front (pieces_from left []) t ts (both_true (is_plain t.kind) _ h).0)
+          ∙ r.read ∙ ap Ok (append_assoc so_far (p ∷ []) r.pieces);
       same = ap (λ l. branched_piece [] p [] ++ l) r.same ∙ sym s.split;
       types = (λ i. s.types i ++ r.types i);
       switches = (λ i. s.switches i ++ r.switches i);

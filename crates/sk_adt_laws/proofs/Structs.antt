@@ -1,6 +1,6 @@
 -- The struct of each algebraic type stands in the plain form.
-use Rattle.std.proofs.Common.{◌≡◌, ◌⊎◌, inl, inr, ℕ, zero, suc, Bool, true, false, List, [], ◌∷◌, ◌++◌, map, Option, Some, None, codes, refl, sym, ap, subst, ◌∙◌, append_assoc}
-use Rattle.std.specs.Prelude.{Ok, slice_get}
+use Rattle.std.proofs.Common.{◌≡◌, ◌⊎◌, inl, inr, ℕ, zero, suc, List, [], ◌∷◌, ◌++◌, map, Some, refl, sym, ap, subst, ◌∙◌, append_assoc}
+use Rattle.std.specs.Prelude.{slice_get}
 use Rattle.std.proofs.lemmas.List.{map-append}
 use Rattle.sk_base.specs.declared.span.Span.{Span}
 use Rattle.sk_tree.specs.declared.token.Token.{Token}
@@ -10,9 +10,7 @@ use Rattle.sk_tree.specs.declared.token.Key.TheVariants as key
 use Rattle.sk_parser_laws.specs.Readers.{mark_ahead}
 use Rattle.sk_adt.specs.declared.algebraic.Algebraic.{Algebraic}
 use Rattle.sk_adt.specs.declared.algebraic.Lowered.{Lowered}
-use Rattle.sk_adt.specs.declared.form.TypeForm.{TypeForm}
 use Rattle.sk_adt.specs.declared.form.CaseForm.{CaseForm}
-use Rattle.sk_adt.specs.declared.form.SwitchHead.{SwitchHead}
 use Rattle.sk_adt.specs.declared.form.Spots.{Spots}
 use Rattle.sk_adt.specs.declared.form.Known.{Known}
 use Rattle.sk_adt.specs.declared.form.Inside.{Inside}
@@ -24,9 +22,8 @@ use Rattle.sk_adt.specs.declared.form.Piece.TheOpen as P
 use Rattle.sk_adt.specs.declared.form.Piece.TheViews.{roll-Piece, roll-CaseForm}
 use Rattle.sk_adt.specs.declared.form.Piece.TheFolds.{map-Piece, map-CaseForm, ind-Piece, fold-roll-Piece, fold-roll-CaseForm}
 use Rattle.sk_adt.specs.Words.{each, types_step, types_of_piece, types_of_case, types_in, known_in, algebraic_of, variant_named}
-use Rattle.sk_adt.specs.Branches.{Tokens, keyword, sign, name, tag_field, variants_from, struct_of, all_at, condition, number_of_variant, refusal, Branch, block_of, otherwise, last_close, branch, chain, switch_tokens, piece_tokens, case_branch, branched_case, branched_piece, branched}
+use Rattle.sk_adt.specs.Branches.{Tokens, keyword, sign, name, tag_field, variants_from, all_at, condition, number_of_variant, Branch, block_of, otherwise, branch, chain, piece_tokens, case_branch, branched_case, branched_piece, branched}
 use Rattle.sk_adt.specs.Builds.{Lists, behind_new, set_name, token_built, next_before, next_lists, built_from, built}
-use Rattle.sk_adt.specs.Lowering.{lowered}
 use Rattle.sk_adt_laws.specs.Heads.{head, HasHead}
 use Rattle.sk_adt_laws.specs.Laws.{TypesBecomeStructs}
 use Rattle.sk_adt_laws.proofs.Built.{formed}
@@ -52,8 +49,8 @@ holds_front xs ys x h = record {
   opening = h.opening;
   back = h.back ++ ys;
   is =
-    ap (λ l. l ++ ys) h.is ∙ append_assoc h.front (begin h.at h.on h.opening x ++ h.back) ys
-    ∙ ap (λ l. h.front ++ l) (append_assoc (begin h.at h.on h.opening x) h.back ys);
+      ap (λ l. l ++ ys) h.is ∙ append_assoc h.front (begin h.at h.on h.opening x ++ h.back) ys
+      ∙ ap (λ l. h.front ++ l) (append_assoc (begin h.at h.on h.opening x) h.back ys);
 }
 
 holds_back : (xs ys : List Token) (x : List ℕ) → Holds ys x → Holds (xs ++ ys) x
@@ -105,8 +102,8 @@ module _ (known : List Known) where
       let here : Tokens = branched_piece known q.0 inside in
       let rest : Tokens = each (map (λ p. p inside) (map (branched_piece known) (pieces qs))) in
       elim (among_parts w (types_of_piece q.0) (each (map types_of_piece (pieces qs))) h) [
-        inl a ↦ holds_front here rest w.word.name (q.1 inside w a) |
-        inr b ↦ holds_back here rest w.word.name (body_holds qs inside w b)
+        | inl a ↦ holds_front here rest w.word.name (q.1 inside w a)
+        | inr b ↦ holds_back here rest w.word.name (body_holds qs inside w b)
       ]
 
   block_holds : (b : Branch) (inside : List Inside) (x y : List ℕ) (spots : Spots) → Holds (b.block (inside ++ record { on = x; variant = b.head.word.name } ∷ [])) y → Holds (branch known inside x spots b) y
@@ -125,8 +122,8 @@ module _ (known : List Known) where
       let more : Tokens = chain known inside x last (all_at b.head.close) (map (branched_case known) (cases qs)) in
       let closing : Tokens = sign mark.CloseBrace last in
       elim (among_parts w (types_of_case q.0) (each (map types_of_case (cases qs))) h) [
-        inl a ↦ holds_front here (more ++ closing) w.word.name (block_holds b inside x w.word.name spots (q.1 (inside ++ record { on = x; variant = b.head.word.name } ∷ []) w a)) |
-        inr c ↦ holds_back here (more ++ closing) w.word.name (holds_front more closing w.word.name (chain_holds qs inside x last (all_at b.head.close) w c))
+        | inl a ↦ holds_front here (more ++ closing) w.word.name (block_holds b inside x w.word.name spots (q.1 (inside ++ record { on = x; variant = b.head.word.name } ∷ []) w a))
+        | inr c ↦ holds_back here (more ++ closing) w.word.name (holds_front more closing w.word.name (chain_holds qs inside x last (all_at b.head.close) w c))
       ]
 
   abbrev piece_parts : P.Piece-F APiece ACase → P.Piece-F Piece CaseForm
@@ -164,8 +161,8 @@ module _ (known : List Known) where
   branched_holds [] inside w h = absurd h
   branched_holds (p ∷ ps) inside w h =
       elim (among_parts w (types_of_piece p) (types_in ps) h) [
-        inl a ↦ holds_front (branched_piece known p inside) (branched known inside ps) w.word.name (piece_holds p inside w a) |
-        inr b ↦ holds_back (branched_piece known p inside) (branched known inside ps) w.word.name (branched_holds ps inside w b)
+        | inl a ↦ holds_front (branched_piece known p inside) (branched known inside ps) w.word.name (piece_holds p inside w a)
+        | inr b ↦ holds_back (branched_piece known p inside) (branched known inside ps) w.word.name (branched_holds ps inside w b)
       ]
 
   -- what is built leaves such a beginning as it is

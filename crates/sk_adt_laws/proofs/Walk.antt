@@ -1,8 +1,7 @@
 -- What takes the place of the pieces of a text: the kinds of its tokens, and how many they are.
-use Rattle.std.proofs.Common.{◌≡◌, ℕ, zero, suc, ◌+◌, ◌*◌, ◌<◌, ◌≤◌, Bool, true, false, List, [], ◌∷◌, ◌++◌, length, map, Option, Some, None, refl, sym, ap, subst, ◌∙◌, arith, append-nil, length-append}
-use Rattle.std.specs.Prelude.{Result, Ok, Err, option_and_then, option_map}
+use Rattle.std.proofs.Common.{◌≡◌, ℕ, zero, suc, ◌+◌, ◌*◌, ◌<◌, ◌≤◌, Bool, true, List, [], ◌∷◌, ◌++◌, length, map, Option, Some, None, refl, sym, ap, subst, ◌∙◌, arith, length-append}
+use Rattle.std.specs.Prelude.{Ok, Err, option_and_then, option_map}
 use Rattle.std.specs.List.{list_all}
-use Rattle.std.proofs.lemmas.List.{map-append}
 use Rattle.std.proofs.lemmas.List.Folds.{list_all-append}
 use Rattle.sk_base.specs.declared.span.Span.{Span}
 use Rattle.sk_tree.specs.declared.token.Token.{Token}
@@ -10,10 +9,10 @@ use Rattle.sk_tree.specs.declared.token.Kind.{Kind}
 use Rattle.sk_tree.specs.declared.token.Kind.TheVariants as kind
 use Rattle.sk_tree.specs.declared.token.Mark.TheVariants as mark
 use Rattle.sk_tree.specs.declared.token.Key.TheVariants as key
-use Rattle.sk_types_laws.proofs.Ats.{both_true, both}
+use Rattle.sk_types_laws.proofs.Ats.{both}
 use Rattle.sk_types_rules.specs.Scope.{place_of}
-use Rattle.sk_parser_laws.specs.Readers.{◌>>=◌, Reader, mark_at, repeated}
-use Rattle.sk_parser_laws.proofs.Loops.{pair, Every, every_none, every_some, every_bind, every_if, every_more, every_repeated}
+use Rattle.sk_parser_laws.specs.Readers.{mark_at}
+use Rattle.sk_parser_laws.proofs.Loops.{Every, every_some, every_bind, every_more, every_repeated}
 use Rattle.sk_adt.specs.declared.form.Word.{Word}
 use Rattle.sk_adt.specs.declared.form.FieldForm.{FieldForm}
 use Rattle.sk_adt.specs.declared.form.VariantForm.{VariantForm}
@@ -31,9 +30,9 @@ use Rattle.sk_adt.specs.declared.form.Piece.TheOpen as P
 use Rattle.sk_adt.specs.declared.form.Piece.TheFolds.{fold-roll-Piece, fold-roll-CaseForm}
 use Rattle.sk_adt.specs.Words.{each, types_step, types_of_piece, types_of_case, types_in, variant_named}
 use Rattle.sk_adt.specs.Forms.{at_close, name_at, type_at, case_at, head_at, selected_at, Found, with_case, next_case, cases_at, switched, switch_at, typed_at, or_outside, member, behind, plain_kind, plain_at, ok_plain, piece_kind, piece_at, with_piece, pieces_from, pieces_of}
-use Rattle.sk_adt.specs.Branches.{Tokens, made_name, field_tokens, fields_from, variants_from, struct_of, made_field, or_name, member_name, innermost, all_at, number_of_variant, test_tokens, condition, refusal, Branch, block_of, otherwise, last_close, branch, chain, switch_tokens, member_tokens, piece_tokens, case_branch, branched_case, branched_piece, branched}
+use Rattle.sk_adt.specs.Branches.{Tokens, made_name, field_tokens, fields_from, variants_from, struct_of, made_field, or_name, member_name, innermost, all_at, number_of_variant, condition, refusal, Branch, block_of, otherwise, branch, chain, switch_tokens, member_tokens, piece_tokens, case_branch, branched_case, branched_piece, branched}
 use Rattle.sk_adt_laws.specs.Plain.{is_plain}
-use Rattle.sk_adt_laws.proofs.Read.{passes, passes_append, Makes, Chain, chain_push, WordPasses, Old, old_here, old_rest, mark_rest, name_rest, FieldFits, FieldsFit, VariantFits, VariantsFit, TypeFits, type_fits, CaseRest, case_rest, HeadRest, head_rest, selected_rest}
+use Rattle.sk_adt_laws.proofs.Read.{passes, passes_append, Makes, Chain, chain_push, WordPasses, Old, old_here, old_rest, mark_rest, name_rest, FieldsFit, VariantsFit, TypeFits, type_fits, case_rest, head_rest, selected_rest}
 
 -- The parts of folds over pieces
 
@@ -113,11 +112,12 @@ module _ (test : Kind → Bool) (made : Makes test) where
 
   struct_few : (t : TypeForm) (a b : ℕ) → TypeFits test t a b → ok (struct_of t) × (length (struct_of t) + 3 * b ≤ 3 * a)
   struct_few t a b h =
-      let r = variants_few t.variants h.from h.upto h.variants 0 in
-      (both _ _ (made.keyword key.Struct refl) (both _ _ h.named (both _ _ (made.sign mark.OpenBrace)
-      (both _ _ (made.keyword key.Int refl) (both _ _ made.tag (both _ _ (made.sign mark.Semicolon)
-      (passes_append test (variants_from 0 t.variants) (record { kind = kind.Mark mark.CloseBrace; span = t.close } ∷ []) r.0 (both _ _ (made.sign mark.CloseBrace) refl))))))),
-      omega (arith, r.1, h.front, h.back, length-append (variants_from 0 t.variants) (record { kind = kind.Mark mark.CloseBrace; span = t.close } ∷ [])))
+      let r = variants_few t.variants h.from h.upto h.variants 0 in (
+        both _ _ (made.keyword key.Struct refl) (both _ _ h.named (both _ _ (made.sign mark.OpenBrace)
+            (both _ _ (made.keyword key.Int refl) (both _ _ made.tag (both _ _ (made.sign mark.Semicolon)
+            (passes_append test (variants_from 0 t.variants) (record { kind = kind.Mark mark.CloseBrace; span = t.close } ∷ []) r.0 (both _ _ (made.sign mark.CloseBrace) refl))))))),
+        omega (arith, r.1, h.front, h.back, length-append (variants_from 0 t.variants) (record { kind = kind.Mark mark.CloseBrace; span = t.close } ∷ [])),
+      )
 
   -- Members
 
@@ -204,9 +204,10 @@ module _ (test : Kind → Bool) (made : Makes test) where
       let f = branch_few known inside x spots k (length (k.block deeper)) w (record { ok = t.0; few = omega arith }) in
       let r = chain_few cs h.0 b h.2 known inside x last (all_at k.head.close) w in
       let rest : Tokens = chain known inside x last (all_at k.head.close) (map (branched_case known) cs) in
-      let closing : Tokens = record { kind = kind.Mark mark.CloseBrace; span = last } ∷ [] in
-      (passes_append test (branch known inside x spots k) (rest ++ closing) f.ok (passes_append test rest closing r.0 (both _ _ (made.sign mark.CloseBrace) refl)),
-      omega (arith, t.1, f.few, r.1, length-append (branch known inside x spots k) (rest ++ closing), length-append rest closing))
+      let closing : Tokens = record { kind = kind.Mark mark.CloseBrace; span = last } ∷ [] in (
+        passes_append test (branch known inside x spots k) (rest ++ closing) f.ok (passes_append test rest closing r.0 (both _ _ (made.sign mark.CloseBrace) refl)),
+        omega (arith, t.1, f.few, r.1, length-append (branch known inside x spots k) (rest ++ closing), length-append rest closing),
+      )
 
   -- Readers of cases
 
@@ -220,9 +221,9 @@ module _ (test : Kind → Bool) (made : Makes test) where
   case_fits : (head : CaseHead) (body : List Piece) (k m b : ℕ) → PiecesFit body k 0 → k + 5 + b ≤ m → CaseFits (record { head = head; body = body }) m b
   case_fits head body k m b h l = record {
     tokens = λ known inside.
-      let r = pieces_few body k 0 h known inside in
-      let e : (branched_case known (record { head = head; body = body })).block inside ≡ branched known inside body = ap (λ (c : Branch). c.block inside) (case_is known head body) in
-      (ap (passes test) e ∙ r.0, omega (arith, r.1, l, ap length e));
+        let r = pieces_few body k 0 h known inside in
+        let e : (branched_case known (record { head = head; body = body })).block inside ≡ branched known inside body = ap (λ (c : Branch). c.block inside) (case_is known head body) in
+        (ap (passes test) e ∙ r.0, omega (arith, r.1, l, ap length e));
     types = ap (list_all named) (types_of_body head body) ∙ pieces_types body k 0 h;
   }
 
@@ -250,9 +251,9 @@ module _ (test : Kind → Bool) (made : Makes test) where
   switch_fits : (head : SwitchHead) (cs : List CaseForm) (a n k b : ℕ) → WordPasses test head.on.name → CasesFit cs n k → n + 5 ≤ a → b + 1 ≤ k → PieceFits (piece.Switch head cs) a b
   switch_fits head cs a n k b w h front back = record {
     tokens = λ known inside.
-      let r = chain_few cs n k h known inside head.on.name _ _ w in
-      let e : branched_piece known (piece.Switch head cs) inside ≡ switch_tokens known head (map (branched_case known) cs) inside = ap (λ (f : List Inside → Tokens). f inside) (switch_is known head cs) in
-      (ap (passes test) e ∙ r.0, omega (arith, r.1, front, back, ap length e));
+        let r = chain_few cs n k h known inside head.on.name _ _ w in
+        let e : branched_piece known (piece.Switch head cs) inside ≡ switch_tokens known head (map (branched_case known) cs) inside = ap (λ (f : List Inside → Tokens). f inside) (switch_is known head cs) in
+        (ap (passes test) e ∙ r.0, omega (arith, r.1, front, back, ap length e));
     types = ap (list_all named) (types_of_switch head cs) ∙ cases_types cs n k h;
   }
 
@@ -276,13 +277,16 @@ module _ (test : Kind → Bool) (made : Makes test) where
   unfolding typed_at
   typed_ok ts h =
       every_bind (type_at ts) _ (type_fits test ts h)
-      (λ r a. every_some (record {
-        tokens = λ known inside.
-          let s = struct_few r.0 (length ts) (length r.1) a.0 in
-          let e : branched_piece known (piece.Type r.0) inside ≡ struct_of r.0 = ap (λ (f : List Inside → Tokens). f inside) (type_is known r.0) in
-          (ap (passes test) e ∙ s.0, omega (arith, s.1, ap length e));
-        types = ap (list_all named) (types_of_type r.0) ∙ both _ _ (a.0).named refl;
-      }, a.1))
+      (λ r a. every_some (
+        record {
+          tokens = λ known inside.
+              let s = struct_few r.0 (length ts) (length r.1) a.0 in
+              let e : branched_piece known (piece.Type r.0) inside ≡ struct_of r.0 = ap (λ (f : List Inside → Tokens). f inside) (type_is known r.0) in
+              (ap (passes test) e ∙ s.0, omega (arith, s.1, ap length e));
+          types = ap (list_all named) (types_of_type r.0) ∙ both _ _ (a.0).named refl;
+        },
+        a.1,
+      ))
 
   outside_ok : (t : Token) (ts : List Token) → Old test ts → (o : Option (Found Piece × List Token)) → Every (PieceAt (suc (length ts))) o → PieceAt (suc (length ts)) (or_outside t ts o)
   outside_ok t ts h None e = (tt, h)
@@ -293,8 +297,8 @@ module _ (test : Kind → Bool) (made : Makes test) where
   plain_fits : (t : Token) (ts : List Token) → test t.kind ≡ true → PieceFits (piece.Plain t) (suc (length ts)) (length ts)
   plain_fits t ts h = record {
     tokens = λ known inside.
-      let e : branched_piece known (piece.Plain t) inside ≡ t ∷ [] = ap (λ (f : List Inside → Tokens). f inside) (plain_is known t) in
-      (ap (passes test) e ∙ both _ _ h refl, omega (arith, ap length e));
+        let e : branched_piece known (piece.Plain t) inside ≡ t ∷ [] = ap (λ (f : List Inside → Tokens). f inside) (plain_is known t) in
+        (ap (passes test) e ∙ both _ _ h refl, omega (arith, ap length e));
     types = ap (list_all named) (types_of_plain t);
   }
 
@@ -305,16 +309,16 @@ module _ (test : Kind → Bool) (made : Makes test) where
   member_fits : (on : Word) (dot : Span) (field : Word) (a b : ℕ) → WordPasses test on.name → WordPasses test field.name → b + 3 ≤ a → PieceFits (piece.Member on dot field) a b
   member_fits on dot field a b h k l = record {
     tokens = λ known inside.
-      let e : branched_piece known (piece.Member on dot field) inside ≡ member_tokens known inside on dot field = ap (λ (f : List Inside → Tokens). f inside) (member_is known on dot field) in
-      (ap (passes test) e ∙ both _ _ h (both _ _ (made.sign mark.Dot) (both _ _ (renamed known inside on.name field.name k) refl)), omega (arith, l, ap length e));
+        let e : branched_piece known (piece.Member on dot field) inside ≡ member_tokens known inside on dot field = ap (λ (f : List Inside → Tokens). f inside) (member_is known on dot field) in
+        (ap (passes test) e ∙ both _ _ h (both _ _ (made.sign mark.Dot) (both _ _ (renamed known inside on.name field.name k) refl)), omega (arith, l, ap length e));
     types = ap (list_all named) (types_of_member on dot field);
   }
 
   behind_fits : (dot : Span) (field : Word) (a b : ℕ) → WordPasses test field.name → b + 2 ≤ a → PieceFits (piece.Behind dot field) a b
   behind_fits dot field a b k l = record {
     tokens = λ known inside.
-      let e : branched_piece known (piece.Behind dot field) inside ≡ piece_tokens known (P.Behind dot field) inside = ap (λ (f : List Inside → Tokens). f inside) (behind_is known dot field) in
-      (ap (passes test) e ∙ both _ _ (made.sign mark.Dot) (both _ _ k refl), omega (arith, l, ap length e));
+        let e : branched_piece known (piece.Behind dot field) inside ≡ piece_tokens known (P.Behind dot field) inside = ap (λ (f : List Inside → Tokens). f inside) (behind_is known dot field) in
+        (ap (passes test) e ∙ both _ _ (made.sign mark.Dot) (both _ _ k refl), omega (arith, l, ap length e));
     types = ap (list_all named) (types_of_behind dot field);
   }
 

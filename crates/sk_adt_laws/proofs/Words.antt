@@ -1,5 +1,5 @@
 -- No word of algebraic types is left in a plain form, and it has at most 15 times as many tokens.
-use Rattle.std.proofs.Common.{◌≡◌, Bool, true, false, List, [], ◌∷◌, refl, ap, ◌∙◌}
+use Rattle.std.proofs.Common.{◌≡◌, Bool, true, false, List, [], ◌∷◌, refl}
 use Rattle.std.specs.Prelude.{not, ◌||◌}
 use Rattle.sk_tree.specs.declared.token.Token.{Token}
 use Rattle.sk_types_laws.proofs.Ats.{both}

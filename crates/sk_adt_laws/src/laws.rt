@@ -1,5 +1,6 @@
 //! What holds of plain forms.
 ghost use Rattle.sk_adt_laws.specs.Laws.{PlainTextsStay, NoWordIsLeft, PlainFormsAreSmall, TypesBecomeStructs};
+ghost use Rattle.sk_adt_laws.specs.Examples.{LoweringExamples};
 
 /// A text without the words `adt`, `switch` and `case` is its own plain form.
 pub fn plain_texts_stay()
@@ -19,4 +20,9 @@ pub fn plain_forms_are_small()
 /// Each algebraic type is a struct in the plain form, whose first field is the tag, an integer.
 pub fn types_become_structs()
     ensures { TypesBecomeStructs }
+{}
+
+/// Small texts with algebraic types: their plain forms, or why they have none.
+pub fn lowering_examples()
+    ensures { LoweringExamples }
 {}

@@ -3,4 +3,7 @@
 
 mod laws;
 
-pub use laws::{no_word_is_left, plain_forms_are_small, plain_texts_stay, types_become_structs};
+pub use laws::{
+    lowering_examples, no_word_is_left, plain_forms_are_small, plain_texts_stay,
+    types_become_structs,
+};
