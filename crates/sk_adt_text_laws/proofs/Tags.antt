@@ -27,12 +27,12 @@ later b types x f = record { place = suc f.place; type = f.type; there = f.there
 
 found_at : (types : List Algebraic) (x : List ℕ) (i : ℕ) → place_of (map name_of types) x ≡ Some i → Found types x
 found_at [] x i e = absurd (cc)
-found_at (b ∷ types) x i e = go (bytes_eq b.name x) refl (place_of (map name_of types) x) refl e
+found_at (b ∷ types) x i e = go (λ j p. found_at types x j p) (bytes_eq b.name x) refl (place_of (map name_of types) x) refl e
   where
-    go : (c : Bool) → bytes_eq b.name x ≡ c → (o : Option ℕ) → place_of (map name_of types) x ≡ o → (if c then Some 0 else next_place o) ≡ Some i → Found (b ∷ types) x
-    go true is o p f = record { place = 0; type = b; there = refl; name = (bytes_eq-Decides b.name x).0 is }
-    go false is None p f = absurd (cc)
-    go false is (Some j) p f = later b types x (found_at types x j p)
+    go : ((j : ℕ) → place_of (map name_of types) x ≡ Some j → Found types x) → (c : Bool) → bytes_eq b.name x ≡ c → (o : Option ℕ) → place_of (map name_of types) x ≡ o → (if c then Some 0 else next_place o) ≡ Some i → Found (b ∷ types) x
+    go again true is o p f = record { place = 0; type = b; there = refl; name = (bytes_eq-Decides b.name x).0 is }
+    go again false is None p f = absurd (cc)
+    go again false is (Some j) p f = later b types x (again j p)
 
 type_found : (types : List Algebraic) (x : List ℕ) (a : Algebraic) → type_named types x ≡ Some a → Found types x
 type_found types x a e = go (place_of (map name_of types) x) refl e
