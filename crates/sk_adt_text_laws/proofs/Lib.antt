@@ -3,5 +3,5 @@ mod Bodies
 mod Heads
 mod Typed
 mod Tags
-mod Rules
-mod Composed
+pub mod Rules
+pub mod Composed
