@@ -9,5 +9,5 @@ mod Fields
 mod Rows
 mod Exprs
 mod Stmts
-mod Calling
+pub mod Calling
 mod Computed

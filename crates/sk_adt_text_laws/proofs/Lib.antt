@@ -1,0 +1,7 @@
+mod Others
+mod Bodies
+mod Heads
+mod Typed
+mod Tags
+pub mod Rules
+pub mod Composed

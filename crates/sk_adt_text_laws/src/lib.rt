@@ -1,0 +1,6 @@
+//! Laws of the programs that plain forms mean: laws alone, with nothing to run.
+#![tactic(auto)]
+
+mod laws;
+
+pub use laws::{lowered_programs_keep_rules, lowered_runs_keep_variants, lowered_tags_are_integers};
