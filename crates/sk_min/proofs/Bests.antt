@@ -7,7 +7,7 @@ use Rattle.sk_model.specs.declared.expanded.Input.{Input}
 use Rattle.sk_model.specs.declared.expanded.Pair.{Pair}
 use Rattle.sk_model.specs.Fill.{fill}
 use Rattle.sk_model.specs.Inputs.{IsInput}
-use Rattle.sk_model.specs.Meets.{IsGreatestCost, cost_on}
+use Rattle.sk_model.specs.Meets.{IsGreatestCost}
 use Rattle.sk_oblig_queries.specs.Queries.{IsWanted}
 use Rattle.sk_oblig.specs.Formulas.{IsAskable}
 use Rattle.sk_loop_laws.specs.Honest.{Honest, inputs_of}

@@ -1,5 +1,4 @@
 use Rattle.std.proofs.Common.{subst}
-use Rattle.sk_min.specs.declared.search.Turn.{Turn}
 use Rattle.sk_min.specs.Search.{IsTurn}
 use Rattle.sk_min.proofs.Raises.{behind_on, nothing_behind}
 use Rattle.sk_min.proofs.descent.descend.Goals as goal
