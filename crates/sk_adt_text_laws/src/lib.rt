@@ -3,4 +3,6 @@
 
 mod laws;
 
-pub use laws::{lowered_programs_keep_rules, lowered_runs_keep_variants, lowered_tags_are_integers};
+pub use laws::{
+    lowered_programs_keep_rules, lowered_runs_keep_variants, lowered_tags_are_integers,
+};
