@@ -38,6 +38,7 @@ import makers  # noqa: E402
 MEMORY_WANTED = 17
 LEVELS, COPIES, CASES = 4096, 768, 512
 SHORT = "--rounds 3 --conflicts 1000"
+GIVEN = None  # what the script was given
 
 
 @dataclasses.dataclass
@@ -59,21 +60,22 @@ class Ended:
     peak: int
 
 
-def bound(given):
-    """What a process may take. A process that takes more time gets a signal, one that asks for more memory is refused it."""
-    resource.setrlimit(resource.RLIMIT_CPU, (given.limit, given.limit + 1))
+def begin(given):
+    """What each run of a worker may take, which the worker hands on: it passes over the signal that ends a run."""
+    global GIVEN
+    GIVEN = given
+    signal.signal(signal.SIGXCPU, lambda *_: None)
+    resource.setrlimit(resource.RLIMIT_CPU, (given.limit, resource.RLIM_INFINITY))
     resource.setrlimit(resource.RLIMIT_AS, (given.memory << 20, given.memory << 20))
     resource.setrlimit(resource.RLIMIT_CORE, (0, 0))
 
 
-def run(given, words, text):
+def run(words, text):
+    """A run of the program, which writes no lines for people: those take more time than the run."""
     with tempfile.TemporaryFile() as source, tempfile.TemporaryFile() as sink:
         source.write(text.encode("latin1", "replace"))
         source.seek(0)
-        # without lines for people, which take more time than the run
-        ran = subprocess.Popen(
-            [given.program, *words], stdin=source, stdout=sink, stderr=subprocess.DEVNULL, preexec_fn=lambda: bound(given), env={"SKETCH_EXPLAIN": "0"}
-        )
+        ran = subprocess.Popen([GIVEN.program, *words], stdin=source, stdout=sink, stderr=subprocess.DEVNULL, env={"SKETCH_EXPLAIN": "0"})
         _, status, usage = os.wait4(ran.pid, 0)
         ran.returncode = os.waitstatus_to_exitcode(status)
         sink.seek(0)
@@ -115,7 +117,6 @@ def recursions():
                 yield Text(kind, words, f"{TREE}{grown}harness void main(int x) {{ T t = {root}; t = grown(t, x + {calls - 2}); assert t != null; }}")
             made = f"T made(int n) {{ T t = new T(l = new T(), r = new T(), a = new T(), b = new T()); if (n > 0) {target} = made(n - 1); return t; }}\n"
             yield Text(kind, words, f"{TREE}{made}harness void main(int x) {{ T t = made(x + {calls - 2}); assert t.l.l != null; }}")
-            twice = f"int turns(T t, int n, ref int s) {{ s++; if (n <= 0) return s; {target}.k = turns(t, n - 1, s); return s; }}\n".replace(" |}.k", ".k |}").replace("(", "(", 1)
             if strings <= 8:
                 twice = f"int turns(T t, int n, ref int s) {{ s++; if (n <= 0) return s; {target.replace(' |}', '.k |}')} = turns(t, n - 1, s); return s; }}\n"
                 yield Text(kind, words, f"{TREE}{twice}harness void main(int x) {{ T t = {ROOT}; int s = 0; int r = turns(t, {calls - 1}, s); assert s == {calls}; assert t.b.k == r; }}")
@@ -401,9 +402,6 @@ def followed(ended, words, given, text):
 
 # What came.
 
-GIVEN = None
-
-
 def told_of(text, ended):
     """What a run counts as, and whether it is told."""
     if ended.status == MEMORY_WANTED:
@@ -420,19 +418,14 @@ def tried(case):
     texts = [(case, None)] if isinstance(case, Text) else [random_texts(random.Random(f"{GIVEN.seed} {case}"), case)]
     found = []
     for text, follows in texts:
-        if GIVEN.only not in text.kind and follows is None:
+        if GIVEN.only not in text.kind:
             continue
-        ended = run(GIVEN, text.words, text.text)
+        ended = run(text.words, text.text)
         counted, is_told = told_of(text, ended)
         found.append((text.kind, counted, text if is_told else None, ended.peak))
         if follows:
             texts += [(text, None) for text in follows(ended)]
     return found
-
-
-def begin(given):
-    global GIVEN
-    GIVEN = given
 
 
 def kept(folder, number, text, counted):
@@ -455,10 +448,10 @@ def main():
     parser.add_argument("--random", action="store_true", help="the random texts alone")
     given = parser.parse_args()
     given.program = os.path.abspath(given.program)
-    listed = [] if given.random else [*at_hand(), *families()]
+    listed = [] if given.random else [text for texts in (families(), at_hand()) for text in texts if given.only in text.kind]
     counts, told, peak = collections.defaultdict(collections.Counter), 0, 0
     with multiprocessing.Pool(given.jobs, begin, (given,)) as pool:
-        for runs in pool.imap_unordered(tried, [*listed, *range(given.n)], chunksize=4):
+        for runs in pool.imap_unordered(tried, [*listed, *range(given.n)], chunksize=8):
             for kind, counted, text, held in runs:
                 counts[kind][counted] += 1
                 peak = max(peak, held)
