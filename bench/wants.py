@@ -214,14 +214,14 @@ def patterns():
         yield Text(kind, words, f"{nested}harness void main(int x) {{ int y = f(x + {calls - 2}, x); assert y == ??; }}")
         target = f"T made(T t, int n) {{ if (n == 0) return new T(); {{| {place} |}} = made(t, n - 1); return t.l; }}\n"
         yield Text(kind, words, f"{TREE}{target}harness void main(int x) {{ T t = {record}; T u = made(t, {calls - 1}); assert t.l.r.r == u; }}")
-        tested = f"int f(T t, int n) {{ if (n == 0) return 1; if ({{| {place} == null | {place} != null |}}) return f(t, n - 1); return 0; }}\n"
+        tested = f"int f(T t, int n) {{ if (n == 0) return 1; if ({{| t{fields}{fields} (== | !=) null |}}) return f(t, n - 1); return 0; }}\n"
         yield Text(kind, words, f"{TREE}{tested}harness void main(int x) {{ assert f({record}, {calls - 1}) == 1; }}")
     listed = " | ".join(f"a[{i}][{j}]" for i in range(8) for j in range(16))
     yield Text(kind, f"synth --bnd-inbits 1 {SHORT}".split(), f"harness void main(int x) {{ int[16][8] a; {{| {listed} |}} = x; assert a[5][7] == x; }}")
     yield Text(kind, f"synth --bnd-inbits 1 {SHORT}".split(), f"int f(ref int n) {{ n++; return n; }} harness void main(int x) {{ int[16][8] a; int n = x; repeat (8) {{| {listed} |}} = f(n); assert a[5][7] == x + 3; }}")
     yield Text(kind, ["synth"], "harness void main(int x) { int y = {| " + " | ".join(f"x + {i}" for i in range(129)) + " |}; }")
-    loose = " | ".join(f"??(1) + {i}" for i in range(2, 66))
-    yield Text(kind, f"synth --bnd-inbits 2 {SHORT}".split(), f"harness void main(int x) {{ repeat (16) x = x + {{| {loose} |}}; assert x > 0; }}")
+    loose = " | ".join(f"?? + {i}" for i in range(2, 66))
+    yield Text(kind, f"synth --bnd-inbits 2 --bnd-cbits 1 {SHORT}".split(), f"harness void main(int x) {{ repeat (16) x = x + {{| {loose} |}}; assert x > 0; }}")
 
 
 def in_parentheses(count, text):
