@@ -290,6 +290,12 @@ def many():
         fields = "struct W { " + " ".join(f"int f{k};" for k in range(count)) + " }\n"
         yield Text(kind, f"synth --bnd-inbits 1 {SHORT}".split(), f"{fields}harness void main(int x) {{ W w = new W({', '.join(f'f{k} = x' for k in range(count))}); {{| w(.f0 | .f1) |}} = ??; assert w.f1 == 2; }}")
         yield Text(kind, f"synth --bnd-inbits 1 {SHORT}".split(), "harness void main(int x) { int y = x; " + "y = y + x; " * count + "assert y == x * ??(12); }")
+    for count in (2000, 2100, 4200):
+        for by_ref in ("", "ref "):
+            params, given = ", ".join(f"{by_ref}int p{k}" for k in range(count)), ", ".join("x" for _ in range(count))
+            called = f"void f({params}) {{ assert p0 >= 0; }}\n"
+            yield Text(kind, f"synth --bnd-inbits 1 {SHORT}".split(), f"{called}harness void main(int x) {{ f({given}); assert x >= ??(1); }}")
+            yield Text(kind, ["exec", "main", "1"], f"{called}void main(int x) {{ f({given}); }}")
     grid = "int[16][16] a"
     yield Text(kind, f"synth --bnd-inbits 15 {SHORT}".split(), f"harness void main({grid}) {{ assert a[??(4)][3] == a[2][3]; }}")
     yield Text(kind, f"synth --bnd-inbits 4 {SHORT}".split(), f"harness void main(int i, int j) {{ {grid}; {copies_of(16, 'a[i][j] = a[j][i] + ??(1);')} assert a[i][j] == 16; }}")
