@@ -1,0 +1,4 @@
+pub mod Refuting
+pub mod Above
+pub mod Below
+pub mod Putting

@@ -1,0 +1,3 @@
+pub mod Proves
+pub mod Stops
+pub mod Certified
