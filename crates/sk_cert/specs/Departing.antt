@@ -46,8 +46,14 @@ pub record DepartsAt (text : List ℕ) (line : ℕ) (left : List ℕ) : Type 0 w
   pub departs : Departs text front left
   pub number : line ≡ line_feeds front + 1
 
--- What a fault says of the text.
+-- What a fault says of the text. Want of memory is none.
 abbrev pub IsFault : List ℕ → CertFault → Type 0
 IsFault text (fault.NoForm line) = (left : List ℕ) × DepartsAt text line left × (IsOtherVersion left → ⊥)
 IsFault text (fault.Version line) = (left : List ℕ) × DepartsAt text line left × IsOtherVersion left
-IsFault text fault.Memory = Unit {0}
+IsFault text fault.Memory = ⊥
+
+-- What a reader tells: a fault of the text, or that memory ran out.
+abbrev pub Tells : List ℕ → CertFault → Type 0
+Tells text fault.Memory = Unit {0}
+Tells text (fault.NoForm line) = IsFault text (fault.NoForm line)
+Tells text (fault.Version line) = IsFault text (fault.Version line)

@@ -2,7 +2,7 @@
 ghost use Rattle.std.specs.Prelude.{◌≡◌, ◌+◌, ◌-◌, ◌≤◌, ◌↔◌, length, take, drop, true, IsTrue, IfOk, Err};
 ghost use Rattle.std.specs.Result.{IfErr};
 ghost use Rattle.sk_cert.specs.Certificates.{IsCertificate};
-ghost use Rattle.sk_cert.specs.Departing.{IsFault, IsOtherVersion, line_feeds};
+ghost use Rattle.sk_cert.specs.Departing.{IsFault, Tells, IsOtherVersion, line_feeds};
 ghost use Rattle.sk_cert.specs.Readers.{whole};
 ghost use Rattle.sk_cert.specs.Steps.{first_line, is_other_number, is_other_version};
 
@@ -77,7 +77,7 @@ fn fault_of(text: &[u8], left: usize) -> CertFault
 pub fn read(alloc: Global, text: &[u8]) -> Result<Certificate, CertFault>
     requires { length text.now ≤ 67108864 }
     ensures certificate { IfOk result (λ c. IsCertificate text.now c) }
-    ensures fault { IfErr result (λ e. IsFault text.now e) }
+    ensures fault { IfErr result (Tells text.now) }
 {
     match whole(alloc, text) {
         Ok(certificate) => Ok(certificate),
