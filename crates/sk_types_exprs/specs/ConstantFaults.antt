@@ -14,7 +14,6 @@ use Rattle.sk_types_rules.specs.Scope.{Context, Meaning, AVariable, AStruct, ACo
 use Rattle.sk_types_rules.specs.Constants.{number_named, natural}
 use Rattle.sk_types_laws.specs.declared.fault.Rule.{Rule}
 use Rattle.sk_types_laws.specs.declared.fault.Rule.TheVariants as rule
-use Rattle.sk_types_laws.specs.declared.fault.TypeFault.{TypeFault}
 use Rattle.sk_types_laws.specs.declared.fault.Typing.{Typing}
 use Rattle.sk_types_laws.specs.declared.fault.Typing.TheVariants.{Fault}
 
