@@ -1,4 +1,4 @@
-use Rattle.std.proofs.Common.{◌+◌, ◌++◌, drop, Some, sym, ap, ◌∙◌, arith}
+use Rattle.std.proofs.Common.{◌+◌, ◌++◌, drop, Some, sym, ap, subst, ◌∙◌, arith}
 use Rattle.std.specs.Prelude.{slice_get}
 use Rattle.std.specs.Option.{option_copied}
 use Rattle.std.proofs.lemmas.Result.{err_from_is_err_and}
@@ -9,6 +9,8 @@ use Rattle.sk_types_laws.specs.Elaborate.{typed, coerced, arguments_at}
 use Rattle.sk_types_laws.specs.Parts.{arguments}
 use Rattle.sk_types_names.specs.Envs.{context_of}
 use Rattle.sk_types_exprs.proofs.PartLaws.{argument_made, argument_fails, many_arguments, few_arguments, lost, refused, fails_nothing, new_refused, new_made}
+use Rattle.sk_types_exprs.specs.OwnFaults.{Finds}
+use Rattle.sk_types_exprs.proofs.FaultLaws.{finds_some, firm_faulty, wrong_faulty, loose_faulty}
 use Rattle.sk_types_exprs.proofs.elaborate.+typing.Goals as goal
 
 pub arguments-returns-in_default : goal.arguments-returns-in_default
@@ -50,3 +52,12 @@ made_new-returns t c =
     c.in_ok-fields.ensures
     ∙ ap (λ u. coerced (fit_of u c.args.ty) c.args.ty (typed c.args.span u (pform.New c.in-Some.s c.in_ok-fields.fields))) (sym c.reference_to.ensures)
     ∙ c.in_ok-e.ensures
+
+pub own_fault-returns-in-Firm : goal.own_fault-returns-in-Firm
+own_fault-returns-in-Firm t c = subst (Finds c.refusal.result) (sym (firm_faulty (context_of c.args.env.now) c.args.scope.now c.args.e.now c.in-Firm.ty (sym c.own.ensures ∙ c.in-Firm.is))) (c.refusal.ensures _ c.at.ensures)
+
+pub own_fault-returns-in-Wrong : goal.own_fault-returns-in-Wrong
+own_fault-returns-in-Wrong t c = subst (Finds (Some c.wrong_fault.result)) (sym (wrong_faulty (context_of c.args.env.now) c.args.scope.now c.args.e.now (sym c.own.ensures ∙ c.in-Wrong.is))) (finds_some c.wrong_fault.result)
+
+pub own_fault-returns-in-Loose : goal.own_fault-returns-in-Loose
+own_fault-returns-in-Loose t c = subst (Finds c.loose_fault.result) (sym (loose_faulty (context_of c.args.env.now) c.args.scope.now c.args.e.now (sym c.own.ensures ∙ c.in-Loose.is))) c.loose_fault.ensures
