@@ -1,6 +1,7 @@
-use Rattle.std.proofs.Common.{◌≡◌, ◌<◌, length, map, get_or, arith, refl, sym, ap, subst, ◌∙◌}
+use Rattle.std.proofs.Common.{◌≡◌, ◌<◌, true≢false, length, map, get_or, arith, refl, sym, ap, subst, ◌∙◌}
 use Rattle.std.proofs.lemmas.List.{take_all}
 use Rattle.sk_arr.specs.Shapes.{blank}
+use Rattle.sk_arr.proofs.Choices.{forms_long, forms_alike}
 use Rattle.sk_arr.proofs.Depths.{depth_array, depth_within, depths}
 use Rattle.sk_sym_state.proofs.Forms.{alike_more}
 use Rattle.sk_sym_state.proofs.shapes.+alike.Goals as goal
@@ -20,11 +21,23 @@ all_alike-loop-a-preserved t c =
     let at : b ≡ get_or c.args.others.now i b = subst (λ n. b ≡ get_or c.args.others.now n b) inv.place c.index-others-i.is in
     record {
       place = omega (arith, inv.place);
-      alike = alike_more c.args.list.now c.args.others.now i c.a-item.result b c.loop-a-test.true m c.a-item.is at inv.alike (c.if-not-alike.ensures refl);
+      alike = alike_more c.args.list.now c.args.others.now i c.a-item.result b c.loop-a-test.true m c.a-item.is at inv.alike (c.if-not-alike.ensures.0 refl);
     }
 
+pub all_alike-returns-then-list-others : goal.all_alike-returns-then-list-others
+all_alike-returns-then-list-others t c = (λ yes. absurd (true≢false (sym yes)), λ same. absurd (omega (arith, c.if-list-others.true, forms_long c.args.list.now c.args.others.now same)))
+
+pub all_alike-returns-then-not-alike : goal.all_alike-returns-then-not-alike
+all_alike-returns-then-not-alike t c =
+    let inv = c.loop-a.invariant in
+    let i = c.loop-a.a-index in
+    let b = c.index-others-i.result in
+    let m : i < length c.args.others.now = omega (arith, c.if-list-others.false, c.loop-a-test.true) in
+    let at : b ≡ get_or c.args.others.now i b = subst (λ n. b ≡ get_or c.args.others.now n b) inv.place c.index-others-i.is in
+    (λ yes. absurd (true≢false (sym yes)), λ same. absurd (true≢false (sym (c.if-not-alike.ensures.1 (forms_alike c.args.list.now c.args.others.now i c.a-item.result b same c.loop-a-test.true m c.a-item.is at)))))
+
 pub all_alike-returns : goal.all_alike-returns
-all_alike-returns t c = λ yes.
+all_alike-returns t c =
     let one = take_all c.loop-a.a-index c.args.list.now (omega arith) in
     let two = take_all c.loop-a.a-index c.args.others.now (omega (arith, c.if-list-others.false)) in
-    ap (map blank) (sym one) ∙ c.loop-a.invariant.alike ∙ ap (map blank) two
+    (λ yes. ap (map blank) (sym one) ∙ c.loop-a.invariant.alike ∙ ap (map blank) two, λ same. refl)
