@@ -1,0 +1,4 @@
+pub mod Order
+pub mod Apart
+pub mod Proposing
+pub mod Listing
