@@ -1,8 +1,9 @@
 //! Makers that add no node where the answer is there already.
 
-ghost use Rattle.std.specs.Prelude.{◌≡◌, ◌&&◌, ◌||◌, IfOk, IfSome, if◌then◌else◌, not};
+ghost use Rattle.std.specs.Prelude.{◌≡◌, ◌&&◌, ◌||◌, ◌↔◌, ℤ, Bool, Some, IfOk, IfSome, if◌then◌else◌, not, slice_get};
 ghost use Rattle.sk_base.specs.Word.{IsWord};
 ghost use Rattle.sk_dag.specs.declared.env.Env.{Env};
+ghost use Rattle.sk_dag.specs.declared.node.Node.TheVariants as node;
 ghost use Rattle.sk_dag.specs.Graph.{Graph, Grows, HasBool, HasWord};
 ghost use Rattle.sk_dag.specs.Eval.{bool_value, word_value, Keeps};
 
@@ -13,7 +14,8 @@ use std::alloc::AllocError;
 #[tactic(auto, using(crate::proofs::Makers::reading), unfolding(sk_dag::specs::Eval::value_of, sk_dag::specs::Eval::bool_value))]
 pub fn flag_of(dag: &Dag, a: BoolId) -> Option<bool>
     requires { HasBool dag.now.nodes a }
-    ensures { IfSome result (λ b. (g : Graph) → Grows dag.now g → (e : Env) → bool_value g e a ≡ b) }
+    ensures value { IfSome result (λ b. (g : Graph) → Grows dag.now g → (e : Env) → bool_value g e a ≡ b) }
+    ensures given { (b : Bool) → (result ≡ Some b) ↔ (slice_get dag.now.nodes a.index ≡ Some (node.Flag b)) }
 {
     match *dag.node(a.index) {
         Node::Flag(b) => Some(b),
@@ -26,6 +28,7 @@ pub fn flag_of(dag: &Dag, a: BoolId) -> Option<bool>
 pub(crate) fn number_of(dag: &Dag, a: WordId) -> Option<i64>
     requires { HasWord dag.now.nodes a }
     ensures value { IfSome result (λ n. (g : Graph) → Grows dag.now g → (e : Env) → word_value g e a ≡ n) }
+    ensures given { (n : ℤ) → (result ≡ Some n) ↔ (slice_get dag.now.nodes a.index ≡ Some (node.Word n)) }
     ensures range { (g : Graph) → Grows dag.now g → (e : Env) → IsWord dag.now.bits (word_value g e a) }
 {
     match *dag.node(a.index) {

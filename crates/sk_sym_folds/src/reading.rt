@@ -1,8 +1,9 @@
 //! What is known of a node by itself.
 
-ghost use Rattle.std.specs.Prelude.{◌≡◌, ◌&&◌, IfSome, IsTrue, false, not as opposite};
+ghost use Rattle.std.specs.Prelude.{◌≡◌, ◌&&◌, ◌↔◌, ℤ, Bool, Some, IfSome, IsTrue, false, not as opposite, slice_get};
 ghost use Rattle.sk_base.specs.Word.{IsWord};
 ghost use Rattle.sk_dag.specs.declared.env.Env.{Env};
+ghost use Rattle.sk_dag.specs.declared.node.Node.TheVariants as node;
 ghost use Rattle.sk_dag.specs.Graph.{Graph, Grows, HasBool, HasWord};
 ghost use Rattle.sk_dag.specs.Eval.{bool_value, word_value};
 
@@ -12,7 +13,8 @@ use sk_dag::{BoolId, Dag, Node, WordId};
 #[tactic(auto, using(crate::proofs::Makers::reading), unfolding(sk_dag::specs::Eval::value_of, sk_dag::specs::Eval::bool_value))]
 pub fn known_bool(dag: &Dag, a: BoolId) -> Option<bool>
     requires { HasBool dag.now.nodes a }
-    ensures { IfSome result (λ b. (g : Graph) → Grows dag.now g → (e : Env) → bool_value g e a ≡ b) }
+    ensures value { IfSome result (λ b. (g : Graph) → Grows dag.now g → (e : Env) → bool_value g e a ≡ b) }
+    ensures says { (b : Bool) → (result ≡ Some b) ↔ (slice_get dag.now.nodes a.index ≡ Some (node.Flag b)) }
 {
     match *dag.node(a.index) {
         Node::Flag(b) => Some(b),
@@ -25,6 +27,7 @@ pub fn known_bool(dag: &Dag, a: BoolId) -> Option<bool>
 pub fn known_word(dag: &Dag, a: WordId) -> Option<i64>
     requires { HasWord dag.now.nodes a }
     ensures value { IfSome result (λ z. (g : Graph) → Grows dag.now g → (e : Env) → word_value g e a ≡ z) }
+    ensures says { (z : ℤ) → (result ≡ Some z) ↔ (slice_get dag.now.nodes a.index ≡ Some (node.Word z)) }
     ensures given { IfSome result (λ z. IsWord dag.now.bits z) }
     ensures range { (g : Graph) → Grows dag.now g → (e : Env) → IsWord dag.now.bits (word_value g e a) }
 {

@@ -39,6 +39,14 @@ like_more a list i s l at h k = record {
 pub like_all : (a : Shape) (list : List Shape) (i : ℕ) → length list ≤ i → AlikeTo a (take i list) → AlikeTo a list
 like_all a list i l h = subst (AlikeTo a) (take_all i list l) h
 
+-- an element that is not of the form
+pub unlike_all : (a : Shape) (list : List Shape) (i : ℕ) (s : Shape) → i < length list → s ≡ get_or list i s → (Alike a s → ⊥) → AlikeTo a list → ⊥
+unlike_all a list i s l at other h = other (subst (Alike a) (sym at) (h.each i s l))
+
+-- the first of those that are of one form is of the form of each
+pub first_like_all : (a : Shape) (list : List Shape) → 1 ≤ length list → a ≡ get_or list 0 a → AllAlike list → AlikeTo a list
+first_like_all a list l at h = subst (λ x. AlikeTo x list) (sym at) (h.each 0 a (omega (arith, l)))
+
 -- all of one form are of the forms of each other
 pub like_each : (a : Shape) (list : List Shape) → AlikeTo a list → AllAlike list
 like_each a list h = record { each = λ i d lt. record { each = λ j c lt'. sym (h.each i d lt) ∙ h.each j c lt' } }

@@ -5,6 +5,7 @@ use Rattle.sk_dag.specs.declared.shape.Shape.{Shape}
 use Rattle.sk_dag.specs.declared.shape.Shape.TheVariants as shape
 use Rattle.sk_dag.specs.declared.shape.Seen.TheVariants.{Array as SeenArray}
 use Rattle.sk_arr.specs.Shapes.{blank, Alike}
+use Rattle.sk_arr.proofs.Forms.{form_bit, form_int, form_reference, form_array, only_bit, only_int, only_reference, only_array}
 use Rattle.sk_arr.proofs.Values.{blank_array, map_push}
 
 pub alike_arrays : {s u : Shape} (ss us : List Shape) → s ≡ shape.Array ss → u ≡ shape.Array us → map blank ss ≡ map blank us → Alike s u
@@ -15,3 +16,6 @@ alike_more list others i a b l m p q h k =
     let x = take_more list i a l ∙ ap (λ z. take i list ++ z ∷ []) (sym p) in
     let y = take_more others i b m ∙ ap (λ z. take i others ++ z ∷ []) (sym q) in
     ap (map blank) x ∙ map_push blank (take i list) a ∙ (λ j. h j ++ k j ∷ []) ∙ sym (map_push blank (take i others) b) ∙ sym (ap (map blank) y)
+
+-- what is of the form of a bit is one, and so for each form
+pub ruleset of_one_form = (form_bit, form_int, form_reference, form_array, only_bit, only_int, only_reference, only_array)

@@ -1,6 +1,6 @@
 //! Elements of arrays.
 
-ghost use Rattle.std.specs.Prelude.{◌≡◌, ◌≤◌, ◌<◌, ◌∷◌, [], length, IfOk, IsTrue};
+ghost use Rattle.std.specs.Prelude.{◌≡◌, ◌↔◌, ◌≤◌, ◌<◌, ◌∷◌, [], length, IfOk, IsTrue};
 ghost use Rattle.sk_dag.specs.Graph.{HasWord};
 ghost use Rattle.sk_dag.specs.Eval.{Keeps};
 ghost use Rattle.sk_arr.specs.Shapes.{AlikeTo, AllAlike, Stands, AllStand};
@@ -18,9 +18,9 @@ use sk_dag::{Dag, Shape, WordId};
 use sk_sym_folds::flag;
 use std::alloc::{AllocError, Global};
 
-/// Whether a shape is seen to be of the form of each of these.
+/// Whether a shape is of the form of each of these.
 pub fn like_all(a: &Shape, list: &[Shape]) -> bool
-    ensures { IsTrue result → AlikeTo a.now list.now }
+    ensures { IsTrue result ↔ AlikeTo a.now list.now }
 {
     for s in list {
         if !alike(a, s) {
@@ -30,11 +30,11 @@ pub fn like_all(a: &Shape, list: &[Shape]) -> bool
     true
 }
 
-/// Whether these are seen to be of one form.
-#[tactic(auto, using(crate::proofs::Elements::like_each))]
+/// Whether these are of one form.
+#[tactic(auto, using(crate::proofs::Elements::like_each, crate::proofs::Elements::first_like_all))]
 pub fn are_alike(list: &[Shape]) -> bool
     requires { 1 ≤ length list.now }
-    ensures { IsTrue result → AllAlike list.now }
+    ensures { IsTrue result ↔ AllAlike list.now }
 {
     like_all(&list[0], list)
 }

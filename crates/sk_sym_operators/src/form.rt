@@ -1,14 +1,15 @@
 //! Whether two shapes are of one form.
 
-ghost use Rattle.std.specs.Prelude.{◌≡◌, IsTrue, map};
+ghost use Rattle.std.specs.Prelude.{◌≡◌, ◌↔◌, IsTrue, map};
 ghost use Rattle.sk_arr.specs.Shapes.{blank, Alike};
 
 use sk_dag::Shape;
 
-/// Whether two shapes are seen to be of one form.
+/// Whether two shapes are of one form.
 #[cycle(alike)]
+#[tactic(auto, using(crate::proofs::Forms::of_one_form))]
 pub fn alike(a: &Shape, b: &Shape) -> bool
-    ensures { IsTrue result → Alike a.now b.now }
+    ensures { IsTrue result ↔ Alike a.now b.now }
 {
     match a {
         Shape::Bit(_) => match b {
@@ -30,10 +31,10 @@ pub fn alike(a: &Shape, b: &Shape) -> bool
     }
 }
 
-/// Whether two lists of shapes are seen to be of the same forms, one by one.
+/// Whether two lists of shapes are of the same forms, one by one.
 #[cycle(alike)]
 fn all_alike(list: &[Shape], others: &[Shape]) -> bool
-    ensures { IsTrue result → (map blank list.now ≡ map blank others.now) }
+    ensures { IsTrue result ↔ (map blank list.now ≡ map blank others.now) }
 {
     if list.len() != others.len() {
         return false;

@@ -40,6 +40,10 @@ use Rattle.sk_sym_state.proofs.Ends.{fails_or_goes}
 use Rattle.sk_heap_laws.specs.Heaps.{HeapGrows}
 use Rattle.sk_sym_steps.specs.Steps.{same_kind, is_kind, EvaluatesOn}
 
+-- a target that is no slot of the struct
+pub other_kind : (test : ℕ → Bool) (targets : List (ℕ × BoolId)) (i : ℕ) (t : ℕ × BoolId) → i < length targets → t ≡ get_or targets i t → (IsTrue (test t.0) → ⊥) → AllPass test targets → ⊥
+other_kind test targets i t l at other h = other (subst (λ (x : ℕ × BoolId). IsTrue (test x.0)) (sym at) (h.each i t l))
+
 -- the structs of the slots tell which slots are of a struct
 pub kind_of : (heap : List Slot) (structs : List StructId) (s : StructId) (n : ℕ) → map struct_of heap ≡ structs → is_kind structs s n ≡ is_of heap s n
 kind_of heap structs s n are = ap (λ l. same_kind s (slice_get l n)) (sym are) ∙ ap (same_kind s) (slice_get-map struct_of heap n) ∙ by (slice_get heap n)

@@ -1,6 +1,6 @@
 //! Records and their fields.
 
-ghost use Rattle.std.specs.Prelude.{◌≡◌, IfOk, IsTrue, []};
+ghost use Rattle.std.specs.Prelude.{◌≡◌, ◌↔◌, IfOk, IsTrue, []};
 ghost use Rattle.sk_dag.specs.Eval.{Keeps};
 ghost use Rattle.sk_arr.specs.Held.{AllPass};
 ghost use Rattle.sk_arr.specs.Shapes.{Stands};
@@ -48,8 +48,9 @@ fn is_kind(structs: &[StructId], s: StructId, slot: u32) -> bool
 }
 
 /// Whether each target is a slot of a struct.
+#[tactic(auto, using(crate::proofs::Records::other_kind))]
 pub fn are_kind(structs: &[StructId], s: StructId, targets: &[(u32, BoolId)]) -> bool
-    ensures { IsTrue result → AllPass (is_kind structs.now s) targets.now }
+    ensures { IsTrue result ↔ AllPass (is_kind structs.now s) targets.now }
 {
     for (slot, _) in targets {
         if !is_kind(structs, s, *slot) {

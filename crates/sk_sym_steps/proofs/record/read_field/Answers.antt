@@ -6,7 +6,7 @@ use Rattle.sk_sym_steps.proofs.record.read_field.Goals as goal
 
 pub read_field-requires-clause-target : goal.read_field-requires-clause-target
 read_field-requires-clause-target c =
-    let pass = rw (c.as_slice.ensures, c.as_slice-else-not-has_field.ensures) at (c.if-not-are_kind.ensures refl) in
+    let pass = rw (c.as_slice.ensures, c.as_slice-else-not-has_field.ensures) at (c.if-not-are_kind.ensures.0 refl) in
     refers c.requires.stands.structs (subst (Stands c.args.dag.now) c.in-Reference.is c.requires.reference) pass
 
 pub fail_where-requires-clause-stands : goal.fail_where-requires-clause-stands

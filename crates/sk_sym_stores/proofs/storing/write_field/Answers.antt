@@ -5,5 +5,5 @@ use Rattle.sk_sym_stores.proofs.storing.write_field.Goals as goal
 
 pub write_target-requires-clause-target : goal.write_target-requires-clause-target
 write_target-requires-clause-target c =
-    let pass = rw (c.as_slice-else-not-fits_field.ensures, c.as_slice-else-not-fits_field-2.ensures) at (c.if-not-are_kind.ensures refl) in
+    let pass = rw (c.as_slice-else-not-fits_field.ensures, c.as_slice-else-not-fits_field-2.ensures) at (c.if-not-are_kind.ensures.0 refl) in
     refers c.requires.stands.structs (subst (Stands c.args.dag.now) c.in-Reference.is c.requires.reference) pass

@@ -250,11 +250,11 @@ pub also-and-requires-clause-b : goal.also-and-requires-clause-b
 also-and-requires-clause-b t c = c.in_ok-y-in-None.ensures.guarded.there
 
 pub also-returns-in-Some-true-clause-evaluated : goal.also-returns-in-Some-true-clause-evaluated
-also-returns-in-Some-true-clause-evaluated t c = ok_more c.eval.result (λ r h. first_evaluated c.args.span c.args.cond (eval_part c.args.self.now c.args.span c.args.e.now) (given false) (λ g more e. c.in-Some-true.ensures g (h.evaluates.does.moves.keeps.later g more) e ∙ c.in-Some-true.field-0-test) h (λ e. omega arith)) c.eval.ensures.evaluated
+also-returns-in-Some-true-clause-evaluated t c = ok_more c.eval.result (λ r h. first_evaluated c.args.span c.args.cond (eval_part c.args.self.now c.args.span c.args.e.now) (given false) (λ g more e. c.in-Some-true.ensures.value g (h.evaluates.does.moves.keeps.later g more) e ∙ c.in-Some-true.field-0-test) h (λ e. omega arith)) c.eval.ensures.evaluated
 
 pub also-returns-in_ok-pass_expr-in-Some-false-clause-evaluated : goal.also-returns-in_ok-pass_expr-in-Some-false-clause-evaluated
 also-returns-in_ok-pass_expr-in-Some-false-clause-evaluated t c =
-    let known : (g : Graph) → Grows c.args.dag.now g → (e : Env) → bool_value g e c.args.cond ≡ false = λ g more e. c.in-Some-false.ensures g more e ∙ c.in-Some-false.field-0-test in
+    let known : (g : Graph) → Grows c.args.dag.now g → (e : Env) → bool_value g e c.args.cond ≡ false = λ g more e. c.in-Some-false.ensures.value g more e ∙ c.in-Some-false.field-0-test in
     second_evaluated c.args.span c.args.cond (eval_part c.args.self.now c.args.span c.args.e.now) (given false) known (expr_behind _ c.args.self.now c.args.span c.args.e.now c.in_ok-pass_expr-in-Some-false.ensures) (given_evaluated c.requires.stands c.requires.cond (bit_stands c.args.dag.now c.args.cond c.requires.cond) known)
 
 pub also-returns-in_ok-r-in-None-clause-keeps : goal.also-returns-in_ok-r-in-None-clause-keeps
@@ -277,11 +277,11 @@ otherwise-or-requires-clause-b t c = c.in_ok-y-in-None.ensures.guarded.there
 
 pub otherwise-returns-in_ok-pass_expr-in-Some-true-clause-evaluated : goal.otherwise-returns-in_ok-pass_expr-in-Some-true-clause-evaluated
 otherwise-returns-in_ok-pass_expr-in-Some-true-clause-evaluated t c =
-    let known : (g : Graph) → Grows c.args.dag.now g → (e : Env) → bool_value g e c.args.cond ≡ true = λ g more e. c.in-Some-true.ensures g more e ∙ c.in-Some-true.field-0-test in
+    let known : (g : Graph) → Grows c.args.dag.now g → (e : Env) → bool_value g e c.args.cond ≡ true = λ g more e. c.in-Some-true.ensures.value g more e ∙ c.in-Some-true.field-0-test in
     first_evaluated c.args.span c.args.cond (given true) (eval_part c.args.self.now c.args.span c.args.e.now) known (given_evaluated c.requires.stands c.requires.cond (bit_stands c.args.dag.now c.args.cond c.requires.cond) known) (expr_behind _ c.args.self.now c.args.span c.args.e.now c.in_ok-pass_expr-in-Some-true.ensures)
 
 pub otherwise-returns-in-Some-false-clause-evaluated : goal.otherwise-returns-in-Some-false-clause-evaluated
-otherwise-returns-in-Some-false-clause-evaluated t c = ok_more c.eval.result (λ r h. second_evaluated c.args.span c.args.cond (given true) (eval_part c.args.self.now c.args.span c.args.e.now) (λ g more e. c.in-Some-false.ensures g (h.evaluates.does.moves.keeps.later g more) e ∙ c.in-Some-false.field-0-test) (λ e. omega arith) h) c.eval.ensures.evaluated
+otherwise-returns-in-Some-false-clause-evaluated t c = ok_more c.eval.result (λ r h. second_evaluated c.args.span c.args.cond (given true) (eval_part c.args.self.now c.args.span c.args.e.now) (λ g more e. c.in-Some-false.ensures.value g (h.evaluates.does.moves.keeps.later g more) e ∙ c.in-Some-false.field-0-test) (λ e. omega arith) h) c.eval.ensures.evaluated
 
 pub otherwise-returns-in_ok-r-in-None-clause-keeps : goal.otherwise-returns-in_ok-r-in-None-clause-keeps
 otherwise-returns-in_ok-r-in-None-clause-keeps t c = Keeps-trans c.in_ok-other-in-None.ensures.keeps (Keeps-trans c.in_ok-y-in-None.ensures.keeps c.in_ok-r-in-None.ensures.keeps)
@@ -351,12 +351,12 @@ pick-both-requires t c = (omega arith, (c.requires.stands, c.requires.cond))
 pub pick-returns-in_ok-pass_expr-in-Some-true-clause-evaluated : goal.pick-returns-in_ok-pass_expr-in-Some-true-clause-evaluated
 pick-returns-in_ok-pass_expr-in-Some-true-clause-evaluated t c =
     let h = c.in_ok-r-in-Some-true.ensures.evaluated in
-    first_evaluated c.args.span c.args.cond (eval_part c.args.self.now c.args.span c.args.a.now) (eval_part c.args.self.now c.args.span c.args.b.now) (λ g more e. c.in-Some-true.ensures g (h.evaluates.does.moves.keeps.later g more) e ∙ c.in-Some-true.field-0-test) h (expr_behind _ c.args.self.now c.args.span c.args.b.now c.in_ok-pass_expr-in-Some-true.ensures)
+    first_evaluated c.args.span c.args.cond (eval_part c.args.self.now c.args.span c.args.a.now) (eval_part c.args.self.now c.args.span c.args.b.now) (λ g more e. c.in-Some-true.ensures.value g (h.evaluates.does.moves.keeps.later g more) e ∙ c.in-Some-true.field-0-test) h (expr_behind _ c.args.self.now c.args.span c.args.b.now c.in_ok-pass_expr-in-Some-true.ensures)
 
 pub pick-returns-in_ok-pass_expr-in-Some-false-clause-evaluated : goal.pick-returns-in_ok-pass_expr-in-Some-false-clause-evaluated
 pick-returns-in_ok-pass_expr-in-Some-false-clause-evaluated t c =
     let p = c.in_ok-pass_expr-in-Some-false.ensures in
-    ok_more c.eval-in-Some-false.result (λ r h. second_evaluated c.args.span c.args.cond (eval_part c.args.self.now c.args.span c.args.a.now) (eval_part c.args.self.now c.args.span c.args.b.now) (λ g more e. c.in-Some-false.ensures g (h.evaluates.does.moves.keeps.later g more) e ∙ c.in-Some-false.field-0-test) (expr_behind _ c.args.self.now c.args.span c.args.a.now p) h) c.eval-in-Some-false.ensures.evaluated
+    ok_more c.eval-in-Some-false.result (λ r h. second_evaluated c.args.span c.args.cond (eval_part c.args.self.now c.args.span c.args.a.now) (eval_part c.args.self.now c.args.span c.args.b.now) (λ g more e. c.in-Some-false.ensures.value g (h.evaluates.does.moves.keeps.later g more) e ∙ c.in-Some-false.field-0-test) (expr_behind _ c.args.self.now c.args.span c.args.a.now p) h) c.eval-in-Some-false.ensures.evaluated
 
 pub both-eval-requires : goal.both-eval-requires
 both-eval-requires t c = (omega arith, c.in_ok-waits.ensures.forked.stands)
@@ -645,12 +645,12 @@ ways-both_ways-requires t c = (omega arith, (c.requires.stands, c.requires.cond)
 pub ways-returns-in_ok-exec-in-Some-true-clause-executed : goal.ways-returns-in_ok-exec-in-Some-true-clause-executed
 ways-returns-in_ok-exec-in-Some-true-clause-executed t c =
     let h = c.in_ok-exec-in-Some-true.ensures.executed in
-    on_ok c.pass_other.result (λ p. first_executed c.args.span c.args.cond (stmt_part c.args.self.now c.args.a.now) (other_part c.args.self.now c.args.other.now) (λ g more e. c.in-Some-true.ensures g (h.executes.moves.keeps.later g more) e ∙ c.in-Some-true.field-0-test) h (other_behind _ c.args.self.now c.args.other.now p)) c.pass_other.ensures
+    on_ok c.pass_other.result (λ p. first_executed c.args.span c.args.cond (stmt_part c.args.self.now c.args.a.now) (other_part c.args.self.now c.args.other.now) (λ g more e. c.in-Some-true.ensures.value g (h.executes.moves.keeps.later g more) e ∙ c.in-Some-true.field-0-test) h (other_behind _ c.args.self.now c.args.other.now p)) c.pass_other.ensures
 
 pub ways-returns-in_ok-pass_stmt-in-Some-false-clause-executed : goal.ways-returns-in_ok-pass_stmt-in-Some-false-clause-executed
 ways-returns-in_ok-pass_stmt-in-Some-false-clause-executed t c =
     let p = c.in_ok-pass_stmt-in-Some-false.ensures in
-    on_ok c.other.result (λ h. second_executed c.args.span c.args.cond (stmt_part c.args.self.now c.args.a.now) (other_part c.args.self.now c.args.other.now) (λ g more e. c.in-Some-false.ensures g (h.executes.moves.keeps.later g more) e ∙ c.in-Some-false.field-0-test) (stmt_behind _ c.args.self.now c.args.a.now p) h) c.other.ensures.executed
+    on_ok c.other.result (λ h. second_executed c.args.span c.args.cond (stmt_part c.args.self.now c.args.a.now) (other_part c.args.self.now c.args.other.now) (λ g more e. c.in-Some-false.ensures.value g (h.executes.moves.keeps.later g more) e ∙ c.in-Some-false.field-0-test) (stmt_behind _ c.args.self.now c.args.a.now p) h) c.other.ensures.executed
 
 pub exec-turns-requires : goal.exec-turns-requires
 exec-turns-requires t c = (omega arith, c.requires.stands)
@@ -700,11 +700,11 @@ decided-may_turn-requires t c = (omega arith, (c.requires.stands, (c.requires.bi
 
 pub decided-returns-in-Some-true-clause-executed : goal.decided-returns-in-Some-true-clause-executed
 decided-returns-in-Some-true-clause-executed t c =
-    on_ok c.turn.result (λ h. decided_on c.args.self.now c.args.span c.args.left c.args.cond.now c.args.body.now c.args.start c.args.bit (λ g more e. c.in-Some-true.ensures g (h.executes.moves.keeps.later g more) e ∙ c.in-Some-true.field-0-test) h) c.turn.ensures.executed
+    on_ok c.turn.result (λ h. decided_on c.args.self.now c.args.span c.args.left c.args.cond.now c.args.body.now c.args.start c.args.bit (λ g more e. c.in-Some-true.ensures.value g (h.executes.moves.keeps.later g more) e ∙ c.in-Some-true.field-0-test) h) c.turn.ensures.executed
 
 pub decided-returns-in-Some-false-clause-executed : goal.decided-returns-in-Some-false-clause-executed
 decided-returns-in-Some-false-clause-executed t c =
-    on_ok c.pass_stmt.result (λ p. decided_off c.args.self.now c.args.span c.args.left c.args.cond.now c.args.body.now c.args.start c.args.bit c.requires.stands (λ g more e. c.in-Some-false.ensures g more e ∙ c.in-Some-false.field-0-test) (stmt_behind _ c.args.self.now c.args.body.now p)) c.pass_stmt.ensures
+    on_ok c.pass_stmt.result (λ p. decided_off c.args.self.now c.args.span c.args.left c.args.cond.now c.args.body.now c.args.start c.args.bit c.requires.stands (λ g more e. c.in-Some-false.ensures.value g more e ∙ c.in-Some-false.field-0-test) (stmt_behind _ c.args.self.now c.args.body.now p)) c.pass_stmt.ensures
 
 pub may_turn-turn-requires : goal.may_turn-turn-requires
 may_turn-turn-requires t c = (omega arith, (c.in_ok-waits.ensures.forked.stands, c.requires.start))
@@ -1079,12 +1079,12 @@ string-both_strings-requires t c = (omega arith, (c.requires.stands, c.requires.
 pub string-returns-in_ok-pass_exprs-in-Some-true-clause-evaluated : goal.string-returns-in_ok-pass_exprs-in-Some-true-clause-evaluated
 string-returns-in_ok-pass_exprs-in-Some-true-clause-evaluated t c =
     let h = c.in_ok-r-in-Some-true.ensures.evaluated in
-    first_evaluated c.args.span c.args.here (eval_part c.args.self.now c.args.span c.args.first.now) (strings_part c.args.self.now c.args.span c.args.site c.args.next c.args.more.now) (λ g more e. c.in-Some-true.ensures g (h.evaluates.does.moves.keeps.later g more) e ∙ c.in-Some-true.field-0-test) h (strings_behind _ c.args.self.now c.args.span c.args.site c.args.next c.args.more.now c.in_ok-pass_exprs-in-Some-true.ensures)
+    first_evaluated c.args.span c.args.here (eval_part c.args.self.now c.args.span c.args.first.now) (strings_part c.args.self.now c.args.span c.args.site c.args.next c.args.more.now) (λ g more e. c.in-Some-true.ensures.value g (h.evaluates.does.moves.keeps.later g more) e ∙ c.in-Some-true.field-0-test) h (strings_behind _ c.args.self.now c.args.span c.args.site c.args.next c.args.more.now c.in_ok-pass_exprs-in-Some-true.ensures)
 
 pub string-returns-in_ok-pass_expr-in-Some-false-clause-evaluated : goal.string-returns-in_ok-pass_expr-in-Some-false-clause-evaluated
 string-returns-in_ok-pass_expr-in-Some-false-clause-evaluated t c =
     let p = c.in_ok-pass_expr-in-Some-false.ensures in
-    ok_more c.strings.result (λ r h. second_evaluated c.args.span c.args.here (eval_part c.args.self.now c.args.span c.args.first.now) (strings_part c.args.self.now c.args.span c.args.site c.args.next c.args.more.now) (λ g more e. c.in-Some-false.ensures g (h.evaluates.does.moves.keeps.later g more) e ∙ c.in-Some-false.field-0-test) (expr_behind _ c.args.self.now c.args.span c.args.first.now p) h) c.strings.ensures.evaluated
+    ok_more c.strings.result (λ r h. second_evaluated c.args.span c.args.here (eval_part c.args.self.now c.args.span c.args.first.now) (strings_part c.args.self.now c.args.span c.args.site c.args.next c.args.more.now) (λ g more e. c.in-Some-false.ensures.value g (h.evaluates.does.moves.keeps.later g more) e ∙ c.in-Some-false.field-0-test) (expr_behind _ c.args.self.now c.args.span c.args.first.now p) h) c.strings.ensures.evaluated
 
 pub both_strings-eval-requires : goal.both_strings-eval-requires
 both_strings-eval-requires t c = (omega arith, c.in_ok-waits.ensures.forked.stands)
@@ -1316,12 +1316,12 @@ string_place-both_places-requires t c = (omega arith, (c.requires.stands, c.requ
 pub string_place-returns-in_ok-pass_exprs-in-Some-true-clause-placed : goal.string_place-returns-in_ok-pass_exprs-in-Some-true-clause-placed
 string_place-returns-in_ok-pass_exprs-in-Some-true-clause-placed t c =
     let h = c.in_ok-p-in-Some-true.ensures.placed in
-    first_placed c.args.span c.args.here (target_part c.args.self.now c.args.span c.args.first.now) (strings_target c.args.self.now c.args.span c.args.site c.args.next c.args.more.now) (λ g more e. c.in-Some-true.ensures g (h.places.does.moves.keeps.later g more) e ∙ c.in-Some-true.field-0-test) h (strings_behind _ c.args.self.now c.args.span c.args.site c.args.next c.args.more.now c.in_ok-pass_exprs-in-Some-true.ensures)
+    first_placed c.args.span c.args.here (target_part c.args.self.now c.args.span c.args.first.now) (strings_target c.args.self.now c.args.span c.args.site c.args.next c.args.more.now) (λ g more e. c.in-Some-true.ensures.value g (h.places.does.moves.keeps.later g more) e ∙ c.in-Some-true.field-0-test) h (strings_behind _ c.args.self.now c.args.span c.args.site c.args.next c.args.more.now c.in_ok-pass_exprs-in-Some-true.ensures)
 
 pub string_place-returns-in_ok-pass_expr-in-Some-false-clause-placed : goal.string_place-returns-in_ok-pass_expr-in-Some-false-clause-placed
 string_place-returns-in_ok-pass_expr-in-Some-false-clause-placed t c =
     let p = c.in_ok-pass_expr-in-Some-false.ensures in
-    ok_more c.places.result (λ r h. second_placed c.args.span c.args.here (target_part c.args.self.now c.args.span c.args.first.now) (strings_target c.args.self.now c.args.span c.args.site c.args.next c.args.more.now) (λ g more e. c.in-Some-false.ensures g (h.places.does.moves.keeps.later g more) e ∙ c.in-Some-false.field-0-test) (expr_behind _ c.args.self.now c.args.span c.args.first.now p) h) c.places.ensures.placed
+    ok_more c.places.result (λ r h. second_placed c.args.span c.args.here (target_part c.args.self.now c.args.span c.args.first.now) (strings_target c.args.self.now c.args.span c.args.site c.args.next c.args.more.now) (λ g more e. c.in-Some-false.ensures.value g (h.places.does.moves.keeps.later g more) e ∙ c.in-Some-false.field-0-test) (expr_behind _ c.args.self.now c.args.span c.args.first.now p) h) c.places.ensures.placed
 
 pub both_places-place-requires : goal.both_places-place-requires
 both_places-place-requires t c = (omega arith, c.in_ok-waits.ensures.forked.stands)
