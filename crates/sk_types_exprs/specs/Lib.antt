@@ -1,1 +1,2 @@
 pub mod ConstantFaults
+pub mod OwnFaults
