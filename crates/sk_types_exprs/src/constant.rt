@@ -1,5 +1,8 @@
 //! Why an expression that is to be constant is none.
-ghost use Rattle.sk_types_names.specs.Envs.{IsEnv};
+ghost use Rattle.std.specs.Prelude.{◌≡◌};
+ghost use Rattle.sk_types_names.specs.Envs.{top_seen, context_of, IsEnv};
+ghost use Rattle.sk_types_rules.specs.Scope.{meaning_of};
+ghost use Rattle.sk_types_exprs.specs.ConstantFaults.{breaks, rule_of_name, operator_fault, part_fault, fault_or_range};
 
 use sk_base::{Name, Span};
 use sk_tree::{EForm, Expr, Mark};
@@ -10,6 +13,7 @@ use sk_types_rules::in_range;
 /// That a name means nothing that has a value, or else nothing constant.
 fn name_fault(env: &Env, scope: &Scope, span: Span, name: &Name) -> Typing
     requires { IsEnv env.now }
+    ensures { result ≡ breaks (rule_of_name (meaning_of (top_seen env.now.top.now) scope.now name.now)) span }
 {
     match env.meaning(scope, name) {
         Meant::Variable(_) | Meant::Constant(_) => fault(Rule::NotConstant, span),
@@ -18,7 +22,9 @@ fn name_fault(env: &Env, scope: &Scope, span: Span, name: &Name) -> Typing
 }
 
 /// That no constant is computed by an operator, where none is.
-fn operator_fault(op: Mark, span: Span) -> Option<Typing> {
+fn operator_fault(op: Mark, span: Span) -> Option<Typing>
+    ensures { result ≡ operator_fault op span }
+{
     match op {
         Mark::Plus | Mark::Minus | Mark::Star => None,
         _ => Some(fault(Rule::NotConstant, span)),
@@ -28,6 +34,7 @@ fn operator_fault(op: Mark, span: Span) -> Option<Typing> {
 /// The first fault of the parts of an expression that is to be constant, where one has a fault.
 fn part_fault(env: &Env, scope: &Scope, e: &Expr) -> Option<Typing>
     requires { IsEnv env.now }
+    ensures { result ≡ part_fault (context_of env.now) scope.now e.now }
 {
     match &e.form {
         EForm::Number(n) => {
@@ -55,6 +62,7 @@ fn part_fault(env: &Env, scope: &Scope, e: &Expr) -> Option<Typing>
 /// out of range.
 pub fn constant_fault(env: &Env, scope: &Scope, e: &Expr) -> Typing
     requires { IsEnv env.now }
+    ensures { result ≡ fault_or_range (part_fault (context_of env.now) scope.now e.now) e.now.span }
 {
     let why = fault(Rule::NotConstant, e.span);
     part_fault(env, scope, e).unwrap_or(why)

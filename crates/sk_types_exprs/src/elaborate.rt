@@ -8,10 +8,11 @@ ghost use Rattle.sk_types_names.specs.Gives.{Gives, Makes, IsMemory};
 ghost use Rattle.sk_types_laws.specs.Envs.{AreDistinct};
 ghost use Rattle.sk_types_names.specs.Envs.{top_seen, context_of, IsEnv};
 ghost use Rattle.sk_types_laws.specs.Elaborate.{string_at, strings_at, argument_at, arguments_at, settings_at, callee_meant, called, all_at};
+ghost use Rattle.sk_types_exprs.specs.OwnFaults.{Finds, is_faulty, form_faulty, all_faulty, some_faulty, judged};
 ghost use Rattle.sk_types_laws.specs.Parts.{item_part, argument_part, form_part, part, ats, items, arguments, settings};
 
 use crate::constant::constant_fault;
-use crate::parts::{firm_any, member_found, unfit, unindexed, unjoined, variable};
+use crate::parts::{firm_any, member_found, refusal, unfit, unfit_width, unindexed, variable};
 use sk_base::{Boxed, List, Name, Span, at as item_at};
 use sk_prog::{PEForm, PExpr, PField, ParamDef, Ty};
 use sk_tree::{EForm, Expr, Mark, NewField};
@@ -311,31 +312,52 @@ fn braces(env: &Env, scope: &Scope, span: Span, es: &[Expr], ty: Ty) -> Result<P
     Ok(typed(span, ty, PEForm::Braces(es)))
 }
 
-/// The first fault of an expression of which no type is wanted, if it has one there.
+/// A fault of an expression of which no type is wanted, where it has one there.
 #[cycle(typing)]
 pub fn own_fault(env: &Env, scope: &Scope, e: &Expr) -> Option<Typing>
     requires { IsEnv env.now }
+    ensures { Finds result (is_faulty (context_of env.now) scope.now e.now) }
 {
-    match (env.own(scope, e), &e.form) {
-        (Own::Firm(ty), _) => at(env, scope, ty, e).err(),
-        (_, EForm::Paren(of)) => own_fault(env, scope, of.get()),
-        (own, EForm::Cond { cond, then, other }) => {
-            let cond = at(env, scope, BIT, cond.get()).err();
-            let then = own_fault(env, scope, then.get());
-            let other = own_fault(env, scope, other.get());
-            cond.or(then).or(other).or(unjoined(own, e.span))
-        }
-        (Own::Loose, EForm::Hole(_)) | (Own::Wrong, _) => at(env, scope, INT, e).err(),
-        (Own::Loose, form) => loose_fault(env, scope, e.span, form),
+    match env.own(scope, e) {
+        Own::Firm(ty) => refusal(at(env, scope, ty, e)),
+        Own::Wrong => Some(wrong_fault(env, scope, e)),
+        Own::Loose => loose_fault(env, scope, e.span, &e.form),
     }
 }
 
-/// The first fault of a form that takes the type of its place, where no type is wanted.
+/// What is wrong with an expression that is none of the language: the first fault of its parts, else that.
+#[cycle(typing)]
+fn wrong_fault(env: &Env, scope: &Scope, e: &Expr) -> Typing
+    requires { IsEnv env.now }
+{
+    let found = match &e.form {
+        EForm::Paren(of) => own_fault(env, scope, of.get()),
+        EForm::Cond { cond, then, other } => {
+            let cond = refusal(at(env, scope, BIT, cond.get()));
+            let then = own_fault(env, scope, then.get());
+            let other = own_fault(env, scope, other.get());
+            cond.or(then).or(other)
+        }
+        _ => refusal(at(env, scope, INT, e)),
+    };
+    found.unwrap_or(fault(Rule::Mismatch, e.span))
+}
+
+/// A fault of a form that takes the type of its place, where no type is wanted.
 #[cycle(typing)]
 fn loose_fault(env: &Env, scope: &Scope, span: Span, form: &EForm) -> Option<Typing>
     requires { IsEnv env.now }
+    ensures { Finds result (form_faulty (context_of env.now) scope.now form.now) }
 {
     match form {
+        EForm::Paren(of) => own_fault(env, scope, of.get()),
+        EForm::Cond { cond, then, other } => {
+            let cond = refusal(at(env, scope, BIT, cond.get()));
+            let then = own_fault(env, scope, then.get());
+            let other = own_fault(env, scope, other.get());
+            cond.or(then).or(other)
+        }
+        EForm::Hole(width) => unfit_width(&env.bounds, *width, span),
         EForm::Pattern {
             pattern: _,
             strings: es,
@@ -355,10 +377,13 @@ fn loose_fault(env: &Env, scope: &Scope, span: Span, form: &EForm) -> Option<Typ
 #[cycle(typing)]
 fn pattern_fault(env: &Env, scope: &Scope, span: Span, es: &[Expr]) -> Option<Typing>
     requires { IsEnv env.now }
+    ensures { Finds result (all_faulty (judged (context_of env.now) scope.now es.now)) }
 {
     for e in es {
-        if own_fault(env, scope, e).is_none() {
-            return None;
+        match own_fault(env, scope, e) {
+            None => return None,
+            Some(Typing::Memory) => return Some(Typing::Memory),
+            Some(Typing::Fault(_)) => {}
         }
     }
     Some(fault(Rule::NoAlternative, span))
@@ -368,11 +393,11 @@ fn pattern_fault(env: &Env, scope: &Scope, span: Span, es: &[Expr]) -> Option<Ty
 #[cycle(typing)]
 fn first_fault(env: &Env, scope: &Scope, es: &[Expr]) -> Option<Typing>
     requires { IsEnv env.now }
+    ensures { Finds result (some_faulty (judged (context_of env.now) scope.now es.now)) }
 {
     for e in es {
-        let found = own_fault(env, scope, e);
-        if found.is_some() {
-            return found;
+        if let Some(found) = own_fault(env, scope, e) {
+            return Some(found);
         }
     }
     None

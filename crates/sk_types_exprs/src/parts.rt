@@ -1,15 +1,19 @@
 //! What the parts of an expression are typed by, apart from the parts themselves.
-ghost use Rattle.std.specs.Prelude.{◌≡◌, Some};
+ghost use Rattle.std.specs.Prelude.{◌≡◌, Option, Some, not};
+ghost use Rattle.std.specs.Option.{is_none};
+ghost use Rattle.sk_prog.specs.declared.expr.PExpr.{PExpr};
+ghost use Rattle.sk_types_rules.specs.Rules.{width_fits};
 ghost use Rattle.sk_types_names.specs.Gives.{Gives};
 ghost use Rattle.sk_types_names.specs.Envs.{top_seen, context_of};
 ghost use Rattle.sk_types_laws.specs.Elaborate.{firm_any, member_found};
 ghost use Rattle.sk_types_laws.specs.Parts.{form_part};
+ghost use Rattle.sk_types_exprs.specs.OwnFaults.{Finds};
 
-use sk_base::{Name, Span, at as item_at};
+use sk_base::{Bounds, Name, Span, at as item_at};
 use sk_prog::{PEForm, PExpr, StructId, Ty};
 use sk_tree::EForm;
 use sk_types_laws::{Found, Rule, Typing};
-use sk_types_names::{Env, Scope, fault, field_found, firm, indexed};
+use sk_types_names::{Env, INT, Scope, fault, field_found, firm, hole_at, indexed};
 use sk_types_rules::Own;
 use std::alloc::Global;
 
@@ -72,10 +76,17 @@ pub fn unindexed(own: Own, span: Span) -> Option<Typing> {
     }
 }
 
-/// That the parts of a choice have no type in common, where they have none.
-pub fn unjoined(own: Own, span: Span) -> Option<Typing> {
-    match own {
-        Own::Wrong => Some(fault(Rule::Mismatch, span)),
-        _ => None,
-    }
+/// Why an expression is not made where a type is wanted, where it is not.
+pub fn refusal(made: Result<PExpr, Typing>) -> Option<Typing>
+    ensures { (o : Option PExpr) → Gives made o → Finds result (is_none o) }
+{
+    made.err()
+}
+
+/// That no hole has this width, where none has.
+#[tactic(auto, using(crate::proofs::FaultLaws::no_such_hole))]
+pub fn unfit_width(bounds: &Bounds, width: Option<u32>, span: Span) -> Option<Typing>
+    ensures { Finds result (not (width_fits bounds.now width)) }
+{
+    refusal(hole_at(bounds, width, span, INT))
 }

@@ -1,0 +1,2 @@
+pub mod ConstantFaults
+pub mod OwnFaults
