@@ -7,7 +7,7 @@ use Rattle.sk_opts.specs.Reader.{line_of}
 use Rattle.sk_opts.specs.BoundsOf.{bounds_of}
 use Rattle.sk_opts.specs.SpeltValues.{spells_value}
 use Rattle.sk_opts.proofs.LineLaws.{found_is_line, none_is_line}
-use Rattle.sk_opts.specs.Examples.{SynthAlone, SynthWithOptions, ExecBeforeOption, ExecOfNegative, SelfOfSeven, TraceWithHoles, TraceWithoutHoles, ValuePastRange, OptionTwice, OptionForValue, PositionalOfSynth, ValueMissing, HolesOfExec, NoNumberOfHoles, BoundsOfPragmas, BoundsPassedOver, no_set, no_budget, with_int_bits, GridOfBits, TooFewScalars, NegativeInt}
+use Rattle.sk_opts.specs.Examples.{SynthAlone, SynthWithOptions, ExecBeforeOption, ExecOfNegative, SelfOfSeven, AllOfHundred, WhyAlone, TraceWithHoles, TraceWithoutHoles, ValuePastRange, OptionTwice, OptionForValue, PositionalOfSynth, ValueMissing, HolesOfExec, NoNumberOfHoles, AllOfNone, AllPastHundred, AllWithoutNumber, AllOfTwoNumbers, RoundsOfAll, PositionalOfWhy, BoundsOfPragmas, BoundsPassedOver, no_set, no_budget, with_int_bits, GridOfBits, TooFewScalars, NegativeInt}
 
 pub synth_alone : SynthAlone
 unfolding line_of
@@ -28,6 +28,14 @@ exec_of_negative = found_is_line (codes "exec" ∷ codes "f" ∷ codes "--" ∷ 
 pub self_of_seven : SelfOfSeven
 unfolding line_of is_digit number_of
 self_of_seven = found_is_line (codes "self" ∷ codes "7" ∷ []) (line.Itself 7) refl
+
+pub all_of_hundred : AllOfHundred
+unfolding line_of is_digit number_of
+all_of_hundred = found_is_line (codes "all" ∷ codes "100" ∷ codes "--int-bits=8" ∷ []) (line.All (with_int_bits 8) 100) refl
+
+pub why_alone : WhyAlone
+unfolding line_of
+why_alone = found_is_line (codes "why" ∷ []) (line.Why no_set) refl
 
 pub trace_with_holes : TraceWithHoles
 unfolding line_of is_digit number_of
@@ -64,6 +72,30 @@ holes_of_exec = none_is_line (codes "exec" ∷ codes "f" ∷ codes "--holes" ∷
 pub no_number_of_holes : NoNumberOfHoles
 unfolding line_of is_digit number_of
 no_number_of_holes = none_is_line (codes "trace" ∷ codes "f" ∷ codes "--holes" ∷ codes "1,,2" ∷ []) refl
+
+pub all_of_none : AllOfNone
+unfolding line_of is_digit number_of
+all_of_none = none_is_line (codes "all" ∷ codes "0" ∷ []) refl
+
+pub all_past_hundred : AllPastHundred
+unfolding line_of is_digit number_of
+all_past_hundred = none_is_line (codes "all" ∷ codes "101" ∷ []) refl
+
+pub all_without_number : AllWithoutNumber
+unfolding line_of
+all_without_number = none_is_line (codes "all" ∷ []) refl
+
+pub all_of_two_numbers : AllOfTwoNumbers
+unfolding line_of
+all_of_two_numbers = none_is_line (codes "all" ∷ codes "1" ∷ codes "2" ∷ []) refl
+
+pub rounds_of_all : RoundsOfAll
+unfolding line_of
+rounds_of_all = none_is_line (codes "all" ∷ codes "1" ∷ codes "--rounds=5" ∷ []) refl
+
+pub positional_of_why : PositionalOfWhy
+unfolding line_of
+positional_of_why = none_is_line (codes "why" ∷ codes "1" ∷ []) refl
 
 pub bounds_of_pragmas : BoundsOfPragmas
 unfolding bounds_of is_blank is_digit number_of

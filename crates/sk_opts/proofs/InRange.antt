@@ -18,7 +18,7 @@ use Rattle.sk_opts.specs.Settings.{setting_bytes, lowest, highest, is_flag, is_l
 use Rattle.sk_opts.specs.SpeltValues.{between_commas}
 use Rattle.sk_opts.specs.GivenValues.{long_numbers, given_value}
 use Rattle.sk_opts.specs.CommandLine.{set_of, budget_of}
-use Rattle.sk_opts.specs.Reader.{Piece, Ends, Names, Sets, Plain, Unknown, piece_of, with_setting, with_positional, words_with, words_from, if_once, words_of, if_none, synth_line, exec_with, exec_line, trace_with, trace_line, lower_line, check_line, self_with, self_line, line_of}
+use Rattle.sk_opts.specs.Reader.{Piece, Ends, Names, Sets, Plain, Unknown, piece_of, with_setting, with_positional, words_with, words_from, if_once, words_of, if_none, synth_line, exec_with, exec_line, trace_with, trace_line, lower_line, check_line, all_with, all_line, why_line, self_with, self_line, line_of}
 use Rattle.sk_opts.specs.Ranges.{IsBetween, LiesIn, IsInRanges, LineIsInRanges}
 
 -- Values
@@ -208,6 +208,23 @@ check_lies : (words : Option Words) → WordsLie words → LineLies (check_line 
 check_lies None k = tt
 check_lies (Some w) k = alone_lies w.positionals (line.Check (set_of w.settings)) (set_lies w.settings k)
 
+all_with_lies : (set : Set) (ps : List (List ℕ)) → IsInRanges set → LineLies (all_with set ps)
+all_with_lies set [] h = tt
+all_with_lies set (n ∷ []) h = numbered (number_in 1 100 n) (between 1 100 (number_of n) (is_number n))
+  where
+    numbered : (o : Option ℕ) → IsBetween 1 100 o → LineLies (option_map (line.All set) o)
+    numbered None k = tt
+    numbered (Some m) k = (h, k)
+all_with_lies set (n ∷ m ∷ more) h = tt
+
+all_lies : (words : Option Words) → WordsLie words → LineLies (all_line words)
+all_lies None k = tt
+all_lies (Some w) k = all_with_lies (set_of w.settings) w.positionals (set_lies w.settings k)
+
+why_lies : (words : Option Words) → WordsLie words → LineLies (why_line words)
+why_lies None k = tt
+why_lies (Some w) k = alone_lies w.positionals (line.Why (set_of w.settings)) (set_lies w.settings k)
+
 self_with_lies : (ps : List (List ℕ)) → LineLies (self_with ps)
 self_with_lies [] = tt
 self_with_lies (n ∷ []) = elim (number_in 0 60 n) as (λ v. LineLies (option_map line.Itself v)) [ None ↦ tt | Some m ↦ tt ]
@@ -229,7 +246,9 @@ words_line_lies (w ∷ ws) =
     let version : Option Line = cond (is (codes "--version")) (if_none ws line.Version) None in
     let help : Option Line = cond (is (codes "--help")) (if_none ws line.Help) version in
     let itself : Option Line = cond (is (codes "self")) (self_line (words_of [] ws)) help in
-    let check : Option Line = cond (is (codes "check")) (check_line (words_of of_bounds ws)) itself in
+    let why : Option Line = cond (is (codes "why")) (why_line (words_of of_bounds ws)) itself in
+    let every : Option Line = cond (is (codes "all")) (all_line (words_of of_bounds ws)) why in
+    let check : Option Line = cond (is (codes "check")) (check_line (words_of of_bounds ws)) every in
     let lower : Option Line = cond (is (codes "lower")) (lower_line (words_of of_bounds ws)) check in
     let trace : Option Line = cond (is (codes "trace")) (trace_line (words_of of_trace ws)) lower in
     let exec : Option Line = cond (is (codes "exec")) (exec_line (words_of of_bounds ws)) trace in
@@ -237,10 +256,12 @@ words_line_lies (w ∷ ws) =
     (choice_lies (is (codes "exec")) (exec_line (words_of of_bounds ws)) trace (exec_lies (words_of of_bounds ws) (behind of_bounds ws))
     (choice_lies (is (codes "trace")) (trace_line (words_of of_trace ws)) lower (trace_lies (words_of of_trace ws) (behind of_trace ws))
     (choice_lies (is (codes "lower")) (lower_line (words_of of_bounds ws)) check (lower_lies (words_of of_bounds ws) (behind of_bounds ws))
-    (choice_lies (is (codes "check")) (check_line (words_of of_bounds ws)) itself (check_lies (words_of of_bounds ws) (behind of_bounds ws))
+    (choice_lies (is (codes "check")) (check_line (words_of of_bounds ws)) every (check_lies (words_of of_bounds ws) (behind of_bounds ws))
+    (choice_lies (is (codes "all")) (all_line (words_of of_bounds ws)) why (all_lies (words_of of_bounds ws) (behind of_bounds ws))
+    (choice_lies (is (codes "why")) (why_line (words_of of_bounds ws)) itself (why_lies (words_of of_bounds ws) (behind of_bounds ws))
     (choice_lies (is (codes "self")) (self_line (words_of [] ws)) help (self_lies (words_of [] ws))
     (choice_lies (is (codes "--help")) (if_none ws line.Help) version (alone_lies ws line.Help tt)
-    (choice_lies (is (codes "--version")) (if_none ws line.Version) None (alone_lies ws line.Version tt) tt)))))))
+    (choice_lies (is (codes "--version")) (if_none ws line.Version) None (alone_lies ws line.Version tt) tt)))))))))
 
 pub line_in_ranges : (words : List (List ℕ)) (l : Line) → line_of words ≡ Some l → LineIsInRanges l
 line_in_ranges words l e = subst LineLies e (words_line_lies words)

@@ -7,7 +7,7 @@ use Rattle.sk_opts.specs.declared.setting.Setting.TheVariants.{HoleBits, InputBi
 use Rattle.sk_opts.specs.declared.words.Words.{Words}
 use Rattle.sk_opts.specs.Settings.{number_given, numbers_given, last_of, last_list}
 use Rattle.sk_opts.specs.CommandLine.{set_of, budget_of}
-use Rattle.sk_opts.specs.Reader.{if_none, synth_line, exec_with, exec_line, trace_with, trace_line, lower_line, check_line, self_with, self_line}
+use Rattle.sk_opts.specs.Reader.{if_none, synth_line, exec_with, exec_line, trace_with, trace_line, lower_line, check_line, all_with, all_line, why_line, self_with, self_line}
 use Rattle.sk_opts.specs.Matching.{SameWords, SameReading}
 
 same_number : (v w : Words) → SameWords v w → (s : Setting) → last_of s v.settings ≡ last_of s w.settings
@@ -51,6 +51,18 @@ check_same None None h = refl
 check_same None (Some w) h = absurd h
 check_same (Some v) None h = absurd h
 check_same (Some v) (Some w) h = λ i. if_none (h.0 i) (line.Check (same_set v w h i))
+
+pub all_same : (v w : Option Words) → SameReading v w → all_line v ≡ all_line w
+all_same None None h = refl
+all_same None (Some w) h = absurd h
+all_same (Some v) None h = absurd h
+all_same (Some v) (Some w) h = ap₂ all_with (same_set v w h) h.0
+
+pub why_same : (v w : Option Words) → SameReading v w → why_line v ≡ why_line w
+why_same None None h = refl
+why_same None (Some w) h = absurd h
+why_same (Some v) None h = absurd h
+why_same (Some v) (Some w) h = λ i. if_none (h.0 i) (line.Why (same_set v w h i))
 
 pub self_same : (v w : Option Words) → SameReading v w → self_line v ≡ self_line w
 self_same None None h = refl

@@ -105,6 +105,10 @@ IsLine words (line.Trace set name values holes) =
     (w : Words) × HasWords (codes "trace") of_trace words w × (w.positionals ≡ name ∷ values) × (set ≡ set_of w.settings) × (holes ≡ last_list Holes w.settings)
 IsLine words (line.Lower set) = (w : Words) × HasWords (codes "lower") of_bounds words w × (w.positionals ≡ []) × (set ≡ set_of w.settings)
 IsLine words (line.Check set) = (w : Words) × HasWords (codes "check") of_bounds words w × (w.positionals ≡ []) × (set ≡ set_of w.settings)
+-- one number from 1 to 100
+IsLine words (line.All set most) =
+    (w : Words) × HasWords (codes "all") of_bounds words w × ((digits : List ℕ) × (w.positionals ≡ digits ∷ []) × (number_in 1 100 digits ≡ Some most)) × (set ≡ set_of w.settings)
+IsLine words (line.Why set) = (w : Words) × HasWords (codes "why") of_bounds words w × (w.positionals ≡ []) × (set ≡ set_of w.settings)
 -- one number from 0 to 60
 IsLine words (line.Itself n) = (w : Words) × HasWords (codes "self") [] words w × ((digits : List ℕ) × (w.positionals ≡ digits ∷ []) × (number_in 0 60 digits ≡ Some n))
 IsLine words line.Help = words ≡ codes "--help" ∷ []

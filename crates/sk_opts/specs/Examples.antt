@@ -51,6 +51,12 @@ ExecOfNegative = Taken (codes "exec" ∷ codes "f" ∷ codes "--" ∷ codes "-1"
 abbrev pub SelfOfSeven : Type 0
 SelfOfSeven = Taken (codes "self" ∷ codes "7" ∷ []) (line.Itself 7)
 
+abbrev pub AllOfHundred : Type 0
+AllOfHundred = Taken (codes "all" ∷ codes "100" ∷ codes "--int-bits=8" ∷ []) (line.All (with_int_bits 8) 100)
+
+abbrev pub WhyAlone : Type 0
+WhyAlone = Taken (codes "why" ∷ []) (line.Why no_set)
+
 -- Numbers for holes are numbers of 1 to 10 digits.
 abbrev pub TraceWithHoles : Type 0
 TraceWithHoles =
@@ -82,6 +88,24 @@ HolesOfExec = Refused (codes "exec" ∷ codes "f" ∷ codes "--holes" ∷ codes 
 
 abbrev pub NoNumberOfHoles : Type 0
 NoNumberOfHoles = Refused (codes "trace" ∷ codes "f" ∷ codes "--holes" ∷ codes "1,,2" ∷ [])
+
+abbrev pub AllOfNone : Type 0
+AllOfNone = Refused (codes "all" ∷ codes "0" ∷ [])
+
+abbrev pub AllPastHundred : Type 0
+AllPastHundred = Refused (codes "all" ∷ codes "101" ∷ [])
+
+abbrev pub AllWithoutNumber : Type 0
+AllWithoutNumber = Refused (codes "all" ∷ [])
+
+abbrev pub AllOfTwoNumbers : Type 0
+AllOfTwoNumbers = Refused (codes "all" ∷ codes "1" ∷ codes "2" ∷ [])
+
+abbrev pub RoundsOfAll : Type 0
+RoundsOfAll = Refused (codes "all" ∷ codes "1" ∷ codes "--rounds=5" ∷ [])
+
+abbrev pub PositionalOfWhy : Type 0
+PositionalOfWhy = Refused (codes "why" ∷ codes "1" ∷ [])
 
 -- Bounds
 

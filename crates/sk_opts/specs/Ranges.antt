@@ -25,13 +25,15 @@ pub record IsInRanges (set : Set) : Type 0 where
   pub inline_amnt : LiesIn Calls set.inline_amnt
   pub int_bits : LiesIn IntBits set.int_bits
 
--- the numbers of a line's set lie in their ranges
+-- the numbers of a line's set lie in their ranges, and so does the number of completions to list
 abbrev pub LineIsInRanges : Line → Type 0
 LineIsInRanges (line.Synth set budget cert) = IsInRanges set
 LineIsInRanges (line.Exec set name values) = IsInRanges set
 LineIsInRanges (line.Trace set name values holes) = IsInRanges set
 LineIsInRanges (line.Lower set) = IsInRanges set
 LineIsInRanges (line.Check set) = IsInRanges set
+LineIsInRanges (line.All set most) = IsInRanges set × IsBetween 1 100 (Some most)
+LineIsInRanges (line.Why set) = IsInRanges set
 LineIsInRanges (line.Itself n) = Unit {0}
 LineIsInRanges line.Help = Unit {0}
 LineIsInRanges line.Version = Unit {0}

@@ -120,6 +120,20 @@ abbrev pub check_line : Option Words → Option Line
 check_line None = None
 check_line (Some w) = if_none w.positionals (line.Check (set_of w.settings))
 
+-- one number from 1 to 100
+abbrev pub all_with : Set → List (List ℕ) → Option Line
+all_with set (n ∷ []) = option_map (line.All set) (number_in 1 100 n)
+all_with set [] = None
+all_with set (n ∷ m ∷ more) = None
+
+abbrev pub all_line : Option Words → Option Line
+all_line None = None
+all_line (Some w) = all_with (set_of w.settings) w.positionals
+
+abbrev pub why_line : Option Words → Option Line
+why_line None = None
+why_line (Some w) = if_none w.positionals (line.Why (set_of w.settings))
+
 -- one number from 0 to 60
 abbrev pub self_with : List (List ℕ) → Option Line
 self_with (n ∷ []) = option_map line.Itself (number_in 0 60 n)
@@ -139,7 +153,9 @@ line_of (w ∷ ws) =
     else (if bytes_eq w (codes "trace") then trace_line (words_of of_trace ws)
     else (if bytes_eq w (codes "lower") then lower_line (words_of of_bounds ws)
     else (if bytes_eq w (codes "check") then check_line (words_of of_bounds ws)
+    else (if bytes_eq w (codes "all") then all_line (words_of of_bounds ws)
+    else (if bytes_eq w (codes "why") then why_line (words_of of_bounds ws)
     else (if bytes_eq w (codes "self") then self_line (words_of [] ws)
     else (if bytes_eq w (codes "--help") then if_none ws line.Help
     else (if bytes_eq w (codes "--version") then if_none ws line.Version
-    else None)))))))
+    else None)))))))))

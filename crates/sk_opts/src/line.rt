@@ -51,6 +51,16 @@ pub enum Line {
     Check {
         set: Set,
     },
+    /// List completions of a sketch.
+    All {
+        set: Set,
+        /// How many to list at most.
+        most: u32,
+    },
+    /// Show inputs that no completion of a sketch passes together.
+    Why {
+        set: Set,
+    },
     /// Complete the text of this number that the program makes itself.
     Itself {
         n: u32,

@@ -3,7 +3,7 @@ ghost use Rattle.std.specs.Prelude.{◌≡◌, [], ◌∷◌, ℕ, None, map, un
 ghost use Rattle.std.specs.String.{string_bytes};
 ghost use Rattle.sk_opts.specs.Settings.{is_of, number_given, numbers_given, last_of, last_list, of_bounds, of_synth, of_trace};
 ghost use Rattle.sk_opts.specs.CommandLine.{set_of, budget_of, IsLine};
-ghost use Rattle.sk_opts.specs.Reader.{if_none, synth_line, exec_with, exec_line, trace_with, trace_line, lower_line, check_line, self_with, self_line, words_of, line_of};
+ghost use Rattle.sk_opts.specs.Reader.{if_none, synth_line, exec_with, exec_line, trace_with, trace_line, lower_line, check_line, all_with, all_line, why_line, self_with, self_line, words_of, line_of};
 ghost use Rattle.sk_opts.specs.Ranges.{LineIsInRanges};
 ghost use Rattle.sk_opts.specs.Told.{IsTold};
 ghost use Rattle.sk_opts.specs.declared.line.Line.{Line};
@@ -240,6 +240,44 @@ fn trace_line(words: Option<Words>) -> Option<Line>
     }
 }
 
+fn all_with(set: Set, positionals: &[Name]) -> Option<Line>
+    ensures { result ≡ all_with set positionals.now }
+{
+    match positionals {
+        [name] => match number_in(1, 100, name.as_bytes()) {
+            Some(most) => Some(Line::All { set, most }),
+            None => None,
+        },
+        _ => None,
+    }
+}
+
+fn all_line(words: Option<Words>) -> Option<Line>
+    ensures { result ≡ all_line words }
+{
+    match words {
+        None => None,
+        Some(words) => {
+            let set = set_of(words.settings.as_slice());
+            all_with(set, words.positionals.as_slice())
+        }
+    }
+}
+
+fn why_line(words: Option<Words>) -> Option<Line>
+    ensures { result ≡ why_line words }
+{
+    match words {
+        None => None,
+        Some(words) => {
+            let line = Line::Why {
+                set: set_of(words.settings.as_slice()),
+            };
+            if_none(words.positionals.as_slice(), line)
+        }
+    }
+}
+
 fn self_with(positionals: &[Name]) -> Option<Line>
     ensures { result ≡ self_with positionals.now }
 {
@@ -296,6 +334,20 @@ fn check_of(alloc: Global, words: &[String]) -> Result<Option<Line>, AllocError>
     Ok(check_line(words_of(alloc, &OF_BOUNDS, words)?))
 }
 
+#[tactic(auto, using(crate::proofs::SameLines::all_same))]
+fn all_of(alloc: Global, words: &[String]) -> Result<Option<Line>, AllocError>
+    ensures { IfOk result (λ line. line ≡ all_line (words_of of_bounds (map string_bytes words.now))) }
+{
+    Ok(all_line(words_of(alloc, &OF_BOUNDS, words)?))
+}
+
+#[tactic(auto, using(crate::proofs::SameLines::why_same))]
+fn why_of(alloc: Global, words: &[String]) -> Result<Option<Line>, AllocError>
+    ensures { IfOk result (λ line. line ≡ why_line (words_of of_bounds (map string_bytes words.now))) }
+{
+    Ok(why_line(words_of(alloc, &OF_BOUNDS, words)?))
+}
+
 #[tactic(auto, using(crate::proofs::SameLines::self_same))]
 fn self_of(alloc: Global, words: &[String]) -> Result<Option<Line>, AllocError>
     ensures { IfOk result (λ line. line ≡ self_line (words_of [] (map string_bytes words.now))) }
@@ -328,6 +380,10 @@ fn line_behind(alloc: Global, command: &[u8], words: &[String]) -> Result<Option
         Ok(lower_of(alloc, words)?)
     } else if command == b"check".as_slice() {
         Ok(check_of(alloc, words)?)
+    } else if command == b"all".as_slice() {
+        Ok(all_of(alloc, words)?)
+    } else if command == b"why".as_slice() {
+        Ok(why_of(alloc, words)?)
     } else if command == b"self".as_slice() {
         Ok(self_of(alloc, words)?)
     } else if command == b"--help".as_slice() {
