@@ -1,12 +1,9 @@
 -- What was found of a text, put together.
-use Rattle.std.proofs.Common.{◌≡◌, ℕ, ◌<◌, ◌≤◌, ◌^◌, List, [], ◌∷◌, ◌++◌, Option, Some, None, ◌-◌, length, refl, sym, subst, ◌∙◌, arith}
-use Rattle.std.specs.Prelude.{IsTrue, IfSome, nat_lt, true}
+use Rattle.std.proofs.Common.{◌≡◌, ℕ, ◌<◌, ◌≤◌, ◌^◌, List, ◌++◌, Option, Some, None, ◌-◌, refl, sym, subst, arith}
+use Rattle.std.specs.Prelude.{IsTrue, IfSome}
 use Rattle.std.proofs.lemmas.List.{append_assoc}
-use Rattle.std.proofs.lemmas.List.Elements.{All-head, All-tail}
-use Rattle.std.proofs.lemmas.Bool.{lt-ltb, and_from}
 use Rattle.sk_base.specs.declared.bounds.Bounds.{Bounds}
 use Rattle.sk_base.specs.declared.bounds.Budget.{Budget}
-use Rattle.sk_prog.specs.declared.prog.Prog.{Prog}
 use Rattle.sk_prog.specs.Fits.{prog_fits}
 use Rattle.sk_types_rules.specs.WellTyped.{WellTyped}
 use Rattle.sk_holes_laws.specs.Holes.{AreWide}
@@ -18,18 +15,11 @@ use Rattle.sk_model.specs.declared.expanded.Choice.{Choice}
 use Rattle.sk_model.specs.declared.expanded.Expanded.{Expanded}
 use Rattle.sk_model.specs.declared.expanded.Input.{Input}
 use Rattle.sk_model.specs.declared.expanded.Pair.{Pair}
-use Rattle.sk_model.specs.declared.expanded.Site.{Site}
 use Rattle.sk_model.specs.Expand.{expand}
 use Rattle.sk_model.specs.Fill.{InRange, fill}
 use Rattle.sk_model.specs.Limits.{most_nodes}
 use Rattle.sk_model.specs.Meets.{Meets, IsGreatestCost}
 use Rattle.sk_model.specs.Nodes.{nodes}
-use Rattle.sk_expand_sites.specs.Small.{AreSmall}
-use Rattle.sk_expand_sites.specs.Small.{IsSmall as IsSmallSite}
-use Rattle.sk_expand_sites.specs.Needs.{HasItsSites, are_narrow}
-use Rattle.sk_holes_choice_laws.specs.Meeting.{IsMetUnder}
-use Rattle.sk_holes_choice_laws.proofs.Meeting.{choices_meet}
-use Rattle.sk_oblig.specs.Formulas.{IsAskable}
 use Rattle.sk_clause.specs.declared.lit.Lit.{Lit}
 use Rattle.sk_cnf.specs.declared.growing.Encoded.{Encoded}
 use Rattle.sk_oblig_queries.specs.declared.query.Query.{Query}
@@ -39,18 +29,13 @@ use Rattle.sk_min_laws.specs.Best.{IsBest, Meeting}
 use Rattle.sk_min.specs.Least.{IsKnown, IsKnownOf, IsFreeSpent}
 use Rattle.sk_min.specs.Least as least
 use Rattle.sk_opts.specs.declared.line.Set.{Set}
-use Rattle.sk_front.specs.declared.expansion.Expansion.{Expansion}
-use Rattle.sk_front.specs.Front.{ExpandsWithin}
-use Rattle.sk_front.proofs.FrontLaws.{one_program, one_expansion}
 use Rattle.sk_front_laws.proofs.Whole.{texts_keep, texts_fit}
-use Rattle.sk_trace_text.proofs.Fillable.{has_its_sites, narrow_sites}
+use Rattle.sk_built_laws.specs.Built.{IsReady}
 use Rattle.sk_app.specs.declared.completion.Completion.{Completion}
-use Rattle.sk_app.specs.Built.{IsBuilt, IsOnly}
 use Rattle.sk_app.specs.Completing.{IsLeast}
 use Rattle.sk_app.specs.ResultText.{completed_text, none_text, IsCompletion, IsNone}
 use Rattle.sk_app.specs.SpentText.{spent_result, OfRounds, OfConflicts}
 use Rattle.sk_app.specs.Spent.{IsMeeting, IsSpentRounds, IsSpentConflicts}
-use Rattle.sk_app.specs.Prepared.{IsReady}
 
 -- Completions
 
@@ -66,49 +51,12 @@ least_of bounds e c is best = record {
   least = λ b range meets v costs. best.least b (record { range = range; meets = meets }) v costs;
 }
 
--- A text that means a program within the limits, with the options of a line
+-- Expansions that are ready to be searched
 
 module _ (set : Set) where
-  module _ (text : List ℕ) (x : Expansion) (means : ExpandsWithin set text x) where
-    -- it is taken
-
-    built_of : IsBuilt set text x.bounds x.expanded
-    built_of = record { tree = x.tree; prog = x.prog; sized = means.sized_to }
-
-    only_of : IsOnly set text x.bounds x.expanded
-    only_of = record {
-      built = built_of;
-      only = λ b f is.
-          let same = one_program set text is.tree x.tree b x.bounds is.prog x.prog is.sized.typed means.sized_to.typed in
-          (same.1, is.sized.is ∙ one_expansion set text is.tree x.tree b x.bounds is.prog x.prog is.sized.typed means.sized_to.typed ∙ sym means.sized_to.is);
-    }
-
-    -- ready to be searched
-    pub ready_of : IsReady set text x.bounds x.expanded
-    ready_of = record { only = only_of; ranges = means.ranges; narrow = means.narrow }
-
-  -- An expansion that is ready to be searched
-
   module _ (text : List ℕ) (bounds : Bounds) (e : Expanded) (ready : IsReady set text bounds e) where
-    -- What the search asks for
-
-    its_sites : HasItsSites e
-    its_sites = let b = ready.only.built in has_its_sites e b.prog bounds b.sized.is
-
-    narrow : IsTrue (are_narrow e.sites)
-    narrow = narrow_sites e.sites ready.narrow
-
-    pub few : length e.sites ≤ 4294967296
-    few = let most = ready.only.built.sized.sized.sites_fit in omega (arith, most)
-
-    bits_low : 2 ≤ bounds.int_bits
-    bits_low = ready.ranges.int_bits.0
-
     bits_high : bounds.int_bits ≤ 32
     bits_high = ready.ranges.int_bits.1
-
-    inbits : bounds.inbits ≤ bounds.int_bits - 1
-    inbits = ready.ranges.inbits_fit
 
     wide : AreWide bounds
     wide = let fits = ready.ranges.cbits_fit in let low = ready.ranges.int_bits.0 in record { two = low; holes = omega (arith, fits, low) }
@@ -121,17 +69,6 @@ module _ (set : Set) where
         let b = ready.only.built in
         let most : nodes (expand b.prog bounds).prog ≤ 262144 = subst (λ z. nodes z.prog ≤ most_nodes) b.sized.is b.sized.sized.nodes_fit in
         omega (arith, most)
-
-    met : (a : Choice) → InRange e a → IsMetUnder e a bounds
-    met a range =
-        let b = ready.only.built in
-        let typed = texts_keep set text b.tree bounds b.prog b.sized.typed in
-        subst (λ z. InRange z a → IsMetUnder z a bounds) (sym b.sized.is)
-        (λ r. choices_meet bounds b.prog a (record { typed = typed; fits = program_fits; small = few_nodes; range = r }))
-        range
-
-    pub askable : IsAskable e bounds
-    askable = record { sites = its_sites; narrow = narrow; low = bits_low; high = bits_high; inbits = inbits; met = met }
 
     -- What the completions are
 

@@ -23,7 +23,12 @@ use Rattle.sk_app.specs.declared.direct.Way.{Way}
 use Rattle.sk_app.specs.declared.direct.Way.TheVariants as way
 use Rattle.sk_app.specs.declared.direct.Job.{Job}
 use Rattle.sk_app.specs.Jobs.{IsStopped, IsRunOfJob}
-use Rattle.sk_app.proofs.JobLaws.{not_of_job, job_is_built, one_job}
+use Rattle.sk_app.specs.declared.listing.Question.{Question}
+use Rattle.sk_app.specs.declared.listing.Question.TheVariants as question
+use Rattle.sk_app.specs.Questions.{Reply, OfList, OfReasons, OfCompletion, IsReply, IsExplained, IsMet, ending_with}
+use Rattle.sk_all_text.specs.AllTexts.{IsListing}
+use Rattle.sk_min_laws.specs.Best.{Meeting}
+use Rattle.sk_app.proofs.JobLaws.{not_of_job, job_is_built, one_job, not_asking, asking_is_built, one_question, job_or_question}
 use Rattle.sk_opts.specs.declared.line.Set.{Set}
 use Rattle.sk_opts.specs.declared.line.Line.{Line}
 use Rattle.sk_opts.specs.declared.line.Line.TheVariants as line
@@ -42,22 +47,23 @@ use Rattle.sk_adt_text.specs.PlainTexts.{HasNoPlainForm, IsNotTagged, IsLoweredT
 use Rattle.sk_front.specs.Texts.{most_bytes, byte_of, HasSpan, IsTextFault}
 use Rattle.sk_front.proofs.TextLaws.{byte_within}
 use Rattle.sk_app.specs.Streams.{Appends, AppendsPrefix, TakesFew}
-use Rattle.sk_app.specs.Built.{IsBuilt}
+use Rattle.sk_built_laws.specs.Built.{IsBuilt}
 use Rattle.sk_app.specs.ResultText.{IsCompletion, IsNone}
 use Rattle.sk_app.specs.Spent.{AreLearnt, IsSpentRounds, IsSpentConflicts}
 use Rattle.sk_app.specs.Results.{IsResult}
 use Rattle.sk_app.specs.Help.{help_text, version_text}
-use Rattle.sk_app.specs.Lines.{IsNoLine, IsSearch, ForSearch, IsSynth, ForSynth, line_by, line_of, IsJob, ForJob, ForTrace, ForLower, TakesText, ForText, ReadsText, is_unbuilt, IsUnbuiltLine}
+use Rattle.sk_app.specs.Lines.{IsNoLine, IsSearch, ForSearch, IsSynth, ForSynth, line_by, line_of, IsJob, ForJob, ForTrace, ForLower, ForAll, ForWhy, line_asking, TakesText, takes_synth, takes_job, takes_all, takes_why, SizesText, sizes_synth, sizes_all, sizes_why, ForText, ReadsText, is_unbuilt, IsUnbuiltLine}
 use Rattle.sk_app.specs.Ends.{delivered, cut, no_room, Writes, WritesPart, writes_nothing, IsToldOf}
-use Rattle.sk_app.proofs.Endings.{EndsBuilt, EndsFaulty, EndsUntyped, EndsLarge, EndsLong, EndsRun, EndsStopped, EndsLowered, EndsNotLowered, EndsNotTagged, EndsRefused, EndsNoLine, EndsUnbuiltLine, EndsHelp, EndsVersion}
+use Rattle.sk_app.proofs.Endings.{EndsBuilt, EndsFaulty, EndsUntyped, EndsLarge, EndsLong, EndsRun, EndsStopped, EndsLowered, EndsNotLowered, EndsNotTagged, EndsRefused, EndsListed, EndsExplained, EndsMet, EndsReply, EndsNoLine, EndsUnbuiltLine, EndsHelp, EndsVersion}
 use Rattle.sk_app.specs.Call.{Effect}
-use Rattle.sk_app.specs.Effects.{IsRefused, IsShown, is_of_synth, Synthesises, is_of_expansion, IsRunResult, IsRunOutput, Executes, Lowers, Serves, Answers, no_line, served, no_memory, IsOutput}
+use Rattle.sk_app.specs.Effects.{IsRefused, IsShown, is_of_synth, Synthesises, is_of_expansion, IsRunResult, IsRunOutput, Executes, Lowers, Asks, Serves, Answers, no_line, served, no_memory, IsOutput}
 use Rattle.sk_app.specs.Effects as output
 use Rattle.sk_app.proofs.StreamLemmas.{front-nil}
 use Rattle.sk_app.proofs.SourceLaws.{every, mapped, came_wanting}
 use Rattle.sk_app.proofs.ToldLaws as by
 use Rattle.sk_app.proofs.ExecLaws as by_exec
 use Rattle.sk_app.proofs.LowerLaws as by_lower
+use Rattle.sk_app.proofs.QuestionLaws as by_asking
 
 nothing_taken : (old new : Option (List ℕ)) → new ≡ old → TakesFew old new
 nothing_taken old new e = record { taken = []; few = omega arith; split = sym e ∙ front-nil new }
@@ -95,6 +101,13 @@ is_synth_alone (ending.SpentRounds pairs best) = true
 is_synth_alone (ending.SpentConflicts pairs q f log best) = true
 is_synth_alone _ = false
 
+-- the words are a line that asks this about completions, and this holds of it
+record ForQuestion (words : List (List ℕ)) (Holds : Set → Question → Type 0) : Type 0 where
+  pub set : Set
+  pub asked : Question
+  pub is : IsLine words (line_asking set asked)
+  pub holds : Holds set asked
+
 module _ (words : List (List ℕ)) (r : Ending) (f : Effect) where
   -- What a call does, by the kind of its line
 
@@ -104,6 +117,7 @@ module _ (words : List (List ℕ)) (r : Ending) (f : Effect) where
     of_synth : (set : Set) (budget : Budget) → IsSearch words set budget → Synthesises set budget r f → Kind
     of_exec : (set : Set) (job : Job) → IsJob words set job → Executes set job r f → Kind
     of_lower : (set : Set) → IsLine words (line.Lower set) → Lowers set r f → Kind
+    of_question : (set : Set) (asked : Question) → IsLine words (line_asking set asked) → Asks set asked r f → Kind
     of_help : IsLine words line.Help → IsShown help_text ending.HelpShown r f → Kind
     of_version : IsLine words line.Version → IsShown version_text ending.VersionShown r f → Kind
     of_memory : IsRefused ending.Memory r f → Kind
@@ -114,6 +128,8 @@ module _ (words : List (List ℕ)) (r : Ending) (f : Effect) where
   line_kind (line.Exec set name values) h s = of_exec set (record { name = name; values = values; way = way.Exec }) h s
   line_kind (line.Trace set name values holes) h s = of_exec set (record { name = name; values = values; way = way.Trace holes }) h s
   line_kind (line.Lower set) h s = of_lower set h s
+  line_kind (line.All set most) h s = of_question set (question.Which most) h s
+  line_kind (line.Why set) h s = of_question set question.Why h s
   line_kind (line.Check set) h s = of_unbuilt (record { line = line.Check set; is = h; unbuilt = refl }) s
   line_kind (line.Itself n) h s = of_unbuilt (record { line = line.Itself n; is = h; unbuilt = refl }) s
   line_kind line.Help h s = of_help h s
@@ -138,6 +154,9 @@ module _ (words : List (List ℕ)) (r : Ending) (f : Effect) where
   lower_alone_not : (y x : Ending) → is_lower_alone x ≡ true → is_lower_alone y ≡ false → y ≡ x → ⊥
   lower_alone_not y x a b e = false≢true (sym b ∙ ap is_lower_alone e ∙ a)
 
+  reply_not : (y x : Ending) → by_asking.is_reply x ≡ true → by_asking.is_reply y ≡ false → y ≡ x → ⊥
+  reply_not y x a b e = false≢true (sym b ∙ ap by_asking.is_reply e ∙ a)
+
   text_not : (y x : Ending) → is_of_text x ≡ true → is_of_text y ≡ false → y ≡ x → ⊥
   text_not y x a b e = false≢true (sym b ∙ ap is_of_text e ∙ a)
 
@@ -159,6 +178,9 @@ module _ (words : List (List ℕ)) (r : Ending) (f : Effect) where
   synth_alone_not_exec (ending.NotRun reason) a = absurd (false≢true a)
   synth_alone_not_exec (ending.NotFilled reason) a = absurd (false≢true a)
   synth_alone_not_exec ending.Lowered a = absurd (false≢true a)
+  synth_alone_not_exec ending.Listed a = absurd (false≢true a)
+  synth_alone_not_exec ending.Explained a = absurd (false≢true a)
+  synth_alone_not_exec ending.Met a = absurd (false≢true a)
   synth_alone_not_exec (ending.NotLowered reason) a = absurd (false≢true a)
   synth_alone_not_exec (ending.NotTagged span) a = absurd (false≢true a)
   synth_alone_not_exec ending.ReadFault a = absurd (false≢true a)
@@ -177,6 +199,9 @@ module _ (words : List (List ℕ)) (r : Ending) (f : Effect) where
   synth_alone_not_lower (ending.ExecFailed span) a = absurd (false≢true a)
   synth_alone_not_lower (ending.ExecSkipped span) a = absurd (false≢true a)
   synth_alone_not_lower ending.Lowered a = absurd (false≢true a)
+  synth_alone_not_lower ending.Listed a = absurd (false≢true a)
+  synth_alone_not_lower ending.Explained a = absurd (false≢true a)
+  synth_alone_not_lower ending.Met a = absurd (false≢true a)
   synth_alone_not_lower ending.NotALine a = absurd (false≢true a)
   synth_alone_not_lower (ending.NotText fault) a = absurd (false≢true a)
   synth_alone_not_lower (ending.NotTyped fault) a = absurd (false≢true a)
@@ -204,6 +229,9 @@ module _ (words : List (List ℕ)) (r : Ending) (f : Effect) where
   exec_alone_not_lower ending.HelpShown a = absurd (false≢true a)
   exec_alone_not_lower ending.VersionShown a = absurd (false≢true a)
   exec_alone_not_lower ending.Lowered a = absurd (false≢true a)
+  exec_alone_not_lower ending.Listed a = absurd (false≢true a)
+  exec_alone_not_lower ending.Explained a = absurd (false≢true a)
+  exec_alone_not_lower ending.Met a = absurd (false≢true a)
   exec_alone_not_lower ending.NotALine a = absurd (false≢true a)
   exec_alone_not_lower (ending.NotText fault) a = absurd (false≢true a)
   exec_alone_not_lower (ending.NotTyped fault) a = absurd (false≢true a)
@@ -217,48 +245,68 @@ module _ (words : List (List ℕ)) (r : Ending) (f : Effect) where
   exec_alone_not_lower ending.NotBuilt a = absurd (false≢true a)
 
   -- the endings of a line `synth` alone come for no other line
-  synth_of : (x : Ending) → is_synth_alone x ≡ true → Kind → r ≡ x → ForSearch words (λ set budget. Synthesises set budget r f)
-  synth_of x a (of_none n s) e = absurd (alone_not ending.NotALine x a refl (sym s.is ∙ e))
-  synth_of x a (of_unbuilt u s) e = absurd (alone_not ending.NotBuilt x a refl (sym s.is ∙ e))
-  synth_of x a (of_synth set budget h s) e = record { set = set; budget = budget; is = h; holds = s }
-  synth_of x a (of_exec set job h s) e = by_exec.exec_not set job r f x (synth_alone_not_exec x a) s.runs e
-  synth_of x a (of_lower set h s) e = by_lower.lower_not set r f x (synth_alone_not_lower x a) s.lowers e
-  synth_of x a (of_help h s) e = absurd (shown_not help_text ending.HelpShown s x (alone_not ending.HelpShown x a refl) (alone_not ending.WriteFault x a refl) (alone_not ending.Memory x a refl) e)
-  synth_of x a (of_version h s) e = absurd (shown_not version_text ending.VersionShown s x (alone_not ending.VersionShown x a refl) (alone_not ending.WriteFault x a refl) (alone_not ending.Memory x a refl) e)
-  synth_of x a (of_memory s) e = absurd (alone_not ending.Memory x a refl (sym s.is ∙ e))
+  synth_of : (x : Ending) → is_synth_alone x ≡ true → by_asking.is_of_question x ≡ false → Kind → r ≡ x → ForSearch words (λ set budget. Synthesises set budget r f)
+  synth_of x a d (of_none n s) e = absurd (alone_not ending.NotALine x a refl (sym s.is ∙ e))
+  synth_of x a d (of_unbuilt u s) e = absurd (alone_not ending.NotBuilt x a refl (sym s.is ∙ e))
+  synth_of x a d (of_synth set budget h s) e = record { set = set; budget = budget; is = h; holds = s }
+  synth_of x a d (of_exec set job h s) e = by_exec.exec_not set job r f x (synth_alone_not_exec x a) s.runs e
+  synth_of x a d (of_lower set h s) e = by_lower.lower_not set r f x (synth_alone_not_lower x a) s.lowers e
+  synth_of x a d (of_question set asked h s) e = by_asking.question_not set asked r f x d s.asks e
+  synth_of x a d (of_help h s) e = absurd (shown_not help_text ending.HelpShown s x (alone_not ending.HelpShown x a refl) (alone_not ending.WriteFault x a refl) (alone_not ending.Memory x a refl) e)
+  synth_of x a d (of_version h s) e = absurd (shown_not version_text ending.VersionShown s x (alone_not ending.VersionShown x a refl) (alone_not ending.WriteFault x a refl) (alone_not ending.Memory x a refl) e)
+  synth_of x a d (of_memory s) e = absurd (alone_not ending.Memory x a refl (sym s.is ∙ e))
 
   -- those of lines that run a function alone
-  exec_of : (x : Ending) → is_exec_alone x ≡ true → is_of_synth x ≡ false → Kind → r ≡ x → ForJob words (λ set job. Executes set job r f)
-  exec_of x a b (of_none n s) e = absurd (exec_alone_not ending.NotALine x a refl (sym s.is ∙ e))
-  exec_of x a b (of_unbuilt u s) e = absurd (exec_alone_not ending.NotBuilt x a refl (sym s.is ∙ e))
-  exec_of x a b (of_synth set budget h s) e = absurd (false≢true (sym b ∙ ap is_of_synth (sym e) ∙ s.ends))
-  exec_of x a b (of_exec set job h s) e = record { set = set; job = job; is = h; holds = s }
-  exec_of x a b (of_lower set h s) e = by_lower.lower_not set r f x (exec_alone_not_lower x a) s.lowers e
-  exec_of x a b (of_help h s) e = absurd (shown_not help_text ending.HelpShown s x (exec_alone_not ending.HelpShown x a refl) (exec_alone_not ending.WriteFault x a refl) (exec_alone_not ending.Memory x a refl) e)
-  exec_of x a b (of_version h s) e = absurd (shown_not version_text ending.VersionShown s x (exec_alone_not ending.VersionShown x a refl) (exec_alone_not ending.WriteFault x a refl) (exec_alone_not ending.Memory x a refl) e)
-  exec_of x a b (of_memory s) e = absurd (exec_alone_not ending.Memory x a refl (sym s.is ∙ e))
+  exec_of : (x : Ending) → is_exec_alone x ≡ true → is_of_synth x ≡ false → by_asking.is_of_question x ≡ false → Kind → r ≡ x → ForJob words (λ set job. Executes set job r f)
+  exec_of x a b d (of_none n s) e = absurd (exec_alone_not ending.NotALine x a refl (sym s.is ∙ e))
+  exec_of x a b d (of_unbuilt u s) e = absurd (exec_alone_not ending.NotBuilt x a refl (sym s.is ∙ e))
+  exec_of x a b d (of_synth set budget h s) e = absurd (false≢true (sym b ∙ ap is_of_synth (sym e) ∙ s.ends))
+  exec_of x a b d (of_exec set job h s) e = record { set = set; job = job; is = h; holds = s }
+  exec_of x a b d (of_lower set h s) e = by_lower.lower_not set r f x (exec_alone_not_lower x a) s.lowers e
+  exec_of x a b d (of_question set asked h s) e = by_asking.question_not set asked r f x d s.asks e
+  exec_of x a b d (of_help h s) e = absurd (shown_not help_text ending.HelpShown s x (exec_alone_not ending.HelpShown x a refl) (exec_alone_not ending.WriteFault x a refl) (exec_alone_not ending.Memory x a refl) e)
+  exec_of x a b d (of_version h s) e = absurd (shown_not version_text ending.VersionShown s x (exec_alone_not ending.VersionShown x a refl) (exec_alone_not ending.WriteFault x a refl) (exec_alone_not ending.Memory x a refl) e)
+  exec_of x a b d (of_memory s) e = absurd (exec_alone_not ending.Memory x a refl (sym s.is ∙ e))
 
   -- those of a line `lower` alone
-  lower_of : (x : Ending) → is_lower_alone x ≡ true → is_of_synth x ≡ false → by_exec.is_of_exec x ≡ false → Kind → r ≡ x → ForLower words (λ set. Lowers set r f)
-  lower_of x a b c (of_none n s) e = absurd (lower_alone_not ending.NotALine x a refl (sym s.is ∙ e))
-  lower_of x a b c (of_unbuilt u s) e = absurd (lower_alone_not ending.NotBuilt x a refl (sym s.is ∙ e))
-  lower_of x a b c (of_synth set budget h s) e = absurd (false≢true (sym b ∙ ap is_of_synth (sym e) ∙ s.ends))
-  lower_of x a b c (of_exec set job h s) e = by_exec.exec_not set job r f x c s.runs e
-  lower_of x a b c (of_lower set h s) e = record { set = set; is = h; holds = s }
-  lower_of x a b c (of_help h s) e = absurd (shown_not help_text ending.HelpShown s x (lower_alone_not ending.HelpShown x a refl) (lower_alone_not ending.WriteFault x a refl) (lower_alone_not ending.Memory x a refl) e)
-  lower_of x a b c (of_version h s) e = absurd (shown_not version_text ending.VersionShown s x (lower_alone_not ending.VersionShown x a refl) (lower_alone_not ending.WriteFault x a refl) (lower_alone_not ending.Memory x a refl) e)
-  lower_of x a b c (of_memory s) e = absurd (lower_alone_not ending.Memory x a refl (sym s.is ∙ e))
+  lower_of : (x : Ending) → is_lower_alone x ≡ true → is_of_synth x ≡ false → by_exec.is_of_exec x ≡ false → by_asking.is_of_question x ≡ false → Kind → r ≡ x → ForLower words (λ set. Lowers set r f)
+  lower_of x a b c d (of_none n s) e = absurd (lower_alone_not ending.NotALine x a refl (sym s.is ∙ e))
+  lower_of x a b c d (of_unbuilt u s) e = absurd (lower_alone_not ending.NotBuilt x a refl (sym s.is ∙ e))
+  lower_of x a b c d (of_synth set budget h s) e = absurd (false≢true (sym b ∙ ap is_of_synth (sym e) ∙ s.ends))
+  lower_of x a b c d (of_exec set job h s) e = by_exec.exec_not set job r f x c s.runs e
+  lower_of x a b c d (of_lower set h s) e = record { set = set; is = h; holds = s }
+  lower_of x a b c d (of_question set asked h s) e = by_asking.question_not set asked r f x d s.asks e
+  lower_of x a b c d (of_help h s) e = absurd (shown_not help_text ending.HelpShown s x (lower_alone_not ending.HelpShown x a refl) (lower_alone_not ending.WriteFault x a refl) (lower_alone_not ending.Memory x a refl) e)
+  lower_of x a b c d (of_version h s) e = absurd (shown_not version_text ending.VersionShown s x (lower_alone_not ending.VersionShown x a refl) (lower_alone_not ending.WriteFault x a refl) (lower_alone_not ending.Memory x a refl) e)
+  lower_of x a b c d (of_memory s) e = absurd (lower_alone_not ending.Memory x a refl (sym s.is ∙ e))
+
+  takes_asking : (set : Set) (asked : Question) → IsLine words (line_asking set asked) → TakesText words set
+  takes_asking set (question.Which most) h = takes_all most h
+  takes_asking set question.Why h = takes_why h
+
+  -- those of a line `all` or `why` alone
+  asking_of : (x : Ending) → by_asking.is_reply x ≡ true → is_of_synth x ≡ false → by_exec.is_of_exec x ≡ false → by_lower.is_of_lower x ≡ false → Kind → r ≡ x → ForQuestion words (λ set asked. Asks set asked r f)
+  asking_of x a b c d (of_none n s) e = absurd (reply_not ending.NotALine x a refl (sym s.is ∙ e))
+  asking_of x a b c d (of_unbuilt u s) e = absurd (reply_not ending.NotBuilt x a refl (sym s.is ∙ e))
+  asking_of x a b c d (of_synth set budget h s) e = absurd (false≢true (sym b ∙ ap is_of_synth (sym e) ∙ s.ends))
+  asking_of x a b c d (of_exec set job h s) e = by_exec.exec_not set job r f x c s.runs e
+  asking_of x a b c d (of_lower set h s) e = by_lower.lower_not set r f x d s.lowers e
+  asking_of x a b c d (of_question set asked h s) e = record { set = set; asked = asked; is = h; holds = s }
+  asking_of x a b c d (of_help h s) e = absurd (shown_not help_text ending.HelpShown s x (reply_not ending.HelpShown x a refl) (reply_not ending.WriteFault x a refl) (reply_not ending.Memory x a refl) e)
+  asking_of x a b c d (of_version h s) e = absurd (shown_not version_text ending.VersionShown s x (reply_not ending.VersionShown x a refl) (reply_not ending.WriteFault x a refl) (reply_not ending.Memory x a refl) e)
+  asking_of x a b c d (of_memory s) e = absurd (reply_not ending.Memory x a refl (sym s.is ∙ e))
 
   -- what follows for a line that takes a text as it is, and for a line `lower`, from an ending of lines that read their source alone
-  text_of : (x : Ending) → is_of_text x ≡ true → (P Q : Set → Type 0) → ((set : Set) (budget : Budget) → Synthesises set budget r f → P set) → ((set : Set) (job : Job) → Executes set job r f → P set) → ((set : Set) → Lowers set r f → Q set) → Kind → r ≡ x → ForText words P ⊎ ForLower words Q
-  text_of x a P Q k l m (of_none n s) e = absurd (text_not ending.NotALine x a refl (sym s.is ∙ e))
-  text_of x a P Q k l m (of_unbuilt u s) e = absurd (text_not ending.NotBuilt x a refl (sym s.is ∙ e))
-  text_of x a P Q k l m (of_synth set budget h s) e = inl (record { set = set; takes = inl (record { budget = budget; is = h }); holds = k set budget s })
-  text_of x a P Q k l m (of_exec set job h s) e = inl (record { set = set; takes = inr (job, h); holds = l set job s })
-  text_of x a P Q k l m (of_lower set h s) e = inr (record { set = set; is = h; holds = m set s })
-  text_of x a P Q k l m (of_help h s) e = absurd (shown_not help_text ending.HelpShown s x (text_not ending.HelpShown x a refl) (text_not ending.WriteFault x a refl) (text_not ending.Memory x a refl) e)
-  text_of x a P Q k l m (of_version h s) e = absurd (shown_not version_text ending.VersionShown s x (text_not ending.VersionShown x a refl) (text_not ending.WriteFault x a refl) (text_not ending.Memory x a refl) e)
-  text_of x a P Q k l m (of_memory s) e = absurd (text_not ending.Memory x a refl (sym s.is ∙ e))
+  text_of : (x : Ending) → is_of_text x ≡ true → (P Q : Set → Type 0) → ((set : Set) (budget : Budget) → Synthesises set budget r f → P set) → ((set : Set) (job : Job) → Executes set job r f → P set) → ((set : Set) → Lowers set r f → Q set) → ((set : Set) (asked : Question) → Asks set asked r f → P set) → Kind → r ≡ x → ForText words P ⊎ ForLower words Q
+  text_of x a P Q k l m v (of_none n s) e = absurd (text_not ending.NotALine x a refl (sym s.is ∙ e))
+  text_of x a P Q k l m v (of_unbuilt u s) e = absurd (text_not ending.NotBuilt x a refl (sym s.is ∙ e))
+  text_of x a P Q k l m v (of_synth set budget h s) e = inl (record { set = set; takes = takes_synth (record { budget = budget; is = h }); holds = k set budget s })
+  text_of x a P Q k l m v (of_exec set job h s) e = inl (record { set = set; takes = takes_job job h; holds = l set job s })
+  text_of x a P Q k l m v (of_lower set h s) e = inr (record { set = set; is = h; holds = m set s })
+  text_of x a P Q k l m v (of_question set asked h s) e = inl (record { set = set; takes = takes_asking set asked h; holds = v set asked s })
+  text_of x a P Q k l m v (of_help h s) e = absurd (shown_not help_text ending.HelpShown s x (text_not ending.HelpShown x a refl) (text_not ending.WriteFault x a refl) (text_not ending.Memory x a refl) e)
+  text_of x a P Q k l m v (of_version h s) e = absurd (shown_not version_text ending.VersionShown s x (text_not ending.VersionShown x a refl) (text_not ending.WriteFault x a refl) (text_not ending.Memory x a refl) e)
+  text_of x a P Q k l m v (of_memory s) e = absurd (text_not ending.Memory x a refl (sym s.is ∙ e))
 
   -- what follows for either
   for_both : {P : Type 0} → ForText words (λ set. P) ⊎ ForLower words (λ set. P) → P
@@ -281,6 +329,7 @@ module _ (words : List (List ℕ)) (r : Ending) (f : Effect) where
   not_a_line_of (of_synth set budget h s) e = absurd (synth_not set budget ending.NotALine s refl e)
   not_a_line_of (of_exec set job h s) e = by_exec.exec_not set job r f ending.NotALine refl s.runs e
   not_a_line_of (of_lower set h s) e = by_lower.lower_not set r f ending.NotALine refl s.lowers e
+  not_a_line_of (of_question set asked h s) e = by_asking.question_not set asked r f ending.NotALine refl s.asks e
   not_a_line_of (of_help h s) e = absurd (shown_not help_text ending.HelpShown s ending.NotALine (λ q. cc) (λ q. cc) (λ q. cc) e)
   not_a_line_of (of_version h s) e = absurd (shown_not version_text ending.VersionShown s ending.NotALine (λ q. cc) (λ q. cc) (λ q. cc) e)
   not_a_line_of (of_memory s) e = let q = sym s.is ∙ e in cc
@@ -309,6 +358,7 @@ module _ (words : List (List ℕ)) (r : Ending) (f : Effect) where
   help_of (of_synth set budget h s) e = absurd (synth_not set budget ending.HelpShown s refl e)
   help_of (of_exec set job h s) e = by_exec.exec_not set job r f ending.HelpShown refl s.runs e
   help_of (of_lower set h s) e = by_lower.lower_not set r f ending.HelpShown refl s.lowers e
+  help_of (of_question set asked h s) e = by_asking.question_not set asked r f ending.HelpShown refl s.asks e
   help_of (of_help h s) e = (h, shown_whole help_text ending.HelpShown s (λ q. cc) (λ q. cc) e)
   help_of (of_version h s) e = absurd (shown_not version_text ending.VersionShown s ending.HelpShown (λ q. cc) (λ q. cc) (λ q. cc) e)
   help_of (of_memory s) e = let q = sym s.is ∙ e in cc
@@ -319,6 +369,7 @@ module _ (words : List (List ℕ)) (r : Ending) (f : Effect) where
   version_of (of_synth set budget h s) e = absurd (synth_not set budget ending.VersionShown s refl e)
   version_of (of_exec set job h s) e = by_exec.exec_not set job r f ending.VersionShown refl s.runs e
   version_of (of_lower set h s) e = by_lower.lower_not set r f ending.VersionShown refl s.lowers e
+  version_of (of_question set asked h s) e = by_asking.question_not set asked r f ending.VersionShown refl s.asks e
   version_of (of_help h s) e = absurd (shown_not help_text ending.HelpShown s ending.VersionShown (λ q. cc) (λ q. cc) (λ q. cc) e)
   version_of (of_version h s) e = (h, shown_whole version_text ending.VersionShown s (λ q. cc) (λ q. cc) e)
   version_of (of_memory s) e = let q = sym s.is ∙ e in cc
@@ -329,6 +380,7 @@ module _ (words : List (List ℕ)) (r : Ending) (f : Effect) where
   not_built_of (of_synth set budget h s) e = absurd (synth_not set budget ending.NotBuilt s refl e)
   not_built_of (of_exec set job h s) e = by_exec.exec_not set job r f ending.NotBuilt refl s.runs e
   not_built_of (of_lower set h s) e = by_lower.lower_not set r f ending.NotBuilt refl s.lowers e
+  not_built_of (of_question set asked h s) e = by_asking.question_not set asked r f ending.NotBuilt refl s.asks e
   not_built_of (of_help h s) e = absurd (shown_not help_text ending.HelpShown s ending.NotBuilt (λ q. cc) (λ q. cc) (λ q. cc) e)
   not_built_of (of_version h s) e = absurd (shown_not version_text ending.VersionShown s ending.NotBuilt (λ q. cc) (λ q. cc) (λ q. cc) e)
   not_built_of (of_memory s) e = let q = sym s.is ∙ e in cc
@@ -339,6 +391,7 @@ module _ (words : List (List ℕ)) (r : Ending) (f : Effect) where
   write_fault_of (of_synth set budget h s) e = s.write_fault e
   write_fault_of (of_exec set job h s) e = by_exec.write_fault_by set job r f s.runs e
   write_fault_of (of_lower set h s) e = by_lower.write_fault_by set r f s.lowers e
+  write_fault_of (of_question set asked h s) e = by_asking.write_fault_by set asked r f s.asks e
   write_fault_of (of_help h s) e = shown_rose help_text ending.HelpShown s (λ q. cc) (λ q. cc) e
   write_fault_of (of_version h s) e = shown_rose version_text ending.VersionShown s (λ q. cc) (λ q. cc) e
   write_fault_of (of_memory s) e = let q = sym s.is ∙ e in cc
@@ -346,12 +399,22 @@ module _ (words : List (List ℕ)) (r : Ending) (f : Effect) where
   abbrev Cut : List ℕ → Type 0
   Cut text = WritesPart (IsOutput words text) f.held_old f.held_new
 
+  -- a reply is what the line writes
+  output_of : (set : Set) (asked : Question) (text : List ℕ) (reply : Reply) (out : List ℕ) → IsLine words (line_asking set asked) → IsReply set asked text reply out → IsOutput words text out
+  output_of set (question.Which most) text OfList out h i = output.listing (record { set = set; most = most; is = h; holds = i })
+  output_of set (question.Which most) text OfReasons out h i = absurd i
+  output_of set (question.Which most) text OfCompletion out h i = absurd i
+  output_of set question.Why text OfList out h i = absurd i
+  output_of set question.Why text OfReasons out h i = output.reasons (record { set = set; is = h; holds = i })
+  output_of set question.Why text OfCompletion out h i = output.meeting (record { set = set; is = h; holds = i })
+
   prefix_of : Kind → r ≡ ending.WriteFault → IfSome f.left_old Cut
   prefix_of (of_none n s) e = let q = sym s.is ∙ e in cc
   prefix_of (of_unbuilt u s) e = let q = sym s.is ∙ e in cc
   prefix_of (of_synth set budget h s) e = mapped f.left_old (λ text. WritesPart (IsResult set budget text) f.held_old f.held_new) Cut (λ text w. record { out = w.out; is = output.result (record { set = set; budget = budget; is = h; holds = w.is }); appends = w.appends }) (s.prefix e)
   prefix_of (of_exec set job h s) e = mapped f.left_old (λ text. WritesPart (IsRunOutput set job text) f.held_old f.held_new) Cut (λ text w. record { out = w.out; is = output.run (record { set = set; job = job; is = h; holds = w.is }); appends = w.appends }) (by_exec.told_by set job r f (λ text. WritesPart (IsRunOutput set job text) f.held_old f.held_new) (λ text w. by_exec.prefix_by set job r f e text w) s.runs)
   prefix_of (of_lower set h s) e = by_lower.told_as set r f ending.WriteFault Cut (λ text told. record { out = told.1.out; is = output.plain (record { set = set; is = h; holds = told.1.is }); appends = told.1.appends }) e s.lowers
+  prefix_of (of_question set asked h s) e = by_asking.told_by set asked r f Cut (λ text came. let w = by_asking.prefix_by set asked r f text came e in record { out = w.out; is = output_of set asked text w.is.0 w.out h w.is.1; appends = w.appends }) s.asks
   prefix_of (of_help h s) e = every f.left_old Cut (λ text. record { out = help_text; is = output.help h refl; appends = shown_cut help_text ending.HelpShown s (λ q. cc) (λ q. cc) e })
   prefix_of (of_version h s) e = every f.left_old Cut (λ text. record { out = version_text; is = output.version h refl; appends = shown_cut version_text ending.VersionShown s (λ q. cc) (λ q. cc) e })
   prefix_of (of_memory s) e = let q = sym s.is ∙ e in cc
@@ -362,6 +425,7 @@ module _ (words : List (List ℕ)) (r : Ending) (f : Effect) where
   kept_of (of_synth set budget h s) k = s.kept k
   kept_of (of_exec set job h s) k = by_exec.kept_by set job r f s.runs k
   kept_of (of_lower set h s) k = by_lower.kept_by set r f s.lowers k
+  kept_of (of_question set asked h s) k = by_asking.kept_by set asked r f s.asks k
   kept_of (of_help h s) k = shown_kept help_text ending.HelpShown s refl k
   kept_of (of_version h s) k = shown_kept version_text ending.VersionShown s refl k
   kept_of (of_memory s) k = s.nothing.unwritten
@@ -372,6 +436,7 @@ module _ (words : List (List ℕ)) (r : Ending) (f : Effect) where
   few_of (of_synth set budget h s) = s.few
   few_of (of_exec set job h s) = s.few
   few_of (of_lower set h s) = s.few
+  few_of (of_question set asked h s) = s.few
   few_of (of_help h s) = nothing_taken f.left_old f.left_new s.unread.left
   few_of (of_version h s) = nothing_taken f.left_old f.left_new s.unread.left
   few_of (of_memory s) = nothing_taken f.left_old f.left_new s.nothing.unread.left
@@ -379,9 +444,10 @@ module _ (words : List (List ℕ)) (r : Ending) (f : Effect) where
   unread_of : Kind → ((set : Set) → ReadsText words set → ⊥) → f.left_new ≡ f.left_old
   unread_of (of_none n s) reads = s.nothing.unread.left
   unread_of (of_unbuilt u s) reads = s.nothing.unread.left
-  unread_of (of_synth set budget h s) reads = absurd (reads set (inl (inl (record { budget = budget; is = h }))))
-  unread_of (of_exec set job h s) reads = absurd (reads set (inl (inr (job, h))))
+  unread_of (of_synth set budget h s) reads = absurd (reads set (inl (takes_synth (record { budget = budget; is = h }))))
+  unread_of (of_exec set job h s) reads = absurd (reads set (inl (takes_job job h)))
   unread_of (of_lower set h s) reads = absurd (reads set (inr h))
+  unread_of (of_question set asked h s) reads = absurd (reads set (inl (takes_asking set asked h)))
   unread_of (of_help h s) reads = s.unread.left
   unread_of (of_version h s) reads = s.unread.left
   unread_of (of_memory s) reads = s.nothing.unread.left
@@ -403,6 +469,7 @@ module _ (words : List (List ℕ)) (r : Ending) (f : Effect) where
   ends_no_line_of (of_synth set budget h s) spells = absurd (spells (line.Synth set budget false) h)
   ends_no_line_of (of_exec set job h s) spells = absurd (spells (line_of set job) h)
   ends_no_line_of (of_lower set h s) spells = absurd (spells (line.Lower set) h)
+  ends_no_line_of (of_question set asked h s) spells = absurd (spells (line_asking set asked) h)
   ends_no_line_of (of_help h s) spells = absurd (spells line.Help h)
   ends_no_line_of (of_version h s) spells = absurd (spells line.Version h)
   ends_no_line_of (of_memory s) spells = subst EndsNoLine (sym s.is) tt
@@ -413,6 +480,7 @@ module _ (words : List (List ℕ)) (r : Ending) (f : Effect) where
   ends_unbuilt_line_of (of_synth set budget h s) u = unbuilt_not (line.Synth set budget false) refl u h
   ends_unbuilt_line_of (of_exec set job h s) u = unbuilt_not (line_of set job) (job_is_built set job) u h
   ends_unbuilt_line_of (of_lower set h s) u = unbuilt_not (line.Lower set) refl u h
+  ends_unbuilt_line_of (of_question set asked h s) u = unbuilt_not (line_asking set asked) (asking_is_built set asked) u h
   ends_unbuilt_line_of (of_help h s) u = unbuilt_not line.Help refl u h
   ends_unbuilt_line_of (of_version h s) u = unbuilt_not line.Version refl u h
   ends_unbuilt_line_of (of_memory s) u = subst EndsUnbuiltLine (sym s.is) tt
@@ -427,6 +495,7 @@ module _ (words : List (List ℕ)) (r : Ending) (f : Effect) where
   ends_help_of (of_synth set budget g s) h = let q = one (line.Synth set budget false) line.Help g h in cc
   ends_help_of (of_exec set job g s) h = not_of_job line.Help set job refl (one line.Help (line_of set job) h g)
   ends_help_of (of_lower set g s) h = let q = one (line.Lower set) line.Help g h in cc
+  ends_help_of (of_question set asked g s) h = not_asking line.Help set asked refl (one line.Help (line_asking set asked) h g)
   ends_help_of (of_help g s) h = shown_ends help_text ending.HelpShown (λ x. EndsHelp x f.write_faults_old f.write_faults_new) s refl (λ w. w) tt
   ends_help_of (of_version g s) h = let q = one line.Version line.Help g h in cc
   ends_help_of (of_memory s) h = subst (λ x. EndsHelp x f.write_faults_old f.write_faults_new) (sym s.is) tt
@@ -437,6 +506,7 @@ module _ (words : List (List ℕ)) (r : Ending) (f : Effect) where
   ends_version_of (of_synth set budget g s) h = let q = one (line.Synth set budget false) line.Version g h in cc
   ends_version_of (of_exec set job g s) h = not_of_job line.Version set job refl (one line.Version (line_of set job) h g)
   ends_version_of (of_lower set g s) h = let q = one (line.Lower set) line.Version g h in cc
+  ends_version_of (of_question set asked g s) h = not_asking line.Version set asked refl (one line.Version (line_asking set asked) h g)
   ends_version_of (of_help g s) h = let q = one line.Help line.Version g h in cc
   ends_version_of (of_version g s) h = shown_ends version_text ending.VersionShown (λ x. EndsVersion x f.write_faults_old f.write_faults_new) s refl (λ w. w) tt
   ends_version_of (of_memory s) h = subst (λ x. EndsVersion x f.write_faults_old f.write_faults_new) (sym s.is) tt
@@ -447,6 +517,7 @@ module _ (words : List (List ℕ)) (r : Ending) (f : Effect) where
   prefix_help_of (of_synth set budget g s) h e = let q = one (line.Synth set budget false) line.Help g h in cc
   prefix_help_of (of_exec set job g s) h e = not_of_job line.Help set job refl (one line.Help (line_of set job) h g)
   prefix_help_of (of_lower set g s) h e = let q = one (line.Lower set) line.Help g h in cc
+  prefix_help_of (of_question set asked g s) h e = not_asking line.Help set asked refl (one line.Help (line_asking set asked) h g)
   prefix_help_of (of_help g s) h e = shown_cut help_text ending.HelpShown s (λ q. cc) (λ q. cc) e
   prefix_help_of (of_version g s) h e = let q = one line.Version line.Help g h in cc
   prefix_help_of (of_memory s) h e = let q = sym s.is ∙ e in cc
@@ -457,6 +528,7 @@ module _ (words : List (List ℕ)) (r : Ending) (f : Effect) where
   prefix_version_of (of_synth set budget g s) h e = let q = one (line.Synth set budget false) line.Version g h in cc
   prefix_version_of (of_exec set job g s) h e = not_of_job line.Version set job refl (one line.Version (line_of set job) h g)
   prefix_version_of (of_lower set g s) h e = let q = one (line.Lower set) line.Version g h in cc
+  prefix_version_of (of_question set asked g s) h e = not_asking line.Version set asked refl (one line.Version (line_asking set asked) h g)
   prefix_version_of (of_help g s) h e = let q = one line.Help line.Version g h in cc
   prefix_version_of (of_version g s) h e = shown_cut version_text ending.VersionShown s (λ q. cc) (λ q. cc) e
   prefix_version_of (of_memory s) h e = let q = sym s.is ∙ e in cc
@@ -472,6 +544,7 @@ module _ (words : List (List ℕ)) (r : Ending) (f : Effect) where
       subst (λ x. P x budget) sets (subst (P t) budgets (a t other s))
   for_synth P a m (of_exec other job g s) set budget h = not_of_job (line.Synth set budget false) other job refl (one (line.Synth set budget false) (line_of other job) h g)
   for_synth P a m (of_lower t g s) set budget h = let q = one (line.Lower t) (line.Synth set budget false) g h in cc
+  for_synth P a m (of_question t asked g s) set budget h = not_asking (line.Synth set budget false) t asked refl (one (line.Synth set budget false) (line_asking t asked) h g)
   for_synth P a m (of_help g s) set budget h = let q = one line.Help (line.Synth set budget false) g h in cc
   for_synth P a m (of_version g s) set budget h = let q = one line.Version (line.Synth set budget false) g h in cc
   for_synth P a m (of_memory s) set budget h = m set budget s.is
@@ -485,6 +558,7 @@ module _ (words : List (List ℕ)) (r : Ending) (f : Effect) where
       let same = one_job t set other job (one (line_of t other) (line_of set job) g h) in
       subst (λ x. P x job) same.sets (subst (P t) same.jobs (a t other s))
   for_exec P a m (of_lower t g s) set job h = not_of_job (line.Lower t) set job refl (one (line.Lower t) (line_of set job) g h)
+  for_exec P a m (of_question t asked g s) set job h = job_or_question set job t asked (one (line_of set job) (line_asking t asked) h g)
   for_exec P a m (of_help g s) set job h = not_of_job line.Help set job refl (one line.Help (line_of set job) g h)
   for_exec P a m (of_version g s) set job h = not_of_job line.Version set job refl (one line.Version (line_of set job) g h)
   for_exec P a m (of_memory s) set job h = m set job s.is
@@ -500,8 +574,23 @@ module _ (words : List (List ℕ)) (r : Ending) (f : Effect) where
       let sets : t ≡ set = cc in
       subst P sets (a t s)
   for_lower P a m (of_help g s) set h = let q = one line.Help (line.Lower set) g h in cc
+  for_lower P a m (of_question t asked g s) set h = not_asking (line.Lower set) t asked refl (one (line.Lower set) (line_asking t asked) h g)
   for_lower P a m (of_version g s) set h = let q = one line.Version (line.Lower set) g h in cc
   for_lower P a m (of_memory s) set h = m set s.is
+
+  -- what follows for a line `all` or `why` from its own call, or from want of memory
+  for_asking : (P : Set → Question → Type 0) → ((set : Set) (asked : Question) → Asks set asked r f → P set asked) → ((set : Set) (asked : Question) → r ≡ ending.Memory → P set asked) → Kind → (set : Set) (asked : Question) → IsLine words (line_asking set asked) → P set asked
+  for_asking P a m (of_none n s) set asked h = absurd (n (line_asking set asked) h)
+  for_asking P a m (of_unbuilt u s) set asked h = not_unbuilt (line_asking set asked) (asking_is_built set asked) h u
+  for_asking P a m (of_synth t budget g s) set asked h = not_asking (line.Synth t budget false) set asked refl (one (line.Synth t budget false) (line_asking set asked) g h)
+  for_asking P a m (of_exec t job g s) set asked h = job_or_question t job set asked (one (line_of t job) (line_asking set asked) g h)
+  for_asking P a m (of_lower t g s) set asked h = not_asking (line.Lower t) set asked refl (one (line.Lower t) (line_asking set asked) g h)
+  for_asking P a m (of_question t other g s) set asked h =
+      let same = one_question t set other asked (one (line_asking t other) (line_asking set asked) g h) in
+      subst (λ x. P x asked) same.0 (subst (P t) same.1 (a t other s))
+  for_asking P a m (of_help g s) set asked h = not_asking line.Help set asked refl (one line.Help (line_asking set asked) g h)
+  for_asking P a m (of_version g s) set asked h = not_asking line.Version set asked refl (one line.Version (line_asking set asked) g h)
+  for_asking P a m (of_memory s) set asked h = m set asked s.is
 
 -- The clauses of `run`
 
@@ -513,16 +602,16 @@ module _ {words : List (List ℕ)} {r : Ending} {f : Effect} (a : Answers words 
   not_a_line = not_a_line_of words r f the
 
   pub completed : r ≡ ending.Completed → ForSynth words (λ set. IfSome f.left_old (λ text. Writes (IsCompletion set text) f.held_old f.held_new))
-  completed e = let s = synth_of words r f ending.Completed refl the e in record { set = s.set; is = record { budget = s.budget; is = s.is }; holds = (s.holds).completed e }
+  completed e = let s = synth_of words r f ending.Completed refl refl the e in record { set = s.set; is = record { budget = s.budget; is = s.is }; holds = (s.holds).completed e }
 
   pub none : r ≡ ending.NoCompletion → ForSynth words (λ set. IfSome f.left_old (λ text. Writes (IsNone set text) f.held_old f.held_new))
-  none e = let s = synth_of words r f ending.NoCompletion refl the e in record { set = s.set; is = record { budget = s.budget; is = s.is }; holds = (s.holds).none e }
+  none e = let s = synth_of words r f ending.NoCompletion refl refl the e in record { set = s.set; is = record { budget = s.budget; is = s.is }; holds = (s.holds).none e }
 
   pub spent_rounds : (pairs : List Pair) (best : Option Choice) → r ≡ ending.SpentRounds pairs best → ForSearch words (λ set budget. AreSpent budget.rounds pairs × IfSome f.left_old (λ text. Writes (IsSpentRounds set budget text pairs best) f.held_old f.held_new))
-  spent_rounds pairs best e = let s = synth_of words r f (ending.SpentRounds pairs best) refl the e in record { set = s.set; budget = s.budget; is = s.is; holds = (s.holds).rounds pairs best e }
+  spent_rounds pairs best e = let s = synth_of words r f (ending.SpentRounds pairs best) refl refl the e in record { set = s.set; budget = s.budget; is = s.is; holds = (s.holds).rounds pairs best e }
 
   pub spent_conflicts : (pairs : List Pair) (q : Query) (formula : Encoded) (log : List (List Lit)) (best : Option Choice) → r ≡ ending.SpentConflicts pairs q formula log best → ForSearch words (λ set budget. AreLearnt budget.conflicts log × IfSome f.left_old (λ text. Writes (IsSpentConflicts set budget text pairs q formula log best) f.held_old f.held_new))
-  spent_conflicts pairs q formula log best e = let s = synth_of words r f (ending.SpentConflicts pairs q formula log best) refl the e in record { set = s.set; budget = s.budget; is = s.is; holds = (s.holds).conflicts pairs q formula log best e }
+  spent_conflicts pairs q formula log best e = let s = synth_of words r f (ending.SpentConflicts pairs q formula log best) refl refl the e in record { set = s.set; budget = s.budget; is = s.is; holds = (s.holds).conflicts pairs q formula log best e }
 
   pub help : r ≡ ending.HelpShown → IsLine words line.Help × Appends help_text f.held_old f.held_new
   help = help_of words r f the
@@ -531,23 +620,23 @@ module _ {words : List (List ℕ)} {r : Ending} {f : Effect} (a : Answers words 
   version = version_of words r f the
 
   -- what is written of a run with this ending
-  run_written : (x : Ending) → is_exec_alone x ≡ true → is_of_synth x ≡ false → by_exec.is_run x ≡ true → r ≡ x → ForJob words (λ set job. IfSome f.left_old (λ text. Writes (IsRunResult set job x text) f.held_old f.held_new))
-  run_written x a b run e =
-      let s = exec_of words r f x a b the e in
+  run_written : (x : Ending) → is_exec_alone x ≡ true → is_of_synth x ≡ false → by_asking.is_of_question x ≡ false → by_exec.is_run x ≡ true → r ≡ x → ForJob words (λ set job. IfSome f.left_old (λ text. Writes (IsRunResult set job x text) f.held_old f.held_new))
+  run_written x a b d run e =
+      let s = exec_of words r f x a b d the e in
       record { set = s.set; job = s.job; is = s.is; holds = by_exec.told_by s.set s.job r f (λ text. Writes (IsRunResult s.set s.job x text) f.held_old f.held_new) (λ text w. by_exec.run_by s.set s.job r f x run e text w) (s.holds).runs }
 
   pub exec_done : r ≡ ending.ExecDone → ForJob words (λ set job. IfSome f.left_old (λ text. Writes (IsRunResult set job ending.ExecDone text) f.held_old f.held_new))
-  exec_done = run_written ending.ExecDone refl refl refl
+  exec_done = run_written ending.ExecDone refl refl refl refl
 
   pub exec_failed : (span : Span) → r ≡ ending.ExecFailed span → ForJob words (λ set job. IfSome f.left_old (λ text. Writes (IsRunResult set job (ending.ExecFailed span) text) f.held_old f.held_new))
-  exec_failed span = run_written (ending.ExecFailed span) refl refl refl
+  exec_failed span = run_written (ending.ExecFailed span) refl refl refl refl
 
   pub exec_skipped : (span : Span) → r ≡ ending.ExecSkipped span → ForJob words (λ set job. IfSome f.left_old (λ text. Writes (IsRunResult set job (ending.ExecSkipped span) text) f.held_old f.held_new))
-  exec_skipped span = run_written (ending.ExecSkipped span) refl refl refl
+  exec_skipped span = run_written (ending.ExecSkipped span) refl refl refl refl
 
   pub not_run : (told : ExecFault) → r ≡ ending.NotRun told → ForJob words (λ set job. IfSome f.left_old (λ text. IsStopped set job text (reason.NotRun told)))
   not_run told e =
-      let s = exec_of words r f (ending.NotRun told) refl refl the e in
+      let s = exec_of words r f (ending.NotRun told) refl refl refl the e in
       record { set = s.set; job = s.job; is = s.is; holds = by_exec.told_by s.set s.job r f (λ text. IsStopped s.set s.job text (reason.NotRun told)) (λ text w. by_exec.not_run_by s.set s.job r f (reason.NotRun told) e text w) (s.holds).runs }
 
   abbrev Unfilled : FillFault → Type 0
@@ -562,41 +651,68 @@ module _ {words : List (List ℕ)} {r : Ending} {f : Effect} (a : Answers words 
 
   pub not_filled : (told : FillFault) → r ≡ ending.NotFilled told → ForTrace words (λ set holes name values. IfSome f.left_old (λ text. IsNotTraced set holes name values text (reason.NotFilled told)))
   not_filled told e =
-      let s = exec_of words r f (ending.NotFilled told) refl refl the e in
+      let s = exec_of words r f (ending.NotFilled told) refl refl refl the e in
       filled_of told s.set s.job.way s.job.name s.job.values s.is e s.holds
 
   -- what is told of the text by an ending of a line `lower` alone
-  told_of_lower : (x : Ending) → is_lower_alone x ≡ true → is_of_synth x ≡ false → by_exec.is_of_exec x ≡ false → (P : Set → List ℕ → Type 0) → ((set : Set) (text : List ℕ) → by_lower.Tells set r f text x → P set text) → r ≡ x → ForLower words (λ set. IfSome f.left_old (P set))
-  told_of_lower x a b c P k e =
-      let s = lower_of words r f x a b c the e in
+  told_of_lower : (x : Ending) → is_lower_alone x ≡ true → is_of_synth x ≡ false → by_exec.is_of_exec x ≡ false → by_asking.is_of_question x ≡ false → (P : Set → List ℕ → Type 0) → ((set : Set) (text : List ℕ) → by_lower.Tells set r f text x → P set text) → r ≡ x → ForLower words (λ set. IfSome f.left_old (P set))
+  told_of_lower x a b c d P k e =
+      let s = lower_of words r f x a b c d the e in
       record { set = s.set; is = s.is; holds = by_lower.told_as s.set r f x (P s.set) (k s.set) e (s.holds).lowers }
 
   pub lowered : r ≡ ending.Lowered → ForLower words (λ set. IfSome f.left_old (λ text. Writes (IsLoweredText set text) f.held_old f.held_new))
-  lowered = told_of_lower ending.Lowered refl refl refl (λ set text. Writes (IsLoweredText set text) f.held_old f.held_new) (λ set text h. h)
+  lowered = told_of_lower ending.Lowered refl refl refl refl (λ set text. Writes (IsLoweredText set text) f.held_old f.held_new) (λ set text h. h)
 
   pub not_lowered : (told : AdtFault) → r ≡ ending.NotLowered told → ForLower words (λ set. IfSome f.left_old (λ text. HasNoPlainForm text told))
-  not_lowered told = told_of_lower (ending.NotLowered told) refl refl refl (λ set text. HasNoPlainForm text told) (λ set text h. h)
+  not_lowered told = told_of_lower (ending.NotLowered told) refl refl refl refl (λ set text. HasNoPlainForm text told) (λ set text h. h)
 
   pub not_tagged : (span : Span) → r ≡ ending.NotTagged span → ForLower words (λ set. IfSome f.left_old (λ text. IsNotTagged set text span))
-  not_tagged span = told_of_lower (ending.NotTagged span) refl refl refl (λ set text. IsNotTagged set text span) (λ set text h. h)
+  not_tagged span = told_of_lower (ending.NotTagged span) refl refl refl refl (λ set text. IsNotTagged set text span) (λ set text h. h)
+
+  -- what is written with an ending of a line `all` or `why` alone
+  reply_written : (reply : Reply) → r ≡ ending_with reply → (set : Set) (asked : Question) → Asks set asked r f → IfSome f.left_old (λ text. Writes (IsReply set asked text reply) f.held_old f.held_new)
+  reply_written reply e set asked s = by_asking.told_by set asked r f (λ text. Writes (IsReply set asked text reply) f.held_old f.held_new) (by_asking.written_by set asked r f reply e) s.asks
+
+  listed_of : (set : Set) (asked : Question) → IsLine words (line_asking set asked) → Asks set asked r f → r ≡ ending.Listed → ForAll words (λ set most. IfSome f.left_old (λ text. Writes (IsListing set most text) f.held_old f.held_new))
+  listed_of set (question.Which most) h s e = record { set = set; most = most; is = h; holds = reply_written OfList e set (question.Which most) s }
+  listed_of set question.Why h s e = absurd ((by_asking.reply_by set question.Why r f OfList e s.asks).is)
+
+  explained_of : (set : Set) (asked : Question) → IsLine words (line_asking set asked) → Asks set asked r f → r ≡ ending.Explained → ForWhy words (λ set. IfSome f.left_old (λ text. Writes (IsExplained set text) f.held_old f.held_new))
+  explained_of set (question.Which most) h s e = absurd ((by_asking.reply_by set (question.Which most) r f OfReasons e s.asks).is)
+  explained_of set question.Why h s e = record { set = set; is = h; holds = reply_written OfReasons e set question.Why s }
+
+  met_of : (set : Set) (asked : Question) → IsLine words (line_asking set asked) → Asks set asked r f → r ≡ ending.Met → ForWhy words (λ set. IfSome f.left_old (λ text. Writes (IsMet set text) f.held_old f.held_new))
+  met_of set (question.Which most) h s e = absurd ((by_asking.reply_by set (question.Which most) r f OfCompletion e s.asks).is)
+  met_of set question.Why h s e = record { set = set; is = h; holds = reply_written OfCompletion e set question.Why s }
+
+  pub listed : r ≡ ending.Listed → ForAll words (λ set most. IfSome f.left_old (λ text. Writes (IsListing set most text) f.held_old f.held_new))
+  listed e = let s = asking_of words r f ending.Listed refl refl refl refl the e in listed_of s.set s.asked s.is s.holds e
+
+  pub explained : r ≡ ending.Explained → ForWhy words (λ set. IfSome f.left_old (λ text. Writes (IsExplained set text) f.held_old f.held_new))
+  explained e = let s = asking_of words r f ending.Explained refl refl refl refl the e in explained_of s.set s.asked s.is s.holds e
+
+  pub met : r ≡ ending.Met → ForWhy words (λ set. IfSome f.left_old (λ text. Writes (IsMet set text) f.held_old f.held_new))
+  met e = let s = asking_of words r f ending.Met refl refl refl refl the e in met_of s.set s.asked s.is s.holds e
 
   -- what is told of the text by an ending of lines that read their source
-  told_of : (x : Ending) → is_of_text x ≡ true → (P Q : Set → List ℕ → Type 0) → ((set : Set) (budget : Budget) → Synthesises set budget r f → IfSome f.left_old (P set)) → ((set : Set) (job : Job) → Executes set job r f → IfSome f.left_old (P set)) → ((set : Set) → Lowers set r f → IfSome f.left_old (Q set)) → r ≡ x → ForText words (λ set. IfSome f.left_old (P set)) ⊎ ForLower words (λ set. IfSome f.left_old (Q set))
-  told_of x a P Q k l m e = text_of words r f x a (λ set. IfSome f.left_old (P set)) (λ set. IfSome f.left_old (Q set)) k l m the e
+  told_of : (x : Ending) → is_of_text x ≡ true → (P Q : Set → List ℕ → Type 0) → ((set : Set) (budget : Budget) → Synthesises set budget r f → IfSome f.left_old (P set)) → ((set : Set) (job : Job) → Executes set job r f → IfSome f.left_old (P set)) → ((set : Set) → Lowers set r f → IfSome f.left_old (Q set)) → ((set : Set) (asked : Question) → Asks set asked r f → IfSome f.left_old (P set)) → r ≡ x → ForText words (λ set. IfSome f.left_old (P set)) ⊎ ForLower words (λ set. IfSome f.left_old (Q set))
+  told_of x a P Q k l m n e = text_of words r f x a (λ set. IfSome f.left_old (P set)) (λ set. IfSome f.left_old (Q set)) k l m n the e
 
   pub not_text : (fault : TextFault) → r ≡ ending.NotText fault → ForText words (λ set. IfSome f.left_old (IsTextFault fault)) ⊎ ForLower words (λ set. IfSome f.left_old (λ text. IsFaultOfLowering set text (sketch.NotText fault)))
   not_text fault e =
       told_of (ending.NotText fault) refl (λ set text. IsTextFault fault text) (λ set text. IsFaultOfLowering set text (sketch.NotText fault))
       (λ set budget s. told_as words r f set budget s (ending.NotText fault) (IsTextFault fault) (λ text h. h.1) e)
       (λ set job s. by_exec.told_by set job r f (IsTextFault fault) (λ text w. by_exec.not_text_by set job r f fault e text w) s.runs)
-      (λ set s. by_lower.told_as set r f (ending.NotText fault) (λ text. IsFaultOfLowering set text (sketch.NotText fault)) (λ text h. h.0) e s.lowers) e
+      (λ set s. by_lower.told_as set r f (ending.NotText fault) (λ text. IsFaultOfLowering set text (sketch.NotText fault)) (λ text h. h.0) e s.lowers)
+      (λ set asked s. by_asking.told_as set asked r f (ending.NotText fault) (IsTextFault fault) (λ text h. h.1) e s.asks) e
 
   pub not_typed : (fault : TypeFault) → r ≡ ending.NotTyped fault → ForText words (λ set. IfSome f.left_old (IsUntyped set)) ⊎ ForLower words (λ set. IfSome f.left_old (λ text. IsFaultOfLowering set text (sketch.NotTyped fault)))
   not_typed fault e =
       told_of (ending.NotTyped fault) refl IsUntyped (λ set text. IsFaultOfLowering set text (sketch.NotTyped fault))
       (λ set budget s. told_as words r f set budget s (ending.NotTyped fault) (IsUntyped set) (λ text h. h.1) e)
       (λ set job s. by_exec.told_by set job r f (IsUntyped set) (λ text w. by_exec.not_typed_by set job r f fault e text w) s.runs)
-      (λ set s. by_lower.told_as set r f (ending.NotTyped fault) (λ text. IsFaultOfLowering set text (sketch.NotTyped fault)) (λ text h. h.0) e s.lowers) e
+      (λ set s. by_lower.told_as set r f (ending.NotTyped fault) (λ text. IsFaultOfLowering set text (sketch.NotTyped fault)) (λ text h. h.0) e s.lowers)
+      (λ set asked s. by_asking.told_as set asked r f (ending.NotTyped fault) (IsUntyped set) (λ text h. h.1) e s.asks) e
 
   -- a fault of the text is told within it
   byte_told : (fault : TextFault) → IfSome f.left_old (IsTextFault fault) → IfSome f.left_old (λ text. byte_of fault ≤ length text)
@@ -607,14 +723,16 @@ module _ {words : List (List ℕ)} {r : Ending} {f : Effect} (a : Answers words 
       for_both words r f (told_of (ending.NotText fault) refl (λ set text. byte_of fault ≤ length text) (λ set text. byte_of fault ≤ length text)
       (λ set budget s. byte_told fault (told_as words r f set budget s (ending.NotText fault) (IsTextFault fault) (λ text h. h.1) e))
       (λ set job s. byte_told fault (by_exec.told_by set job r f (IsTextFault fault) (λ text w. by_exec.not_text_by set job r f fault e text w) s.runs))
-      (λ set s. by_lower.told_as set r f (ending.NotText fault) (λ text. byte_of fault ≤ length text) (λ text h. h.1) e s.lowers) e)
+      (λ set s. by_lower.told_as set r f (ending.NotText fault) (λ text. byte_of fault ≤ length text) (λ text h. h.1) e s.lowers)
+      (λ set asked s. byte_told fault (by_asking.told_as set asked r f (ending.NotText fault) (IsTextFault fault) (λ text h. h.1) e s.asks)) e)
 
   pub type_place : (fault : TypeFault) → r ≡ ending.NotTyped fault → ForText words (λ set. IfSome f.left_old (λ text. HasSpan text fault.span)) ⊎ ForLower words (λ set. IfSome f.left_old (λ text. IsPlacedFault text (sketch.NotTyped fault)))
   type_place fault e =
       told_of (ending.NotTyped fault) refl (λ set text. HasSpan text fault.span) (λ set text. IsPlacedFault text (sketch.NotTyped fault))
       (λ set budget s. s.place fault e)
       (λ set job s. s.place fault e)
-      (λ set s. by_lower.told_as set r f (ending.NotTyped fault) (λ text. IsPlacedFault text (sketch.NotTyped fault)) (λ text h. h.1) e s.lowers) e
+      (λ set s. by_lower.told_as set r f (ending.NotTyped fault) (λ text. IsPlacedFault text (sketch.NotTyped fault)) (λ text h. h.1) e s.lowers)
+      (λ set asked s. by_asking.told_by set asked r f (λ text. HasSpan text fault.span) (by_asking.place_by set asked r f fault e) s.asks) e
 
   -- this does not come for a line `lower`
   taken_alone : (P : Set → Type 0) → ForText words P ⊎ ForLower words (λ set. ⊥) → ForText words P
@@ -627,7 +745,8 @@ module _ {words : List (List ℕ)} {r : Ending} {f : Effect} (a : Answers words 
       (text_of words r f (ending.TooLarge reason) refl (λ set. IfSome f.left_old (λ text. IsTooLarge set text reason)) (λ set. ⊥)
       (λ set budget s. told_as words r f set budget s (ending.TooLarge reason) (λ text. IsTooLarge set text reason) (λ text h. h) e)
       (λ set job s. by_exec.told_by set job r f (λ text. IsTooLarge set text reason) (λ text w. by_exec.too_large_by set job r f reason e text w) s.runs)
-      (λ set s. by_lower.lower_not set r f (ending.TooLarge reason) refl s.lowers e) the e)
+      (λ set s. by_lower.lower_not set r f (ending.TooLarge reason) refl s.lowers e)
+      (λ set asked s. by_asking.told_as set asked r f (ending.TooLarge reason) (λ text. IsTooLarge set text reason) (λ text h. h) e s.asks) the e)
 
   pub not_built : r ≡ ending.NotBuilt → IsUnbuiltLine words
   not_built = not_built_of words r f the
@@ -637,14 +756,16 @@ module _ {words : List (List ℕ)} {r : Ending} {f : Effect} (a : Answers words 
       for_both words r f (told_of ending.TooLong refl (λ set text. most_bytes < length text) (λ set text. most_bytes < length text)
       (λ set budget s. told_as words r f set budget s ending.TooLong (λ text. most_bytes < length text) (λ text h. h) e)
       (λ set job s. by_exec.told_by set job r f (λ text. most_bytes < length text) (λ text w. by_exec.too_long_by set job r f e text w) s.runs)
-      (λ set s. by_lower.told_as set r f ending.TooLong (λ text. most_bytes < length text) (λ text h. h) e s.lowers) e)
+      (λ set s. by_lower.told_as set r f ending.TooLong (λ text. most_bytes < length text) (λ text h. h) e s.lowers)
+      (λ set asked s. by_asking.told_as set asked r f ending.TooLong (λ text. most_bytes < length text) (λ text h. h) e s.asks) e)
 
   pub read_fault : r ≡ ending.ReadFault → Rose f.read_faults_old f.read_faults_new
   read_fault e =
       for_both words r f (text_of words r f ending.ReadFault refl (λ set. Rose f.read_faults_old f.read_faults_new) (λ set. Rose f.read_faults_old f.read_faults_new)
       (λ set budget s. s.read_fault e)
       (λ set job s. by_exec.read_fault_by set job r f s.runs e)
-      (λ set s. by_lower.read_fault_by set r f s.lowers e) the e)
+      (λ set s. by_lower.read_fault_by set r f s.lowers e)
+      (λ set asked s. by_asking.read_fault_by set asked r f s.asks e) the e)
 
   pub write_fault : r ≡ ending.WriteFault → Rose f.write_faults_old f.write_faults_new
   write_fault = write_fault_of words r f the
@@ -695,10 +816,26 @@ module _ {words : List (List ℕ)} {r : Ending} {f : Effect} (a : Answers words 
   for_exec_text : (P : Set → Job → List ℕ → Type 0) → ((set : Set) (job : Job) (text : List ℕ) → by_exec.Came set job r f text → P set job text) → (set : Set) (job : Job) → IsJob words set job → IfSome f.left_old (P set job)
   for_exec_text P k = for_exec words r f (λ set job. IfSome f.left_old (P set job)) (λ set job s. by_exec.told_by set job r f (P set job) (k set job) s.runs) (λ set job m. every f.left_old (P set job) (λ text. k set job text (came_wanting m))) the
 
-  -- and for either
-  for_either : (P : Set → List ℕ → Type 0) → ((set : Set) → IsSynth words set → IfSome f.left_old (P set)) → ((set : Set) (job : Job) → IsJob words set job → IfSome f.left_old (P set)) → (set : Set) → TakesText words set → IfSome f.left_old (P set)
-  for_either P k l set (inl h) = k set h
-  for_either P k l set (inr h) = l set h.0 h.1
+  -- and for a line `all` or `why`
+  for_asking_text : (P : Set → Question → List ℕ → Type 0) → ((set : Set) (asked : Question) (text : List ℕ) → by_asking.Came set asked r f text → P set asked text) → (set : Set) (asked : Question) → IsLine words (line_asking set asked) → IfSome f.left_old (P set asked)
+  for_asking_text P k = for_asking words r f (λ set asked. IfSome f.left_old (P set asked)) (λ set asked s. by_asking.told_by set asked r f (P set asked) (k set asked) s.asks) (λ set asked m. every f.left_old (P set asked) (λ text. k set asked text (came_wanting m))) the
+
+  -- from what is told of its text
+  for_asking_told : (P : Set → List ℕ → Type 0) → ((set : Set) (text : List ℕ) → IsToldOf set text r f.read_faults_old f.read_faults_new f.write_faults_old f.write_faults_new → P set text) → (set : Set) (asked : Question) → IsLine words (line_asking set asked) → IfSome f.left_old (P set)
+  for_asking_told P k = for_asking_text (λ set asked. P set) (λ set asked text came. k set text (by_asking.told set asked r f text came))
+
+  -- so for each line that takes a text whose runs, too, are within their limits
+  for_sizes : (P : Set → List ℕ → Type 0) → ((set : Set) (text : List ℕ) → IsToldOf set text r f.read_faults_old f.read_faults_new f.write_faults_old f.write_faults_new → P set text) → (set : Set) → SizesText words set → IfSome f.left_old (P set)
+  for_sizes P k set (sizes_synth h) = for_text P k set h
+  for_sizes P k set (sizes_all most h) = for_asking_told P k set (question.Which most) h
+  for_sizes P k set (sizes_why h) = for_asking_told P k set question.Why h
+
+  -- and for each line that takes a text as it is
+  for_taking : (P : Set → List ℕ → Type 0) → ((set : Set) (text : List ℕ) → IsToldOf set text r f.read_faults_old f.read_faults_new f.write_faults_old f.write_faults_new → P set text) → ((set : Set) (job : Job) → IsJob words set job → IfSome f.left_old (P set)) → (set : Set) → TakesText words set → IfSome f.left_old (P set)
+  for_taking P k l set (takes_synth h) = for_text P k set h
+  for_taking P k l set (takes_job job h) = l set job h
+  for_taking P k l set (takes_all most h) = for_asking_told P k set (question.Which most) h
+  for_taking P k l set (takes_why h) = for_asking_told P k set question.Why h
 
   -- and for a line `lower`
   for_lowering : (P : Set → List ℕ → Type 0) → ((set : Set) (text : List ℕ) → by_lower.Came set r f text → P set text) → (set : Set) → IsLine words (line.Lower set) → IfSome f.left_old (P set)
@@ -723,6 +860,9 @@ module _ {words : List (List ℕ)} {r : Ending} {f : Effect} (a : Answers words 
   allowed set budget s (ending.NotRun reason) e = tt
   allowed set budget s (ending.NotFilled reason) e = tt
   allowed set budget s ending.Lowered e = tt
+  allowed set budget s ending.Listed e = absurd (synth_not words r f set budget ending.Listed s refl e)
+  allowed set budget s ending.Explained e = absurd (synth_not words r f set budget ending.Explained s refl e)
+  allowed set budget s ending.Met e = absurd (synth_not words r f set budget ending.Met s refl e)
   allowed set budget s (ending.NotLowered reason) e = tt
   allowed set budget s (ending.NotTagged span) e = tt
   allowed set budget s ending.ReadFault e = tt
@@ -741,23 +881,23 @@ module _ {words : List (List ℕ)} {r : Ending} {f : Effect} (a : Answers words 
 
   pub ends_faulty : (set : Set) → TakesText words set → IfSome f.left_old (λ text. length text ≤ most_bytes → (fault : TextFault) → IsTextFault fault text → EndsFaulty fault r f.read_faults_old f.read_faults_new)
   ends_faulty =
-      for_either (λ set text. length text ≤ most_bytes → (fault : TextFault) → IsTextFault fault text → EndsFaulty fault r f.read_faults_old f.read_faults_new)
-      (for_text (λ set text. length text ≤ most_bytes → (fault : TextFault) → IsTextFault fault text → EndsFaulty fault r f.read_faults_old f.read_faults_new) (λ set text. by.ends_faulty set text f.read_faults_old f.read_faults_new f.write_faults_old f.write_faults_new r))
+      for_taking (λ set text. length text ≤ most_bytes → (fault : TextFault) → IsTextFault fault text → EndsFaulty fault r f.read_faults_old f.read_faults_new)
+      (λ set text. by.ends_faulty set text f.read_faults_old f.read_faults_new f.write_faults_old f.write_faults_new r)
       (for_exec_text (λ set job text. length text ≤ most_bytes → (fault : TextFault) → IsTextFault fault text → EndsFaulty fault r f.read_faults_old f.read_faults_new) (λ set job text w. by_exec.ends_faulty_by set job r f text w))
 
   pub ends_untyped : (set : Set) → TakesText words set → IfSome f.left_old (λ text. length text ≤ most_bytes → IsUntyped set text → EndsUntyped r f.read_faults_old f.read_faults_new)
   ends_untyped =
-      for_either (λ set text. length text ≤ most_bytes → IsUntyped set text → EndsUntyped r f.read_faults_old f.read_faults_new)
-      (for_text (λ set text. length text ≤ most_bytes → IsUntyped set text → EndsUntyped r f.read_faults_old f.read_faults_new) (λ set text. by.ends_untyped set text f.read_faults_old f.read_faults_new f.write_faults_old f.write_faults_new r))
+      for_taking (λ set text. length text ≤ most_bytes → IsUntyped set text → EndsUntyped r f.read_faults_old f.read_faults_new)
+      (λ set text. by.ends_untyped set text f.read_faults_old f.read_faults_new f.write_faults_old f.write_faults_new r)
       (for_exec_text (λ set job text. length text ≤ most_bytes → IsUntyped set text → EndsUntyped r f.read_faults_old f.read_faults_new) (λ set job text w. by_exec.ends_untyped_by set job r f by.some_fault text w))
 
-  pub ends_large : (set : Set) → IsSynth words set → IfSome f.left_old (λ text. (reason : SizeFault) → IsTooLarge set text reason → EndsLarge reason r f.read_faults_old f.read_faults_new)
-  ends_large = for_text (λ set text. (reason : SizeFault) → IsTooLarge set text reason → EndsLarge reason r f.read_faults_old f.read_faults_new) (λ set text. by.ends_large set text f.read_faults_old f.read_faults_new f.write_faults_old f.write_faults_new r)
+  pub ends_large : (set : Set) → SizesText words set → IfSome f.left_old (λ text. (reason : SizeFault) → IsTooLarge set text reason → EndsLarge reason r f.read_faults_old f.read_faults_new)
+  ends_large = for_sizes (λ set text. (reason : SizeFault) → IsTooLarge set text reason → EndsLarge reason r f.read_faults_old f.read_faults_new) (λ set text. by.ends_large set text f.read_faults_old f.read_faults_new f.write_faults_old f.write_faults_new r)
 
   pub ends_copies : (set : Set) → TakesText words set → IfSome f.left_old (λ text. (reason : SizeFault) → IsTrue (is_of_expansion reason) → IsTooLarge set text reason → EndsLarge reason r f.read_faults_old f.read_faults_new)
   ends_copies =
-      for_either (λ set text. (reason : SizeFault) → IsTrue (is_of_expansion reason) → IsTooLarge set text reason → EndsLarge reason r f.read_faults_old f.read_faults_new)
-      (for_text (λ set text. (reason : SizeFault) → IsTrue (is_of_expansion reason) → IsTooLarge set text reason → EndsLarge reason r f.read_faults_old f.read_faults_new) (λ set text told reason b is. by.ends_large set text f.read_faults_old f.read_faults_new f.write_faults_old f.write_faults_new r told reason is))
+      for_taking (λ set text. (reason : SizeFault) → IsTrue (is_of_expansion reason) → IsTooLarge set text reason → EndsLarge reason r f.read_faults_old f.read_faults_new)
+      (λ set text told reason b is. by.ends_large set text f.read_faults_old f.read_faults_new f.write_faults_old f.write_faults_new r told reason is)
       (for_exec_text (λ set job text. (reason : SizeFault) → IsTrue (is_of_expansion reason) → IsTooLarge set text reason → EndsLarge reason r f.read_faults_old f.read_faults_new) (λ set job text w. by_exec.ends_copies_by set job r f text w))
 
   pub ends_run : (set : Set) (job : Job) → IsJob words set job → IfSome f.left_old (λ text. (outcome : Outcome) (out : List ℕ) → IsRunOfJob set job text outcome out → EndsRun outcome r f.read_faults_old f.read_faults_new f.write_faults_old f.write_faults_new)
@@ -778,14 +918,43 @@ module _ {words : List (List ℕ)} {r : Ending} {f : Effect} (a : Answers words 
   pub ends_refused : (set : Set) → IsLine words (line.Lower set) → IfSome f.left_old (λ text. length text ≤ most_bytes → (told : SketchFault) → IsCause (IsFaultOfLowering set text) told → EndsRefused told r f.read_faults_old f.read_faults_new)
   ends_refused = for_lowering (λ set text. length text ≤ most_bytes → (told : SketchFault) → IsCause (IsFaultOfLowering set text) told → EndsRefused told r f.read_faults_old f.read_faults_new) (λ set text w. by_lower.ends_refused_by set r f text w)
 
+  -- a text that is taken, and whose question has this reply alone, ends with it
+  abbrev EndsOnly : Reply → Set → Question → List ℕ → Type 0
+  EndsOnly wanted set asked text = (bounds : Bounds) (e : Expanded) → IsBuilt set text bounds e → ((reply : Reply) (out : List ℕ) → IsReply set asked text reply out → reply ≡ wanted) → EndsReply wanted r f.read_faults_old f.read_faults_new f.write_faults_old f.write_faults_new
+
+  ends_only : (wanted : Reply) (set : Set) (asked : Question) → IsLine words (line_asking set asked) → IfSome f.left_old (EndsOnly wanted set asked)
+  ends_only wanted = for_asking_text (EndsOnly wanted) (λ set asked text came bounds e is only. by_asking.ends_with set asked r f wanted text came bounds e is only)
+
+  pub ends_listed : (set : Set) (most : ℕ) → IsLine words (line.All set most) → IfSome f.left_old (λ text. (bounds : Bounds) (e : Expanded) → IsBuilt set text bounds e → EndsListed r f.read_faults_old f.read_faults_new f.write_faults_old f.write_faults_new)
+  ends_listed set most h =
+      mapped f.left_old (EndsOnly OfList set (question.Which most)) (λ text. (bounds : Bounds) (e : Expanded) → IsBuilt set text bounds e → EndsListed r f.read_faults_old f.read_faults_new f.write_faults_old f.write_faults_new)
+      (λ text k bounds e is. k bounds e is (by_asking.only_list set most text))
+      (ends_only OfList set (question.Which most) h)
+
+  pub ends_explained : (set : Set) → IsLine words (line.Why set) → IfSome f.left_old (λ text. (bounds : Bounds) (e : Expanded) → IsBuilt set text bounds e → ((a : Choice) → Meeting e bounds a → ⊥) → EndsExplained r f.read_faults_old f.read_faults_new f.write_faults_old f.write_faults_new)
+  ends_explained set h =
+      mapped f.left_old (EndsOnly OfReasons set question.Why) (λ text. (bounds : Bounds) (e : Expanded) → IsBuilt set text bounds e → ((a : Choice) → Meeting e bounds a → ⊥) → EndsExplained r f.read_faults_old f.read_faults_new f.write_faults_old f.write_faults_new)
+      (λ text k bounds e is none. k bounds e is (by_asking.only_reasons set text bounds e is none))
+      (ends_only OfReasons set question.Why h)
+
+  pub ends_met : (set : Set) → IsLine words (line.Why set) → IfSome f.left_old (λ text. (bounds : Bounds) (e : Expanded) → IsBuilt set text bounds e → (a : Choice) → Meeting e bounds a → EndsMet r f.read_faults_old f.read_faults_new f.write_faults_old f.write_faults_new)
+  ends_met set h =
+      mapped f.left_old (EndsOnly OfCompletion set question.Why) (λ text. (bounds : Bounds) (e : Expanded) → IsBuilt set text bounds e → (a : Choice) → Meeting e bounds a → EndsMet r f.read_faults_old f.read_faults_new f.write_faults_old f.write_faults_new)
+      (λ text k bounds e is a meeting. k bounds e is (by_asking.only_completion set text bounds e is a meeting))
+      (ends_only OfCompletion set question.Why h)
+
+  -- what a line `all` or `why` does, or that memory was wanting
+  pub of_asking : (set : Set) (asked : Question) → IsLine words (line_asking set asked) → Asks set asked r f ⊎ (r ≡ ending.Memory)
+  of_asking = for_asking words r f (λ set asked. Asks set asked r f ⊎ (r ≡ ending.Memory)) (λ set asked s. inl s) (λ set asked m. inr m) the
+
   abbrev Long : Set → List ℕ → Type 0
   Long set text = most_bytes < length text → EndsLong r f.read_faults_old f.read_faults_new
 
   -- of a line that takes the text as it is
   ends_long_taken : (set : Set) → TakesText words set → IfSome f.left_old (Long set)
   ends_long_taken =
-      for_either Long
-      (for_text Long (λ set text. by.ends_long set text f.read_faults_old f.read_faults_new f.write_faults_old f.write_faults_new r))
+      for_taking Long
+      (λ set text. by.ends_long set text f.read_faults_old f.read_faults_new f.write_faults_old f.write_faults_new r)
       (for_exec_text (λ set job. Long set) (λ set job text w. by_exec.ends_long_by set job r f text w))
 
   pub ends_long : (set : Set) → ReadsText words set → IfSome f.left_old (λ text. most_bytes < length text → EndsLong r f.read_faults_old f.read_faults_new)

@@ -11,7 +11,7 @@ use Rattle.sk_opts.specs.declared.line.Set.{Set}
 use Rattle.sk_app.specs.declared.prepare.Found.TheVariants as found
 use Rattle.sk_app.specs.declared.ending.Ending.{Ending}
 use Rattle.sk_app.specs.declared.ending.Ending.TheVariants as ending
-use Rattle.sk_app.specs.Built.{IsTaken}
+use Rattle.sk_built_laws.specs.Built.{IsTaken}
 use Rattle.sk_app.specs.Prepared.{Finds}
 use Rattle.sk_app.specs.Results.{HasResult, IsResultOf, IsResult}
 use Rattle.sk_app.specs.Ends.{IsDelivered, delivered, cut, no_room, Writes, WritesPart, writes_nothing, IsToldOf}
@@ -38,6 +38,9 @@ module _ (budget : Budget) where
   is_synth (ending.NotRun reason) h = absurd h
   is_synth (ending.NotFilled reason) h = absurd h
   is_synth ending.Lowered h = absurd h
+  is_synth ending.Listed h = absurd h
+  is_synth ending.Explained h = absurd h
+  is_synth ending.Met h = absurd h
   is_synth (ending.NotLowered reason) h = absurd h
   is_synth (ending.NotTagged span) h = absurd h
   is_synth ending.ReadFault h = absurd h
@@ -63,6 +66,9 @@ module _ (budget : Budget) where
   writes (ending.NotRun reason) h = absurd h
   writes (ending.NotFilled reason) h = absurd h
   writes ending.Lowered h = absurd h
+  writes ending.Listed h = absurd h
+  writes ending.Explained h = absurd h
+  writes ending.Met h = absurd h
   writes (ending.NotLowered reason) h = absurd h
   writes (ending.NotTagged span) h = absurd h
   writes ending.ReadFault h = absurd h
@@ -90,6 +96,9 @@ module _ (budget : Budget) where
     taken (ending.NotRun reason) h = absurd h
     taken (ending.NotFilled reason) h = absurd h
     taken ending.Lowered h = absurd h
+    taken ending.Listed h = absurd h
+    taken ending.Explained h = absurd h
+    taken ending.Met h = absurd h
     taken (ending.NotLowered reason) h = absurd h
     taken (ending.NotTagged span) h = absurd h
     taken ending.ReadFault h = absurd h
@@ -115,6 +124,9 @@ module _ (budget : Budget) where
     tells (ending.NotRun reason) h t = absurd h
     tells (ending.NotFilled reason) h t = absurd h
     tells ending.Lowered h t = absurd h
+    tells ending.Listed h t = absurd h
+    tells ending.Explained h t = absurd h
+    tells ending.Met h t = absurd h
     tells (ending.NotLowered reason) h t = absurd h
     tells (ending.NotTagged span) h t = absurd h
     tells ending.ReadFault h t = absurd h

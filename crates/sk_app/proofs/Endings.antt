@@ -10,7 +10,8 @@ use Rattle.sk_adt.specs.declared.algebraic.AdtFault.{AdtFault}
 use Rattle.sk_expand_sizes.specs.declared.fault.SizeFault.{SizeFault}
 use Rattle.sk_trace_text.specs.declared.fault.TraceFault.{TraceFault}
 use Rattle.sk_app.specs.declared.ending.Ending.{Ending}
-use Rattle.sk_app.specs.declared.ending.Ending.TheVariants.{HelpShown, VersionShown, Lowered, NotALine, TooLarge, NotLowered, NotTagged, TooLong, NotBuilt}
+use Rattle.sk_app.specs.declared.ending.Ending.TheVariants.{HelpShown, VersionShown, Lowered, Listed, Explained, Met, NotALine, TooLarge, NotLowered, NotTagged, TooLong, NotBuilt}
+use Rattle.sk_app.specs.Questions.{Reply, ending_with}
 use Rattle.sk_app.specs.Ends.{Ends, IsOfBuilt, IsOfFault, IsOfUntyped, IsOfRefused, ending_of, stopped}
 
 abbrev pub EndsBuilt : Budget → Ending → ℕ → ℕ → ℕ → ℕ → Type 0
@@ -48,6 +49,18 @@ EndsStopped reason result source_old source_new = Ends (λ e. e ≡ stopped reas
 
 abbrev pub EndsLowered : Ending → ℕ → ℕ → ℕ → ℕ → Type 0
 EndsLowered result source_old source_new sink_old sink_new = Ends (λ e. e ≡ Lowered) (Rose source_old source_new) (Rose sink_old sink_new) result
+
+abbrev pub EndsListed : Ending → ℕ → ℕ → ℕ → ℕ → Type 0
+EndsListed result source_old source_new sink_old sink_new = Ends (λ e. e ≡ Listed) (Rose source_old source_new) (Rose sink_old sink_new) result
+
+abbrev pub EndsExplained : Ending → ℕ → ℕ → ℕ → ℕ → Type 0
+EndsExplained result source_old source_new sink_old sink_new = Ends (λ e. e ≡ Explained) (Rose source_old source_new) (Rose sink_old sink_new) result
+
+abbrev pub EndsMet : Ending → ℕ → ℕ → ℕ → ℕ → Type 0
+EndsMet result source_old source_new sink_old sink_new = Ends (λ e. e ≡ Met) (Rose source_old source_new) (Rose sink_old sink_new) result
+
+abbrev pub EndsReply : Reply → Ending → ℕ → ℕ → ℕ → ℕ → Type 0
+EndsReply reply result source_old source_new sink_old sink_new = Ends (λ e. e ≡ ending_with reply) (Rose source_old source_new) (Rose sink_old sink_new) result
 
 abbrev pub EndsNotLowered : AdtFault → Ending → ℕ → ℕ → Type 0
 EndsNotLowered reason result source_old source_new = Ends (λ e. e ≡ NotLowered reason) (Rose source_old source_new) ⊥ result

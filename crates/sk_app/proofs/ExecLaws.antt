@@ -57,6 +57,9 @@ is_of_exec ending.NotBuilt = false
 is_of_exec ending.Lowered = false
 is_of_exec (ending.NotLowered reason) = false
 is_of_exec (ending.NotTagged span) = false
+is_of_exec ending.Listed = false
+is_of_exec ending.Explained = false
+is_of_exec ending.Met = false
 is_of_exec _ = true
 
 run_is : (o : Outcome) → is_run (ending_of o) ≡ true

@@ -23,7 +23,9 @@ use Rattle.sk_app.specs.declared.direct.Way.{Way}
 use Rattle.sk_app.specs.declared.direct.Way.TheVariants as way
 use Rattle.sk_app.specs.declared.direct.Job.{Job}
 use Rattle.sk_app.specs.Jobs.{IsStoppedBy, IsStopped, IsRunBy, IsRunOfJob, IsDone, as_traced}
-use Rattle.sk_app.specs.Lines.{line_by, line_of, is_unbuilt}
+use Rattle.sk_app.specs.declared.listing.Question.{Question}
+use Rattle.sk_app.specs.declared.listing.Question.TheVariants as question
+use Rattle.sk_app.specs.Lines.{line_by, line_of, line_asking, is_unbuilt}
 
 -- Answers
 
@@ -147,3 +149,41 @@ same_jobs (way.Trace hs) (way.Trace ws) s t n m vs us is =
 -- lines of jobs are of one job
 pub one_job : (s t : Set) (a b : Job) → line_of s a ≡ line_of t b → Same s t a b
 one_job s t a b is = same_jobs a.way b.way s t a.name b.name a.values b.values is
+
+-- whether a line asks about completions
+abbrev pub asks_question : Line → Bool
+asks_question (line.All set most) = true
+asks_question (line.Why set) = true
+asks_question _ = false
+
+asks_by : (set : Set) (q : Question) → asks_question (line_asking set q) ≡ true
+asks_by set (question.Which most) = refl
+asks_by set question.Why = refl
+
+-- a line that does not is not one that asks this
+pub not_asking : {A : Type 0} (l : Line) (set : Set) (q : Question) → asks_question l ≡ false → l ≡ line_asking set q → A
+not_asking l set q none is = absurd (false≢true (sym none ∙ ap asks_question is ∙ asks_by set q))
+
+runs_none : (set : Set) (q : Question) → runs_function (line_asking set q) ≡ false
+runs_none set (question.Which most) = refl
+runs_none set question.Why = refl
+
+-- a line of a job does not
+pub job_or_question : {A : Type 0} (set : Set) (job : Job) (t : Set) (q : Question) → line_of set job ≡ line_asking t q → A
+job_or_question set job t q is = not_of_job (line_asking t q) set job (runs_none t q) (sym is)
+
+pub asking_is_built : (set : Set) (q : Question) → is_unbuilt (line_asking set q) ≡ false
+asking_is_built set (question.Which most) = refl
+asking_is_built set question.Why = refl
+
+-- lines that ask about completions ask one question
+pub one_question : (s t : Set) (p q : Question) → line_asking s p ≡ line_asking t q → (s ≡ t) × (p ≡ q)
+one_question s t (question.Which n) (question.Which m) is =
+    let sets : s ≡ t = cc in
+    let numbers : n ≡ m = cc in
+    (sets, ap question.Which numbers)
+one_question s t (question.Which n) question.Why is = cc
+one_question s t question.Why (question.Which m) is = cc
+one_question s t question.Why question.Why is =
+    let sets : s ≡ t = cc in
+    (sets, refl)

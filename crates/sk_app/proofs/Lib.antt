@@ -7,7 +7,9 @@ mod JobLaws
 mod SourceLaws
 mod ExecLaws
 mod LowerLaws
+mod QuestionLaws
 mod EffectLaws
 mod HeadlineLaws
+mod ListingsLaws
 pub mod SpentLaws
 pub mod CompleteLaws

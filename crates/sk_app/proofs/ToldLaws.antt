@@ -15,7 +15,7 @@ use Rattle.sk_front.specs.Front.{IsUntyped, IsTooLarge, IsCause, IsSame, IsFault
 use Rattle.sk_front.proofs.FrontLaws.{one_cause, sizes_or_cause}
 use Rattle.sk_app.specs.declared.ending.Ending.{Ending}
 use Rattle.sk_app.specs.declared.ending.Ending.TheVariants as ending
-use Rattle.sk_app.specs.Built.{IsBuilt, IsTaken}
+use Rattle.sk_built_laws.specs.Built.{IsBuilt, IsTaken}
 use Rattle.sk_app.specs.Ends.{IsToldOf}
 use Rattle.sk_app.proofs.Endings.{EndsBuilt, EndsFaulty, EndsUntyped, EndsLarge, EndsLong}
 
@@ -23,16 +23,19 @@ use Rattle.sk_app.proofs.Endings.{EndsBuilt, EndsFaulty, EndsUntyped, EndsLarge,
 pub some_fault : TypeFault
 some_fault = record { rule = rule.Mismatch; span = record { from = 0; to = 0 } }
 
--- an ending for a spent budget comes only where that budget is not 0
+-- an ending for a spent budget comes only where that budget is not 0, and those of a line `all` or `why` do not come
 abbrev pub IsAllowed : Budget → Ending → Type 0
 IsAllowed budget (ending.SpentRounds pairs best) = 0 < budget.rounds
 IsAllowed budget (ending.SpentConflicts pairs q f log best) = 0 < budget.conflicts
+IsAllowed budget ending.Listed = ⊥
+IsAllowed budget ending.Explained = ⊥
+IsAllowed budget ending.Met = ⊥
 IsAllowed budget _ = Unit {0}
 
 module _ (set : Set) (text : List ℕ) where
   -- a text that is taken has no cause
 
-  taken_or_cause : {A : Type 0} (f : SketchFault) → IsTaken set text → IsCause (IsFaultOfSizes set text) f → A
+  pub taken_or_cause : {A : Type 0} (f : SketchFault) → IsTaken set text → IsCause (IsFaultOfSizes set text) f → A
   taken_or_cause f t cause = let b = t.built in absurd (sizes_or_cause set text b.tree t.bounds b.prog t.e f b.sized cause)
 
   -- two causes are one
@@ -68,6 +71,9 @@ module _ (set : Set) (text : List ℕ) where
     ends_built budget (ending.NotRun reason) some h bounds e is = absurd h
     ends_built budget (ending.NotFilled reason) some h bounds e is = absurd h
     ends_built budget ending.Lowered some h bounds e is = absurd h
+    ends_built budget ending.Listed some h bounds e is = absurd some
+    ends_built budget ending.Explained some h bounds e is = absurd some
+    ends_built budget ending.Met some h bounds e is = absurd some
     ends_built budget (ending.NotLowered reason) some h bounds e is = absurd h
     ends_built budget (ending.NotTagged span) some h bounds e is = absurd h
 
@@ -93,6 +99,9 @@ module _ (set : Set) (text : List ℕ) where
     ends_faulty (ending.NotRun reason) h short f is = absurd h
     ends_faulty (ending.NotFilled reason) h short f is = absurd h
     ends_faulty ending.Lowered h short f is = absurd h
+    ends_faulty ending.Listed h short f is = taken_or_cause (fault.NotText f) h is
+    ends_faulty ending.Explained h short f is = taken_or_cause (fault.NotText f) h is
+    ends_faulty ending.Met h short f is = taken_or_cause (fault.NotText f) h is
     ends_faulty (ending.NotLowered reason) h short f is = absurd h
     ends_faulty (ending.NotTagged span) h short f is = absurd h
 
@@ -118,6 +127,9 @@ module _ (set : Set) (text : List ℕ) where
     ends_untyped (ending.NotRun reason) h short n = absurd h
     ends_untyped (ending.NotFilled reason) h short n = absurd h
     ends_untyped ending.Lowered h short n = absurd h
+    ends_untyped ending.Listed h short n = taken_or_cause (fault.NotTyped some_fault) h n
+    ends_untyped ending.Explained h short n = taken_or_cause (fault.NotTyped some_fault) h n
+    ends_untyped ending.Met h short n = taken_or_cause (fault.NotTyped some_fault) h n
     ends_untyped (ending.NotLowered reason) h short n = absurd h
     ends_untyped (ending.NotTagged span) h short n = absurd h
 
@@ -143,6 +155,9 @@ module _ (set : Set) (text : List ℕ) where
     ends_large (ending.NotRun reason) h s is = absurd h
     ends_large (ending.NotFilled reason) h s is = absurd h
     ends_large ending.Lowered h s is = absurd h
+    ends_large ending.Listed h s is = taken_or_cause (fault.TooLarge s) h is
+    ends_large ending.Explained h s is = taken_or_cause (fault.TooLarge s) h is
+    ends_large ending.Met h s is = taken_or_cause (fault.TooLarge s) h is
     ends_large (ending.NotLowered reason) h s is = absurd h
     ends_large (ending.NotTagged span) h s is = absurd h
 
@@ -168,5 +183,8 @@ module _ (set : Set) (text : List ℕ) where
     ends_long (ending.NotRun reason) h long = absurd h
     ends_long (ending.NotFilled reason) h long = absurd h
     ends_long ending.Lowered h long = absurd h
+    ends_long ending.Listed h long = too_long (short_of h) long
+    ends_long ending.Explained h long = too_long (short_of h) long
+    ends_long ending.Met h long = too_long (short_of h) long
     ends_long (ending.NotLowered reason) h long = absurd h
     ends_long (ending.NotTagged span) h long = absurd h

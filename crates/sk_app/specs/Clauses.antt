@@ -30,14 +30,17 @@ use Rattle.sk_trace_text.specs.declared.fault.TraceFault.{TraceFault}
 use Rattle.sk_trace_text.specs.declared.fault.TraceFault.TheVariants as reason
 use Rattle.sk_trace_text.specs.Traced.{IsNotTraced}
 use Rattle.sk_app.specs.declared.direct.Job.{Job}
-use Rattle.sk_app.specs.declared.ending.Ending.TheVariants.{Completed, NoCompletion, SpentRounds, SpentConflicts, HelpShown, VersionShown, ExecDone, ExecFailed, ExecSkipped, Lowered, NotALine, NotText, NotTyped, TooLarge, NotRun, NotFilled, NotLowered, NotTagged, ReadFault, WriteFault, TooLong, NotBuilt}
-use Rattle.sk_app.specs.Built.{IsBuilt}
+use Rattle.sk_app.specs.declared.ending.Ending.TheVariants.{Completed, NoCompletion, SpentRounds, SpentConflicts, HelpShown, VersionShown, ExecDone, ExecFailed, ExecSkipped, Lowered, Listed, Explained, Met, NotALine, NotText, NotTyped, TooLarge, NotRun, NotFilled, NotLowered, NotTagged, ReadFault, WriteFault, TooLong, NotBuilt}
+use Rattle.sk_min_laws.specs.Best.{Meeting}
+use Rattle.sk_built_laws.specs.Built.{IsBuilt}
+use Rattle.sk_all_text.specs.AllTexts.{IsListing}
 use Rattle.sk_app.specs.ResultText.{IsCompletion, IsNone}
 use Rattle.sk_app.specs.Spent.{AreLearnt, IsSpentRounds, IsSpentConflicts}
 use Rattle.sk_app.specs.Streams.{Appends, AppendsPrefix, TakesFew}
 use Rattle.sk_app.specs.Help.{help_text, version_text}
-use Rattle.sk_app.specs.Lines.{IsNoLine, IsSearch, ForSearch, IsSynth, ForSynth, IsJob, ForJob, ForTrace, ForLower, TakesText, ForText, ReadsText, IsUnbuiltLine}
+use Rattle.sk_app.specs.Lines.{IsNoLine, IsSearch, ForSearch, IsSynth, ForSynth, IsJob, ForJob, ForTrace, ForLower, ForAll, ForWhy, TakesText, SizesText, ForText, ReadsText, IsUnbuiltLine}
 use Rattle.sk_app.specs.Jobs.{IsStopped, IsRunOfJob}
+use Rattle.sk_app.specs.Questions.{IsExplained, IsMet}
 use Rattle.sk_app.specs.Ends.{WritesPart, writes_nothing, Ends, IsOfBuilt, IsOfFault, IsOfUntyped, IsOfRefused, ending_of, stopped}
 use Rattle.sk_app.specs.Effects.{is_of_expansion, IsRunResult, IsOutput}
 use Rattle.sk_app.specs.Call.{Call, OfText, Gets, SourceFailed, SinkFailed}
@@ -130,9 +133,9 @@ UntypedEnds c = (set : Set) → TakesText c.words set → OfText c (λ text. len
 abbrev pub TellsTooLarge : Call → Type 0
 TellsTooLarge c = (reason : SizeFault) → c.ending ≡ TooLarge reason → ForText c.words (λ set. OfText c (λ text. IsTooLarge set text reason))
 
--- For a line `synth` a text whose expansion passes a limit ends so.
+-- For a line `synth`, `all` or `why` a text whose expansion passes a limit ends so.
 abbrev pub LargeEnds : Call → Type 0
-LargeEnds c = (set : Set) → IsSynth c.words set → OfText c (λ text. (reason : SizeFault) → IsTooLarge set text reason → Ends (λ e. e ≡ TooLarge reason) (SourceFailed c) ⊥ c.ending)
+LargeEnds c = (set : Set) → SizesText c.words set → OfText c (λ text. (reason : SizeFault) → IsTooLarge set text reason → Ends (λ e. e ≡ TooLarge reason) (SourceFailed c) ⊥ c.ending)
 
 -- For a line `exec` or `trace` too, where it has too many nodes or sites.
 abbrev pub CopiesEnds : Call → Type 0
@@ -205,6 +208,32 @@ NotTaggedEnds c = (set : Set) → IsLine c.words (line.Lower set) → OfText c (
 -- A text that has no tokens, or whose plain form reads as no tree or means no program, ends with that fault.
 abbrev pub RefusedEnds : Call → Type 0
 RefusedEnds c = (set : Set) → IsLine c.words (line.Lower set) → OfText c (λ text. length text ≤ most_bytes → (told : SketchFault) → IsCause (IsFaultOfLowering set text) told → Ends (IsOfRefused told) (SourceFailed c) ⊥ c.ending)
+
+-- A line `all` or `why`
+
+-- The sink got a list of completions: all of them, or as many as the line asks for.
+abbrev pub TellsListed : Call → Type 0
+TellsListed c = c.ending ≡ Listed → ForAll c.words (λ set most. OfText c (λ text. Gets c (IsListing set most text)))
+
+-- For a line `all` a text that is taken ends so.
+abbrev pub ListedEnds : Call → Type 0
+ListedEnds c = (set : Set) (most : ℕ) → IsLine c.words (line.All set most) → OfText c (λ text. (bounds : Bounds) (e : Expanded) → IsBuilt set text bounds e → Ends (λ x. x ≡ Listed) (SourceFailed c) (SinkFailed c) c.ending)
+
+-- There is no completion. The sink got inputs that explain it: no filling passes them, and one passes all but any one of them.
+abbrev pub TellsExplained : Call → Type 0
+TellsExplained c = c.ending ≡ Explained → ForWhy c.words (λ set. OfText c (λ text. Gets c (IsExplained set text)))
+
+-- For a line `why` a text that is taken and has no completion ends so.
+abbrev pub ExplainedEnds : Call → Type 0
+ExplainedEnds c = (set : Set) → IsLine c.words (line.Why set) → OfText c (λ text. (bounds : Bounds) (e : Expanded) → IsBuilt set text bounds e → ((a : Choice) → Meeting e bounds a → ⊥) → Ends (λ x. x ≡ Explained) (SourceFailed c) (SinkFailed c) c.ending)
+
+-- There is a completion, and the sink got one.
+abbrev pub TellsMet : Call → Type 0
+TellsMet c = c.ending ≡ Met → ForWhy c.words (λ set. OfText c (λ text. Gets c (IsMet set text)))
+
+-- For a line `why` a text that is taken and has a completion ends so.
+abbrev pub MetEnds : Call → Type 0
+MetEnds c = (set : Set) → IsLine c.words (line.Why set) → OfText c (λ text. (bounds : Bounds) (e : Expanded) → IsBuilt set text bounds e → (a : Choice) → Meeting e bounds a → Ends (λ x. x ≡ Met) (SourceFailed c) (SinkFailed c) c.ending)
 
 -- The streams
 

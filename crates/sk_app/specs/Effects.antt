@@ -16,7 +16,8 @@ use Rattle.sk_oblig_queries.specs.declared.query.Query.{Query}
 use Rattle.sk_loop_laws.specs.Shown.{AreSpent}
 use Rattle.sk_front.specs.declared.fault.SketchFault.{SketchFault}
 use Rattle.sk_front.specs.declared.fault.SketchFault.TheVariants as fault
-use Rattle.sk_front.specs.Front.{IsFaultOfExpansion}
+use Rattle.sk_front.specs.Front.{IsFaultOfExpansion, IsFaultOfSizes}
+use Rattle.sk_front.specs.Front as front
 use Rattle.sk_front.specs.Texts.{HasSpan}
 use Rattle.sk_adt.specs.declared.algebraic.AdtFault.{AdtFault}
 use Rattle.sk_adt_text.specs.PlainTexts.{HasNoPlainForm, IsNotTagged, IsLoweredText, IsFaultOfLowering, IsPlacedFault}
@@ -27,14 +28,18 @@ use Rattle.sk_trace_text.specs.declared.fault.TraceFault.{TraceFault}
 use Rattle.sk_app.specs.declared.direct.Way.TheVariants as way
 use Rattle.sk_app.specs.declared.direct.Job.{Job}
 use Rattle.sk_app.specs.Jobs.{IsStopped, IsRunOfJob}
+use Rattle.sk_app.specs.declared.listing.Question.{Question}
+use Rattle.sk_app.specs.declared.listing.Question.TheVariants as question
+use Rattle.sk_app.specs.Questions.{Reply, IsReply, IsExplained, IsMet, ending_with}
+use Rattle.sk_all_text.specs.AllTexts.{IsListing}
 use Rattle.sk_app.specs.declared.ending.Ending.{Ending}
-use Rattle.sk_app.specs.declared.ending.Ending.TheVariants.{Completed, NoCompletion, SpentRounds, SpentConflicts, HelpShown, VersionShown, NotALine, NotText, NotTyped, TooLarge, NotRun, NotFilled, ReadFault, WriteFault, TooLong, Memory, NotBuilt, ExecDone, ExecFailed, ExecSkipped, Lowered, NotLowered, NotTagged}
+use Rattle.sk_app.specs.declared.ending.Ending.TheVariants.{Completed, NoCompletion, SpentRounds, SpentConflicts, HelpShown, VersionShown, NotALine, NotText, NotTyped, TooLarge, NotRun, NotFilled, ReadFault, WriteFault, TooLong, Memory, NotBuilt, ExecDone, ExecFailed, ExecSkipped, Lowered, NotLowered, NotTagged, Listed, Explained, Met}
 use Rattle.sk_app.specs.Streams.{IsWhole, IsLong, TakesFew}
 use Rattle.sk_app.specs.ResultText.{IsCompletion, IsNone}
 use Rattle.sk_app.specs.Spent.{AreLearnt, IsSpentRounds, IsSpentConflicts}
 use Rattle.sk_app.specs.Results.{IsResult}
 use Rattle.sk_app.specs.Help.{help_text, version_text}
-use Rattle.sk_app.specs.Lines.{IsNoLine, ForSearch, ForJob, ForLower}
+use Rattle.sk_app.specs.Lines.{IsNoLine, ForSearch, ForJob, ForLower, ForAll, ForWhy}
 use Rattle.sk_app.specs.Call.{Effect}
 use Rattle.sk_app.specs.Ends.{IsDelivered, Writes, WritesPart, writes_nothing, IsToldOf, ending_of, stopped}
 
@@ -72,6 +77,9 @@ is_of_synth (NotFilled reason) = false
 is_of_synth Lowered = false
 is_of_synth (NotLowered reason) = false
 is_of_synth (NotTagged span) = false
+is_of_synth Listed = false
+is_of_synth Explained = false
+is_of_synth Met = false
 is_of_synth _ = true
 
 -- a fault of types is told at a span of the text
@@ -155,6 +163,19 @@ pub record Lowers (set : Set) (result : Ending) (f : Effect) : Type 0 where
   pub lowers : LowersSource set result f
   pub few : TakesFew f.left_old f.left_new
 
+-- what a line `all` or `why` does for a text that is not too long
+pub data RepliesTo (set : Set) (q : Question) (text : List ℕ) (result : Ending) (faults_old faults_new : ℕ) (old new : Option (List ℕ)) : Type 0 where
+  unanswered : (told : SketchFault) → IsFaultOfSizes set text told → front.IsPlacedFault text told → result ≡ refusal told → new ≡ old → RepliesTo set q text result faults_old faults_new old new
+  replied : (reply : Reply) (out : List ℕ) → IsReply set q text reply out → IsDelivered result (ending_with reply) out faults_old faults_new old new → RepliesTo set q text result faults_old faults_new old new
+
+abbrev pub AsksSource : Set → Question → Ending → Effect → Type 0
+AsksSource set q result f = TakesSource (λ text. RepliesTo set q text result f.write_faults_old f.write_faults_new f.held_old f.held_new) result f
+
+-- a call for a line `all` or `why` with these options, which asks this
+pub record Asks (set : Set) (q : Question) (result : Ending) (f : Effect) : Type 0 where
+  pub asks : AsksSource set q result f
+  pub few : TakesFew f.left_old f.left_new
+
 -- what a call does for a line
 abbrev pub Serves : Line → Ending → Effect → Type 0
 Serves (line.Synth set budget true) result f = IsRefused NotBuilt result f
@@ -162,6 +183,8 @@ Serves (line.Synth set budget false) result f = Synthesises set budget result f
 Serves (line.Exec set name values) result f = Executes set (record { name = name; values = values; way = way.Exec }) result f
 Serves (line.Trace set name values holes) result f = Executes set (record { name = name; values = values; way = way.Trace holes }) result f
 Serves (line.Lower set) result f = Lowers set result f
+Serves (line.All set most) result f = Asks set (question.Which most) result f
+Serves (line.Why set) result f = Asks set question.Why result f
 Serves (line.Check set) result f = IsRefused NotBuilt result f
 Serves (line.Itself n) result f = IsRefused NotBuilt result f
 Serves line.Help result f = IsShown help_text HelpShown result f
@@ -178,5 +201,8 @@ pub data IsOutput (words : List (List ℕ)) (text out : List ℕ) : Type 0 where
   result : ForSearch words (λ set budget. IsResult set budget text out) → IsOutput words text out
   run : ForJob words (λ set job. IsRunOutput set job text out) → IsOutput words text out
   plain : ForLower words (λ set. IsLoweredText set text out) → IsOutput words text out
+  listing : ForAll words (λ set most. IsListing set most text out) → IsOutput words text out
+  reasons : ForWhy words (λ set. IsExplained set text out) → IsOutput words text out
+  meeting : ForWhy words (λ set. IsMet set text out) → IsOutput words text out
   help : IsLine words line.Help → out ≡ help_text → IsOutput words text out
   version : IsLine words line.Version → out ≡ version_text → IsOutput words text out

@@ -21,7 +21,7 @@ use Rattle.sk_exec.specs.declared.fault.ExecFault.TheVariants as exec
 use Rattle.sk_holes.specs.declared.fault.FillFault.{FillFault}
 use Rattle.sk_holes.specs.declared.fault.FillFault.TheVariants as hole
 use Rattle.sk_app.specs.declared.ending.Ending.{Ending}
-use Rattle.sk_app.specs.declared.ending.Ending.TheVariants.{Completed, NoCompletion, SpentRounds, SpentConflicts, HelpShown, VersionShown, ExecDone, ExecFailed, ExecSkipped, Lowered, NotALine, NotText, NotTyped, TooLarge, NotRun, NotFilled, NotLowered, NotTagged, ReadFault, WriteFault, TooLong, Memory, NotBuilt}
+use Rattle.sk_app.specs.declared.ending.Ending.TheVariants.{Completed, NoCompletion, SpentRounds, SpentConflicts, HelpShown, VersionShown, ExecDone, ExecFailed, ExecSkipped, Lowered, Listed, Explained, Met, NotALine, NotText, NotTyped, TooLarge, NotRun, NotFilled, NotLowered, NotTagged, ReadFault, WriteFault, TooLong, Memory, NotBuilt}
 
 -- The refusal for a fault of a text. Want of memory, which `run` answers as `Memory`, is no fault of it.
 abbrev pub text_refusal : TextFault → Refusal
@@ -107,6 +107,9 @@ status_of ExecDone = 0
 status_of (ExecFailed span) = 4
 status_of (ExecSkipped span) = 5
 status_of Lowered = 0
+status_of Listed = 0
+status_of Explained = 0
+status_of Met = 7
 status_of NotALine = 10
 status_of (NotText fault) = refusal_status (text_refusal fault)
 status_of (NotTyped fault) = refusal_status (type_refusal fault)
@@ -132,6 +135,9 @@ message_of ExecDone = []
 message_of (ExecFailed span) = []
 message_of (ExecSkipped span) = []
 message_of Lowered = []
+message_of Listed = []
+message_of Explained = []
+message_of Met = []
 message_of NotALine = codes "usage"
 message_of (NotText fault) = refusal_message (text_refusal fault)
 message_of (NotTyped fault) = refusal_message (type_refusal fault)

@@ -5,7 +5,7 @@ use Rattle.sk_base.specs.declared.bounds.Budget.{Budget}
 use Rattle.sk_model.specs.declared.outcome.Outcome.{Outcome}
 use Rattle.sk_model.specs.declared.outcome.Outcome.TheVariants as outcome
 use Rattle.sk_app.specs.declared.ending.Ending.{Ending}
-use Rattle.sk_app.specs.declared.ending.Ending.TheVariants.{Completed, NoCompletion, SpentRounds, SpentConflicts, HelpShown, VersionShown, ExecDone, ExecFailed, ExecSkipped, Lowered, NotText, NotTyped, TooLarge, NotRun, NotFilled, ReadFault, WriteFault, TooLong, Memory}
+use Rattle.sk_app.specs.declared.ending.Ending.TheVariants.{Completed, NoCompletion, SpentRounds, SpentConflicts, HelpShown, VersionShown, ExecDone, ExecFailed, ExecSkipped, Lowered, Listed, Explained, Met, NotText, NotTyped, TooLarge, NotRun, NotFilled, ReadFault, WriteFault, TooLong, Memory}
 use Rattle.sk_front.specs.declared.fault.TextFault.{TextFault}
 use Rattle.sk_front.specs.Texts.{most_bytes, IsTextFault, IsSameFault}
 use Rattle.sk_front.specs.declared.fault.SketchFault.{SketchFault}
@@ -14,7 +14,7 @@ use Rattle.sk_front.specs.Front.{IsUntyped, IsTooLarge, IsToldAs}
 use Rattle.sk_opts.specs.declared.line.Set.{Set}
 use Rattle.sk_trace_text.specs.declared.fault.TraceFault.{TraceFault}
 use Rattle.sk_trace_text.specs.declared.fault.TraceFault.TheVariants as fault
-use Rattle.sk_app.specs.Built.{IsTaken}
+use Rattle.sk_built_laws.specs.Built.{IsTaken}
 use Rattle.sk_app.specs.Streams.{Appends, AppendsPrefix}
 
 -- a text of this kind was appended to what the sink held
@@ -41,6 +41,9 @@ writes_nothing ExecDone = false
 writes_nothing (ExecFailed span) = false
 writes_nothing (ExecSkipped span) = false
 writes_nothing Lowered = false
+writes_nothing Listed = false
+writes_nothing Explained = false
+writes_nothing Met = false
 writes_nothing WriteFault = false
 writes_nothing _ = true
 
@@ -66,6 +69,9 @@ IsToldOf set text Completed source_old source_new sink_old sink_new = IsTaken se
 IsToldOf set text NoCompletion source_old source_new sink_old sink_new = IsTaken set text
 IsToldOf set text (SpentRounds pairs best) source_old source_new sink_old sink_new = IsTaken set text
 IsToldOf set text (SpentConflicts pairs q f log best) source_old source_new sink_old sink_new = IsTaken set text
+IsToldOf set text Listed source_old source_new sink_old sink_new = IsTaken set text
+IsToldOf set text Explained source_old source_new sink_old sink_new = IsTaken set text
+IsToldOf set text Met source_old source_new sink_old sink_new = IsTaken set text
 IsToldOf set text (NotText fault) source_old source_new sink_old sink_new = (length text ≤ most_bytes) × IsTextFault fault text
 IsToldOf set text (NotTyped fault) source_old source_new sink_old sink_new = (length text ≤ most_bytes) × IsUntyped set text
 IsToldOf set text (TooLarge reason) source_old source_new sink_old sink_new = IsTooLarge set text reason

@@ -1,7 +1,6 @@
 pub mod Ending
 pub mod Streams
 pub mod ReadStep
-pub mod Built
 pub mod Completing
 pub mod ResultText
 pub mod SpentText
@@ -13,7 +12,9 @@ pub mod Ends
 pub mod Help
 pub mod Lines
 pub mod Jobs
+pub mod Questions
 pub mod Call
 pub mod Effects
 pub mod Clauses
 pub mod Headline
+pub mod Listings

@@ -8,6 +8,8 @@ use Rattle.sk_opts.specs.CommandLine.{IsLine}
 use Rattle.sk_app.specs.declared.direct.Way.{Way}
 use Rattle.sk_app.specs.declared.direct.Way.TheVariants as way
 use Rattle.sk_app.specs.declared.direct.Job.{Job}
+use Rattle.sk_app.specs.declared.listing.Question.{Question}
+use Rattle.sk_app.specs.declared.listing.Question.TheVariants as question
 
 -- the words spell no line
 abbrev pub IsNoLine : List (List ℕ) → Type 0
@@ -69,9 +71,37 @@ pub record ForLower (words : List (List ℕ)) (Holds : Set → Type 0) : Type 0 
   pub is : IsLine words (line.Lower set)
   pub holds : Holds set
 
--- The words are a line that takes a text as it is, with these options: `synth` without a certificate, `exec` or `trace`.
-abbrev pub TakesText : List (List ℕ) → Set → Type 0
-TakesText words set = IsSynth words set ⊎ ((job : Job) × IsJob words set job)
+-- The words are a line `all` with these options, which asks for so many completions at most, and this holds of it.
+pub record ForAll (words : List (List ℕ)) (Holds : Set → ℕ → Type 0) : Type 0 where
+  pub set : Set
+  pub most : ℕ
+  pub is : IsLine words (line.All set most)
+  pub holds : Holds set most
+
+-- The words are a line `why`, and this holds of its options.
+pub record ForWhy (words : List (List ℕ)) (Holds : Set → Type 0) : Type 0 where
+  pub set : Set
+  pub is : IsLine words (line.Why set)
+  pub holds : Holds set
+
+-- the line that asks this about completions
+abbrev pub line_asking : Set → Question → Line
+line_asking set (question.Which most) = line.All set most
+line_asking set question.Why = line.Why set
+
+-- The words are a line that takes a text as it is, with these options: `synth` without a certificate, `exec` or `trace`, `all` or
+-- `why`.
+pub data TakesText (words : List (List ℕ)) (set : Set) : Type 0 where
+  takes_synth : IsSynth words set → TakesText words set
+  takes_job : (job : Job) → IsJob words set job → TakesText words set
+  takes_all : (most : ℕ) → IsLine words (line.All set most) → TakesText words set
+  takes_why : IsLine words (line.Why set) → TakesText words set
+
+-- The words are a line, with these options, that takes a text whose runs, too, are within their limits.
+pub data SizesText (words : List (List ℕ)) (set : Set) : Type 0 where
+  sizes_synth : IsSynth words set → SizesText words set
+  sizes_all : (most : ℕ) → IsLine words (line.All set most) → SizesText words set
+  sizes_why : IsLine words (line.Why set) → SizesText words set
 
 -- they are such a line, and this holds of its options
 pub record ForText (words : List (List ℕ)) (Holds : Set → Type 0) : Type 0 where
@@ -89,6 +119,8 @@ is_unbuilt (line.Synth set budget cert) = cert
 is_unbuilt (line.Exec set name values) = false
 is_unbuilt (line.Trace set name values holes) = false
 is_unbuilt (line.Lower set) = false
+is_unbuilt (line.All set most) = false
+is_unbuilt (line.Why set) = false
 is_unbuilt (line.Check set) = true
 is_unbuilt (line.Itself n) = true
 is_unbuilt line.Help = false

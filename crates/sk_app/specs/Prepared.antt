@@ -1,12 +1,8 @@
 -- What a text comes to, and what a source comes to.
 use Rattle.std.specs.Prelude.{ℕ, ◌≤◌, List, length, Option, IfSome}
 use Rattle.sk_base.specs.Stream.{Rose}
-use Rattle.sk_base.specs.declared.bounds.Bounds.{Bounds}
 use Rattle.sk_base.specs.declared.bounds.Budget.{Budget}
-use Rattle.sk_model.specs.declared.expanded.Expanded.{Expanded}
 use Rattle.sk_opts.specs.declared.line.Set.{Set}
-use Rattle.sk_opts.specs.Ranges.{AreInRanges}
-use Rattle.sk_expand_sites.specs.Small.{AreSmall}
 use Rattle.sk_front.specs.Texts.{most_bytes, HasSpan, IsTextFault}
 use Rattle.sk_front.specs.Front.{IsUntyped, IsTooLarge}
 use Rattle.sk_app.specs.declared.complete.Building.{Building}
@@ -16,14 +12,8 @@ use Rattle.sk_app.specs.declared.prepare.Found.TheVariants as found
 use Rattle.sk_app.specs.declared.prepare.Prepared.{Prepared}
 use Rattle.sk_app.specs.declared.prepare.Prepared.TheVariants as prepared
 use Rattle.sk_app.specs.Streams.{IsLong}
-use Rattle.sk_app.specs.Built.{IsOnly}
+use Rattle.sk_built_laws.specs.Built.{IsReady}
 use Rattle.sk_app.specs.Results.{HasResult, IsResultOf}
-
--- the bounds and the expansion of a text that is taken, as the search for a completion asks for them
-pub record IsReady (set : Set) (text : List ℕ) (bounds : Bounds) (e : Expanded) : Type 0 where
-  pub only : IsOnly set text bounds e
-  pub ranges : AreInRanges bounds
-  pub narrow : AreSmall e.sites
 
 -- what is built of a text with these options, or why nothing is
 abbrev pub IsBuilding : Set → Building → List ℕ → Type 0

@@ -10,7 +10,7 @@ use Rattle.sk_print.specs.Layout.{layout}
 use Rattle.sk_print.specs.Shows.{Shows}
 use Rattle.sk_opts.specs.declared.line.Set.{Set}
 use Rattle.sk_app.specs.declared.completion.Completion.{Completion}
-use Rattle.sk_app.specs.Built.{IsOnly}
+use Rattle.sk_built_laws.specs.Built.{IsOnly}
 use Rattle.sk_app.specs.Completing.{IsLeast}
 
 -- each number with a space before it

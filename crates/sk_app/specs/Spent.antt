@@ -16,7 +16,7 @@ use Rattle.sk_loop_laws.specs.Honest.{Honest}
 use Rattle.sk_loop_laws.specs.Shown.{AreSpent, Learnt, IsOfSearch}
 use Rattle.sk_min.specs.Least.{IsKnown, IsKnownOf, IsFreeSpent}
 use Rattle.sk_opts.specs.declared.line.Set.{Set}
-use Rattle.sk_app.specs.Built.{IsOnly}
+use Rattle.sk_built_laws.specs.Built.{IsOnly}
 use Rattle.sk_app.specs.SpentText.{OfRounds, OfConflicts, spent_result}
 
 -- A choice in range whose filling meets its obligations, and its layout shows the filled program.

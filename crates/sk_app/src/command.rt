@@ -19,11 +19,13 @@ ghost use Rattle.sk_app.specs.Ends.{IsDelivered, Writes, WritesPart, writes_noth
 ghost use Rattle.sk_app.specs.Effects.{is_of_synth, TellsSpan, Serves, Answers};
 ghost use Rattle.sk_app.specs.Call.{effect, call};
 ghost use Rattle.sk_app.specs.Headline.{Headline};
-ghost use Rattle.sk_app.specs.Clauses.{TellsNoLine, NoLineEnds, TellsUnbuilt, UnbuiltEnds, TellsHelp, HelpEnds, TellsVersion, VersionEnds, TellsCompletion, TellsNone, TellsRounds, TellsConflicts, BuiltEnds, TellsNotText, PlacesNotText, FaultyEnds, TellsNotTyped, PlacesNotTyped, UntypedEnds, TellsTooLarge, LargeEnds, CopiesEnds, TellsTooLong, LongEnds, TellsDone, TellsFailed, TellsSkipped, RunEnds, TellsNotRun, TellsNotFilled, NotRunEnds, TellsLowered, LoweredEnds, TellsNotLowered, NotLoweredEnds, TellsNotTagged, NotTaggedEnds, RefusedEnds, TellsReadFault, TellsWriteFault, CutsOutput, CutsHelp, CutsVersion, KeepsSink, ReadsFew, LeavesSource};
+ghost use Rattle.sk_app.specs.Listings.{Listings};
+ghost use Rattle.sk_app.specs.Clauses.{TellsNoLine, NoLineEnds, TellsUnbuilt, UnbuiltEnds, TellsHelp, HelpEnds, TellsVersion, VersionEnds, TellsCompletion, TellsNone, TellsRounds, TellsConflicts, BuiltEnds, TellsNotText, PlacesNotText, FaultyEnds, TellsNotTyped, PlacesNotTyped, UntypedEnds, TellsTooLarge, LargeEnds, CopiesEnds, TellsTooLong, LongEnds, TellsDone, TellsFailed, TellsSkipped, RunEnds, TellsNotRun, TellsNotFilled, NotRunEnds, TellsLowered, LoweredEnds, TellsNotLowered, NotLoweredEnds, TellsNotTagged, NotTaggedEnds, RefusedEnds, TellsListed, ListedEnds, TellsExplained, ExplainedEnds, TellsMet, MetEnds, TellsReadFault, TellsWriteFault, CutsOutput, CutsHelp, CutsVersion, KeepsSink, ReadsFew, LeavesSource};
 
 use crate::direct::{Job, Way, run_source};
 use crate::ending::Ending;
 use crate::help::{help, version};
+use crate::listing::{Question, ask_source};
 use crate::lower::lower_source;
 use crate::output::deliver;
 use crate::prepare::{Found, Prepared, prepare};
@@ -113,6 +115,11 @@ fn serve<S: Source, K: Sink>(alloc: Global, line: Line, source: &mut S, sink: &m
             run_source(alloc, &set, &Job { name, values, way }, source, sink)
         }
         Line::Lower { set } => lower_source(alloc, &set, source, sink),
+        Line::All { set, most } => {
+            let question = Question::Which { most };
+            ask_source(alloc, &set, question, source, sink)
+        }
+        Line::Why { set } => ask_source(alloc, &set, Question::Why, source, sink),
         Line::Check { .. } | Line::Itself { .. } => Ending::NotBuilt,
         Line::Help => show_help(alloc, sink),
         Line::Version => deliver(sink, version(), Ending::VersionShown),
@@ -138,13 +145,15 @@ fn answer<S: Source, K: Sink>(
 /// Runs a command: the words are those behind the program's own name. A line `synth` reads a sketch from the source,
 /// completes it, and writes the result to the sink; a line `exec` runs a function of it, and writes what comes of that; a line
 /// `trace` fills it with numbers, runs a function of the filling, and writes its steps too; a line `lower` writes the plain
-/// sketch of a text with algebraic types; `--help` and `--version` write their texts. A line `check` or `self`, or one that
-/// asks for a certificate, ends with `NotBuilt`.
+/// sketch of a text with algebraic types; a line `all` lists completions of a sketch, and a line `why` writes inputs that explain why
+/// it has none; `--help` and `--version` write their texts. A line `check` or `self`, or one that asks for a certificate, ends with
+/// `NotBuilt`.
 ///
 /// What is said of the text holds where the source tells what is left, and what is said of what the sink
 /// holds where the sink tells it. Want of memory may come at any step.
 ///
-/// Each clause is one word of the call: `specs/Headline.antt` says the first, `specs/Clauses.antt` the others. They stand in
+/// Each clause is one word of the call: `specs/Headline.antt` and `specs/Listings.antt` say the first two, `specs/Clauses.antt` the
+/// others. They stand in
 /// pairs: an ending comes only where it has its cause, and (`ends_..`) where there is the cause, it comes.
 pub fn run<S: Source, K: Sink>(
     alloc: Global,
@@ -153,6 +162,7 @@ pub fn run<S: Source, K: Sink>(
     sink: &mut K,
 ) -> Ending
     ensures headline { Headline (call S.Source K.Sink words.now result source sink) }
+    ensures listings { Listings (call S.Source K.Sink words.now result source sink) }
 
     // Words.
     ensures not_a_line { TellsNoLine (call S.Source K.Sink words.now result source sink) }
@@ -201,6 +211,14 @@ pub fn run<S: Source, K: Sink>(
     ensures not_tagged { TellsNotTagged (call S.Source K.Sink words.now result source sink) }
     ensures ends_not_tagged { NotTaggedEnds (call S.Source K.Sink words.now result source sink) }
     ensures ends_refused { RefusedEnds (call S.Source K.Sink words.now result source sink) }
+
+    // A line `all` or `why`.
+    ensures listed { TellsListed (call S.Source K.Sink words.now result source sink) }
+    ensures ends_listed { ListedEnds (call S.Source K.Sink words.now result source sink) }
+    ensures explained { TellsExplained (call S.Source K.Sink words.now result source sink) }
+    ensures ends_explained { ExplainedEnds (call S.Source K.Sink words.now result source sink) }
+    ensures met { TellsMet (call S.Source K.Sink words.now result source sink) }
+    ensures ends_met { MetEnds (call S.Source K.Sink words.now result source sink) }
 
     // The streams.
     ensures read_fault { TellsReadFault (call S.Source K.Sink words.now result source sink) }

@@ -5,7 +5,8 @@ ghost use Rattle.sk_opts.specs.Ranges.{IsInRanges};
 ghost use Rattle.sk_front.specs.Texts.{most_bytes};
 ghost use Rattle.sk_opts.specs.declared.line.Set.{Set};
 ghost use Rattle.sk_oblig.specs.Formulas.{IsAskable};
-ghost use Rattle.sk_app.specs.Prepared.{IsBuilding, IsFound, IsPossible, IsReady};
+ghost use Rattle.sk_built_laws.specs.Built.{IsReady};
+ghost use Rattle.sk_app.specs.Prepared.{IsBuilding, IsFound, IsPossible};
 
 use crate::ending::Ending;
 use crate::prepare::Found;

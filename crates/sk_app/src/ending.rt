@@ -59,6 +59,12 @@ pub enum Ending {
     },
     /// The sink got the plain sketch of the text.
     Lowered,
+    /// The sink got a list of completions: all of them, or as many as the line asks for.
+    Listed,
+    /// There is no completion. The sink got inputs that explain why.
+    Explained,
+    /// There is a completion, and the sink got one.
+    Met,
     /// The words are no command line.
     NotALine,
     /// The text has no tokens, or these read as no tree.
@@ -96,6 +102,8 @@ pub fn status(ending: &Ending) -> u8
     match ending {
         Ending::Completed | Ending::HelpShown | Ending::VersionShown => 0,
         Ending::ExecDone | Ending::Lowered => 0,
+        Ending::Listed | Ending::Explained => 0,
+        Ending::Met => 7,
         Ending::ExecFailed { span: _ } => 4,
         Ending::ExecSkipped { span: _ } => 5,
         Ending::NoCompletion => 1,
@@ -143,6 +151,7 @@ pub fn message(alloc: Global, ending: &Ending) -> Result<Name, AllocError>
             best: _,
         } => said(alloc, b""),
         Ending::Lowered => said(alloc, b""),
+        Ending::Listed | Ending::Explained | Ending::Met => said(alloc, b""),
         Ending::NotALine => said(alloc, b"usage"),
         Ending::NotText(fault) => text_message(alloc, fault),
         Ending::NotTyped(fault) => type_message(alloc, fault),

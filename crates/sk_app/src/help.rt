@@ -15,6 +15,8 @@ sketch synth [OPTION].. < SKETCH               writes the completed sketch, or t
 sketch exec [OPTION].. NAME VALUE.. < PROGRAM  writes what the function NAME gives for the values
 sketch trace [OPTION].. NAME VALUE.. < SKETCH  writes each step of that run, in a filling
 sketch lower [OPTION].. < TEXT                 writes the plain sketch of a text with algebraic types
+sketch all [OPTION].. K < SKETCH               writes the hole values of up to K completions
+sketch why [OPTION].. < SKETCH                 writes inputs that leave no completion, or //@ met
 sketch --help                                  writes this help
 sketch --version                               writes the version
 
@@ -38,12 +40,13 @@ fn statuses() -> &'static [u8]
     b"
 It ends with one of these, and from 10 on says more on standard error.
 
-   0  completed, or the run is done, or the plain sketch is written
+   0  completed, or the run is done, or what lower, all or why found is written
    1  no completion meets the harnesses and references on every input
    2  a budget is spent, and no completion is known
    3  a budget is spent; the completion may not cost least
    4  the run failed
    5  the run was skipped
+   7  why found a completion
   10  the words are no command line
   11  the text has no tokens, or reads as no program
   12  the text breaks a rule of types

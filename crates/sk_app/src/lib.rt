@@ -7,6 +7,7 @@ mod completion;
 mod direct;
 mod ending;
 mod help;
+mod listing;
 mod lower;
 mod output;
 mod prepare;

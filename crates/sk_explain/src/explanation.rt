@@ -89,7 +89,7 @@ fn span_of(ending: &Ending) -> Option<Span>
         Ending::NotTagged { span } => Some(*span),
         Ending::Completed | Ending::NoCompletion | Ending::HelpShown | Ending::VersionShown => None,
         Ending::SpentRounds { .. } | Ending::SpentConflicts { .. } | Ending::ExecDone => None,
-        Ending::Lowered => None,
+        Ending::Lowered | Ending::Listed | Ending::Explained | Ending::Met => None,
         Ending::NotALine | Ending::TooLarge(_) | Ending::NotRun(_) | Ending::NotFilled(_) => None,
         Ending::NotBuilt
         | Ending::ReadFault
@@ -180,6 +180,7 @@ fn tell_refusal(
         Ending::Lowered => push_not_written(alloc, told, text),
         Ending::Completed | Ending::NoCompletion | Ending::HelpShown => Ok(()),
         Ending::SpentRounds { .. } | Ending::SpentConflicts { .. } | Ending::VersionShown => Ok(()),
+        Ending::Listed | Ending::Explained | Ending::Met => Ok(()),
     }
 }
 
@@ -188,6 +189,7 @@ fn is_search(ending: &Ending) -> bool {
     match ending {
         Ending::Completed | Ending::NoCompletion => true,
         Ending::SpentRounds { .. } | Ending::SpentConflicts { .. } => true,
+        Ending::Listed | Ending::Explained | Ending::Met => true,
         Ending::HelpShown | Ending::VersionShown | Ending::ExecDone | Ending::Lowered => false,
         Ending::ExecFailed { .. } | Ending::ExecSkipped { .. } | Ending::NotALine => false,
         Ending::NotText(_) | Ending::NotTyped(_) | Ending::TooLarge(_) => false,

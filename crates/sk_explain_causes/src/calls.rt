@@ -315,7 +315,10 @@ pub fn tell_not_run(
         Ok(Line::Synth { .. } | Line::Lower { .. } | Line::Check { .. } | Line::Itself { .. }) => {
             told.title(&[b"the function is not run"])
         }
-        Ok(Line::Help | Line::Version) | Err(Usage::NotALine) => {
+        Ok(Line::All { .. } | Line::Why { .. } | Line::Help | Line::Version) => {
+            told.title(&[b"the function is not run"])
+        }
+        Err(Usage::NotALine) => {
             told.title(&[b"the function is not run"])
         }
         Err(Usage::Memory) => Err(AllocError),

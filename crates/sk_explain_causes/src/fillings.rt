@@ -92,7 +92,10 @@ pub fn tell_not_filled(
         Ok(Line::Synth { .. } | Line::Exec { .. } | Line::Lower { .. } | Line::Check { .. }) => {
             told.title(&[b"the numbers do not fill the sketch"])
         }
-        Ok(Line::Itself { .. } | Line::Help | Line::Version) | Err(Usage::NotALine) => {
+        Ok(Line::All { .. } | Line::Why { .. } | Line::Itself { .. }) => {
+            told.title(&[b"the numbers do not fill the sketch"])
+        }
+        Ok(Line::Help | Line::Version) | Err(Usage::NotALine) => {
             told.title(&[b"the numbers do not fill the sketch"])
         }
         Err(Usage::Memory) => Err(AllocError),

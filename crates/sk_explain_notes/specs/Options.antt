@@ -17,11 +17,13 @@ command_word command.Synth = codes "synth"
 command_word command.Exec = codes "exec"
 command_word command.Trace = codes "trace"
 command_word command.Lower = codes "lower"
+command_word command.All = codes "all"
+command_word command.Why = codes "why"
 command_word command.Check = codes "check"
 command_word command.Itself = codes "self"
 
 abbrev pub commands : List Command
-commands = command.Synth ∷ command.Exec ∷ command.Trace ∷ command.Lower ∷ command.Check ∷ command.Itself ∷ []
+commands = command.Synth ∷ command.Exec ∷ command.Trace ∷ command.Lower ∷ command.All ∷ command.Why ∷ command.Check ∷ command.Itself ∷ []
 
 -- the one of these that a word is
 abbrev pub command_among : List Command → List ℕ → Option Command
@@ -108,8 +110,21 @@ command_has command.Synth c = not (is_holes c)
 command_has command.Exec c = is_bound c
 command_has command.Trace c = is_holes c || is_bound c
 command_has command.Lower c = is_bound c
+command_has command.All c = is_bound c
+command_has command.Why c = is_bound c
 command_has command.Check c = is_bound c
 command_has command.Itself c = false
+
+-- the numbers that a command takes, where it takes one
+abbrev pub command_range : Command → Range
+command_range command.All = record { low = 1; high = 100 }
+command_range command.Synth = record { low = 0; high = 60 }
+command_range command.Exec = record { low = 0; high = 60 }
+command_range command.Trace = record { low = 0; high = 60 }
+command_range command.Lower = record { low = 0; high = 60 }
+command_range command.Why = record { low = 0; high = 60 }
+command_range command.Check = record { low = 0; high = 60 }
+command_range command.Itself = record { low = 0; high = 60 }
 
 -- a number of its own for each option, a power of two
 abbrev pub choice_bit : Choice → ℕ

@@ -2,7 +2,7 @@
 use Rattle.std.specs.Prelude.{ℕ, ◌==◌, Bool, true, false, not, ◌&&◌, ◌||◌, List, [], ◌∷◌, Option, Some, None, is_some, if◌then◌else◌, codes, bit_and, bit_or}
 use Rattle.std.specs.Str.{bytes_eq}
 use Rattle.sk_explain_notes.specs.Numbers.{front_of, back_of}
-use Rattle.sk_explain_notes.specs.Options.{command_of, command_has, choice_of, choice_bit, choice_takes, takes_word, range_has}
+use Rattle.sk_explain_notes.specs.Options.{command_of, command_has, command_range, choice_of, choice_bit, choice_takes, takes_word, range_has}
 use Rattle.sk_explain_notes.specs.declared.options.Command.{Command}
 use Rattle.sk_explain_notes.specs.declared.options.Command.TheVariants as command
 use Rattle.sk_explain_notes.specs.declared.options.Choice.{Choice}
@@ -70,9 +70,9 @@ named_slip w word (Some c) = choice_slip w c (back_of 61 word)
 abbrev pub option_slip : Walk → List ℕ → Option Wrong
 option_slip w word = if is_lonely word then Some (of_word slip.NotAlone word) else named_slip w word (choice_of (front_of 61 word))
 
--- a number from 0 to 60
-abbrev pub number_slip : List ℕ → Option Wrong
-number_slip word = if range_has (record { low = 0; high = 60 }) word then None else Some (of_word slip.BadNumber word)
+-- of a word that is to be a number of the command
+abbrev pub number_slip : Command → List ℕ → Option Wrong
+number_slip c word = if range_has (command_range c) word then None else Some (of_word (slip.BadNumber c) word)
 
 -- of a word that is no option, where such a word stood before or none did
 abbrev pub other_slip : Command → Bool → List ℕ → Option Wrong
@@ -80,8 +80,10 @@ other_slip command.Exec others word = None
 other_slip command.Trace others word = None
 other_slip command.Synth others word = Some (of_word (slip.Extra command.Synth) word)
 other_slip command.Lower others word = Some (of_word (slip.Extra command.Lower) word)
+other_slip command.Why others word = Some (of_word (slip.Extra command.Why) word)
 other_slip command.Check others word = Some (of_word (slip.Extra command.Check) word)
-other_slip command.Itself others word = if others then Some (of_word (slip.Extra command.Itself) word) else number_slip word
+other_slip command.All others word = if others then Some (of_word (slip.Extra command.All) word) else number_slip command.All word
+other_slip command.Itself others word = if others then Some (of_word (slip.Extra command.Itself) word) else number_slip command.Itself word
 
 -- a word is taken as no option
 abbrev pub is_other : Walk → List ℕ → Bool
@@ -134,9 +136,11 @@ see w word = see_at w w.waiting word
 abbrev pub wants_word : Command → Bool
 wants_word command.Exec = true
 wants_word command.Trace = true
+wants_word command.All = true
 wants_word command.Itself = true
 wants_word command.Synth = false
 wants_word command.Lower = false
+wants_word command.Why = false
 wants_word command.Check = false
 
 abbrev pub end_at : Walk → Option Choice → Wrong

@@ -5,7 +5,7 @@ use Rattle.std.specs.Str.{bytes_eq}
 use Rattle.sk_explain_notes.specs.Notes.{said, line_said, one, one_line}
 use Rattle.sk_explain_notes.specs.Near.{nearest}
 use Rattle.sk_explain_notes.specs.Numbers.{number_of, front_of}
-use Rattle.sk_explain_notes.specs.Options.{command_word, command_of, command_has, choice_name, choices, choice_takes}
+use Rattle.sk_explain_notes.specs.Options.{command_word, command_of, command_has, command_range, choice_name, choices, choice_takes}
 use Rattle.sk_explain_notes.specs.Slips.{Wrong, slip_of}
 use Rattle.sk_explain_notes.specs.declared.options.Command.{Command}
 use Rattle.sk_explain_notes.specs.declared.options.Command.TheVariants as command
@@ -16,14 +16,19 @@ use Rattle.sk_explain_notes.specs.declared.options.Takes.TheVariants as takes
 use Rattle.sk_explain_notes.specs.declared.slips.Slip.{Slip}
 use Rattle.sk_explain_notes.specs.declared.slips.Slip.TheVariants as slip
 
--- how the program is called
-abbrev pub usage : List ℕ
-usage =
+-- how the commands are called that take a text
+abbrev pub command_lines : List ℕ
+command_lines =
     one_line (codes "usage: sketch synth [OPTION].. < SKETCH")
     ++ one_line (codes "       sketch exec [OPTION].. NAME VALUE.. < PROGRAM")
     ++ one_line (codes "       sketch trace [OPTION].. NAME VALUE.. < SKETCH")
     ++ one_line (codes "       sketch lower [OPTION].. < SKETCH")
-    ++ one_line (codes "       sketch --help")
+    ++ one_line (codes "       sketch all [OPTION].. K < SKETCH")
+    ++ one_line (codes "       sketch why [OPTION].. < SKETCH")
+
+-- how the program is called
+abbrev pub usage : List ℕ
+usage = command_lines ++ one_line (codes "       sketch --help")
 
 -- a question for a name that is nearly a word
 abbrev pub question : Option (List ℕ) → List ℕ
@@ -32,7 +37,7 @@ question (Some name) = said (codes "; is " ∷ name ∷ codes " meant?" ∷ [])
 
 -- the commands and the lines of one word
 abbrev pub command_names : List (List ℕ)
-command_names = codes "synth" ∷ codes "exec" ∷ codes "trace" ∷ codes "lower" ∷ codes "check" ∷ codes "self" ∷ codes "--help" ∷ codes "--version" ∷ []
+command_names = codes "synth" ∷ codes "exec" ∷ codes "trace" ∷ codes "lower" ∷ codes "all" ∷ codes "why" ∷ codes "check" ∷ codes "self" ∷ codes "--help" ∷ codes "--version" ∷ []
 
 -- the names of the options of a command
 abbrev pub names_of : Command → List (List ℕ)
@@ -49,6 +54,8 @@ takes_values command.Exec = true
 takes_values command.Trace = true
 takes_values command.Synth = false
 takes_values command.Lower = false
+takes_values command.All = false
+takes_values command.Why = false
 takes_values command.Check = false
 takes_values command.Itself = false
 
@@ -96,8 +103,13 @@ no_others c = said (command_word c ∷ codes " takes no other words" ∷ [])
 abbrev pub extra_words : Command → List ℕ → List ℕ
 extra_words c word = said (codes "'" ∷ word ∷ codes "' is no option, and " ∷ []) ++ no_others c
 
+abbrev pub one_number : Command → List ℕ → List ℕ
+one_number c word = said (command_word c ∷ codes " takes one number" ∷ []) ++ said (codes ", and not '" ∷ word ∷ codes "' too" ∷ [])
+
 abbrev pub extra_title : Command → List ℕ → List ℕ
-extra_title command.Itself word = said (codes "self takes one number, and not '" ∷ word ∷ codes "' too" ∷ [])
+extra_title command.Itself word = one_number command.Itself word
+extra_title command.All word = one_number command.All word
+extra_title command.Why word = extra_words command.Why word
 extra_title command.Synth word = extra_words command.Synth word
 extra_title command.Exec word = extra_words command.Exec word
 extra_title command.Trace word = extra_words command.Trace word
@@ -105,13 +117,15 @@ extra_title command.Lower word = extra_words command.Lower word
 extra_title command.Check word = extra_words command.Check word
 
 abbrev pub wants_number : Command → List ℕ
-wants_number c = said (command_word c ∷ codes " wants a number, 0 to 60" ∷ [])
+wants_number c = said (command_word c ∷ codes " wants a number, " ∷ []) ++ range_text (command_range c)
 
 abbrev pub missing_title : Command → List ℕ
 missing_title command.Exec = one (codes "exec wants the name of a function")
 missing_title command.Trace = one (codes "trace wants the name of a function")
 missing_title command.Synth = wants_number command.Synth
 missing_title command.Lower = wants_number command.Lower
+missing_title command.All = wants_number command.All
+missing_title command.Why = wants_number command.Why
 missing_title command.Check = wants_number command.Check
 missing_title command.Itself = wants_number command.Itself
 
@@ -128,7 +142,7 @@ slip_title (slip.Valued c) word = said (choice_name c ∷ codes " takes no value
 slip_title (slip.Twice c) word = said (choice_name c ∷ codes " stands twice" ∷ [])
 slip_title (slip.Extra c) word = extra_title c word
 slip_title (slip.Missing c) word = missing_title c
-slip_title slip.BadNumber word = said (codes "self takes a number, 0 to 60, not '" ∷ word ∷ codes "'" ∷ [])
+slip_title (slip.BadNumber c) word = said (command_word c ∷ codes " takes a number, " ∷ []) ++ range_text (command_range c) ++ said (codes ", not '" ∷ word ∷ codes "'" ∷ [])
 slip_title slip.Nothing word = []
 
 -- Lines behind the title
@@ -150,6 +164,8 @@ input_notes c word = said (command_word c ∷ codes " reads standard input: sket
 
 abbrev pub extra_notes : Command → List ℕ → List ℕ
 extra_notes command.Itself word = []
+extra_notes command.All word = []
+extra_notes command.Why word = input_notes command.Why word
 extra_notes command.Synth word = input_notes command.Synth word
 extra_notes command.Exec word = input_notes command.Exec word
 extra_notes command.Trace word = input_notes command.Trace word
@@ -161,6 +177,8 @@ missing_notes command.Exec = one_line (codes "as in: sketch exec NAME VALUE.. < 
 missing_notes command.Trace = one_line (codes "as in: sketch trace NAME VALUE.. < SKETCH")
 missing_notes command.Synth = []
 missing_notes command.Lower = []
+missing_notes command.All = one_line (codes "as in: sketch all K < SKETCH")
+missing_notes command.Why = []
 missing_notes command.Check = []
 missing_notes command.Itself = []
 
@@ -177,7 +195,7 @@ slip_notes (slip.Valued c) word = []
 slip_notes (slip.Twice c) word = []
 slip_notes (slip.Extra c) word = extra_notes c word
 slip_notes (slip.Missing c) word = missing_notes c
-slip_notes slip.BadNumber word = []
+slip_notes (slip.BadNumber c) word = []
 slip_notes slip.Nothing word = usage
 
 -- of words
@@ -208,6 +226,8 @@ undone_title (Some command.Synth) word = no_certificates
 undone_title (Some command.Exec) word = no_certificates
 undone_title (Some command.Trace) word = no_certificates
 undone_title (Some command.Lower) word = no_certificates
+undone_title (Some command.All) word = no_certificates
+undone_title (Some command.Why) word = no_certificates
 
 abbrev pub not_built_title : List (List ℕ) → List ℕ
 not_built_title words = undone_title (command_of (first_word words)) (first_word words)

@@ -1,6 +1,6 @@
 //! The commands and their options.
 ghost use Rattle.std.specs.Prelude.{◌≡◌};
-ghost use Rattle.sk_explain_notes.specs.Options.{command_word, command_among, command_of, choice_name, choice_among, choice_of, is_holes, is_bound, is_of_pragmas, command_has, choice_bit, one_of, choice_takes, range_of, range_has, takes_word};
+ghost use Rattle.sk_explain_notes.specs.Options.{command_word, command_range, command_among, command_of, choice_name, choice_among, choice_of, is_holes, is_bound, is_of_pragmas, command_has, choice_bit, one_of, choice_takes, range_of, range_has, takes_word};
 
 use crate::numbers::{are_numbers, number_of};
 
@@ -11,6 +11,8 @@ pub enum Command {
     Exec,
     Trace,
     Lower,
+    All,
+    Why,
     Check,
     Itself,
 }
@@ -32,6 +34,8 @@ impl Command {
             Command::Exec => b"exec",
             Command::Trace => b"trace",
             Command::Lower => b"lower",
+            Command::All => b"all",
+            Command::Why => b"why",
             Command::Check => b"check",
             Command::Itself => b"self",
         }
@@ -45,17 +49,32 @@ impl Command {
             Command::Synth => !choice.is_holes(),
             Command::Trace => choice.is_holes() || choice.is_bound(),
             Command::Exec | Command::Lower | Command::Check => choice.is_bound(),
+            Command::All | Command::Why => choice.is_bound(),
             Command::Itself => false,
+        }
+    }
+
+    /// The numbers that it takes, where it takes one.
+    pub fn range(self) -> Range
+        ensures { result ≡ command_range self }
+    {
+        match self {
+            Command::All => Range { low: 1, high: 100 },
+            Command::Synth | Command::Exec | Command::Trace => Range { low: 0, high: 60 },
+            Command::Lower | Command::Why => Range { low: 0, high: 60 },
+            Command::Check | Command::Itself => Range { low: 0, high: 60 },
         }
     }
 }
 
 /// All commands.
-const COMMANDS: [Command; 6] = [
+const COMMANDS: [Command; 8] = [
     Command::Synth,
     Command::Exec,
     Command::Trace,
     Command::Lower,
+    Command::All,
+    Command::Why,
     Command::Check,
     Command::Itself,
 ];

@@ -6,7 +6,7 @@ ghost use Rattle.sk_explain_notes.specs.Options.{choice_takes, choice_of};
 ghost use Rattle.sk_explain_notes.specs.Slips.{wrong_of, of_none, is_option, is_lonely, value_slip, given_slip, is_seen, choice_slip, option_slip, number_slip, other_slip, is_other, free_slip, word_slip, awaited, see_choice, see_free, see, wants_word, end_slip, slip_from, begun, lonely_slip, first_slip, slip_of};
 
 use crate::numbers::parts_at;
-use crate::options::{Choice, Command, Range, Takes};
+use crate::options::{Choice, Command, Takes};
 
 /// What is wrong with words.
 #[derive(Debug, Clone, Copy, PartialEq, Eq)]
@@ -35,8 +35,8 @@ pub enum Slip {
     Extra(Command),
     /// The command wants a word more.
     Missing(Command),
-    /// No number from 0 to 60 is the word of `self`.
-    BadNumber,
+    /// The word is none of the numbers that the command takes.
+    BadNumber(Command),
     /// Nothing: they are a line.
     Nothing,
 }
@@ -171,18 +171,18 @@ impl Walk {
     {
         match self.command {
             Command::Exec | Command::Trace => None,
-            Command::Synth | Command::Lower | Command::Check => Some(Found {
+            Command::Synth | Command::Lower | Command::Why | Command::Check => Some(Found {
                 slip: Slip::Extra(self.command),
                 word,
             }),
-            Command::Itself => {
+            Command::All | Command::Itself => {
                 if self.others {
                     Some(Found {
-                        slip: Slip::Extra(Command::Itself),
+                        slip: Slip::Extra(self.command),
                         word,
                     })
                 } else {
-                    number_slip(word)
+                    number_slip(self.command, word)
                 }
             }
         }
@@ -270,8 +270,9 @@ impl Walk {
         ensures { result ≡ (wants_word self.now.command && not self.now.others) }
     {
         match self.command {
-            Command::Exec | Command::Trace | Command::Itself => !self.others,
-            Command::Synth | Command::Lower | Command::Check => false,
+            Command::Exec | Command::Trace => !self.others,
+            Command::All | Command::Itself => !self.others,
+            Command::Synth | Command::Lower | Command::Why | Command::Check => false,
         }
     }
 
@@ -292,16 +293,16 @@ impl Walk {
     }
 }
 
-// The word of `self` is a number from 0 to 60.
-fn number_slip<'a>(word: &'a [u8]) -> Option<Found<'a>>
-    ensures { option_map wrong_of result ≡ number_slip word.now }
+// What is wrong with a word that is to be a number of a command.
+fn number_slip<'a>(command: Command, word: &'a [u8]) -> Option<Found<'a>>
+    ensures { option_map wrong_of result ≡ number_slip command word.now }
 {
-    let range = Range { low: 0, high: 60 };
+    let range = command.range();
     if range.has(word) {
         None
     } else {
         Some(Found {
-            slip: Slip::BadNumber,
+            slip: Slip::BadNumber(command),
             word,
         })
     }

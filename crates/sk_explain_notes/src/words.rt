@@ -5,7 +5,7 @@ ghost use Rattle.std.specs.String.{string_bytes};
 ghost use Rattle.sk_explain_notes.specs.Near.{nearest};
 ghost use Rattle.sk_explain_notes.specs.Options.{choice_name, command_has};
 ghost use Rattle.sk_explain_notes.specs.declared.slips.Slip.TheVariants as slip;
-ghost use Rattle.sk_explain_notes.specs.Words.{usage, question, command_names, names_of, no_command_title, no_others, wants_number, unknown_notes, value_title, value_notes, early_title, is_below_zero, takes_values, is_value, range_text, takes_text, wants_text, not_text, unknown_title, no_option_title, extra_words, extra_title, missing_title, slip_title, alone_notes, no_option_notes, input_notes, extra_notes, missing_notes, slip_notes, words_title, words_notes, first_word, not_built_title};
+ghost use Rattle.sk_explain_notes.specs.Words.{command_lines, usage, question, command_names, names_of, no_command_title, no_others, wants_number, unknown_notes, value_title, value_notes, early_title, is_below_zero, takes_values, is_value, range_text, takes_text, wants_text, not_text, unknown_title, no_option_title, extra_words, extra_title, missing_title, slip_title, alone_notes, no_option_notes, input_notes, extra_notes, missing_notes, slip_notes, words_title, words_notes, first_word, not_built_title};
 
 use crate::near::nearest;
 use crate::note::Told;
@@ -14,15 +14,26 @@ use crate::options::{CHOICES, Choice, Command, Range, Takes};
 use crate::slips::{Slip, halves, slip_of};
 use std::alloc::{AllocError, Global};
 
-// How the program is called.
-fn push_usage(told: &mut Told) -> Result<(), AllocError>
-    ensures notes { OnOk result (told.new.notes.bytes.items ≡ told.old.notes.bytes.items ++ usage) }
+// How the commands are called that take a text.
+fn push_commands(told: &mut Told) -> Result<(), AllocError>
+    ensures notes { OnOk result (told.new.notes.bytes.items ≡ told.old.notes.bytes.items ++ command_lines) }
     ensures title { told.new.title ≡ told.old.title }
 {
     told.note(&[b"usage: sketch synth [OPTION].. < SKETCH"])?;
     told.note(&[b"       sketch exec [OPTION].. NAME VALUE.. < PROGRAM"])?;
     told.note(&[b"       sketch trace [OPTION].. NAME VALUE.. < SKETCH"])?;
     told.note(&[b"       sketch lower [OPTION].. < SKETCH"])?;
+    told.note(&[b"       sketch all [OPTION].. K < SKETCH"])?;
+    told.note(&[b"       sketch why [OPTION].. < SKETCH"])?;
+    Ok(())
+}
+
+// How the program is called.
+fn push_usage(told: &mut Told) -> Result<(), AllocError>
+    ensures notes { OnOk result (told.new.notes.bytes.items ≡ told.old.notes.bytes.items ++ usage) }
+    ensures title { told.new.title ≡ told.old.title }
+{
+    push_commands(told)?;
     told.note(&[b"       sketch --help"])?;
     Ok(())
 }
@@ -53,6 +64,8 @@ fn near_command(alloc: Global, word: &[u8]) -> Result<Option<&'static [u8]>, All
             b"exec",
             b"trace",
             b"lower",
+            b"all",
+            b"why",
             b"check",
             b"self",
             b"--help",
@@ -116,6 +129,7 @@ fn takes_values(command: Command) -> bool
     match command {
         Command::Exec | Command::Trace => true,
         Command::Synth | Command::Lower | Command::Check | Command::Itself => false,
+        Command::All | Command::Why => false,
     }
 }
 
@@ -344,11 +358,17 @@ fn tell_extra(told: &mut Told, command: Command, word: &[u8]) -> Result<(), Allo
     ensures notes { OnOk result (told.new.notes.bytes.items ≡ told.old.notes.bytes.items ++ extra_notes command word.now) }
 {
     match command {
-        Command::Itself => {
-            told.title(&[b"self takes one number, and not '", word, b"' too"])?;
+        Command::All | Command::Itself => {
+            told.title(&[command.word(), b" takes one number"])?;
+            told.title(&[b", and not '", word, b"' too"])?;
             Ok(())
         }
-        Command::Synth | Command::Exec | Command::Trace | Command::Lower | Command::Check => {
+        Command::Synth
+        | Command::Exec
+        | Command::Trace
+        | Command::Lower
+        | Command::Why
+        | Command::Check => {
             push_extra(told, command, word)?;
             push_input(told, command, word)?;
             Ok(())
@@ -361,7 +381,8 @@ fn tell_wants_number(told: &mut Told, command: Command) -> Result<(), AllocError
     ensures title { OnOk result (told.new.title.bytes.items ≡ told.old.title.bytes.items ++ wants_number command) }
     ensures notes { told.new.notes ≡ told.old.notes }
 {
-    told.title(&[command.word(), b" wants a number, 0 to 60"])?;
+    told.title(&[command.word(), b" wants a number, "])?;
+    push_range(told, command.range())?;
     Ok(())
 }
 
@@ -381,7 +402,12 @@ fn tell_missing(told: &mut Told, command: Command) -> Result<(), AllocError>
             told.note(&[b"as in: sketch trace NAME VALUE.. < SKETCH"])?;
             Ok(())
         }
-        Command::Synth | Command::Lower | Command::Check | Command::Itself => {
+        Command::All => {
+            tell_wants_number(told, command)?;
+            told.note(&[b"as in: sketch all K < SKETCH"])?;
+            Ok(())
+        }
+        Command::Synth | Command::Lower | Command::Why | Command::Check | Command::Itself => {
             tell_wants_number(told, command)?;
             Ok(())
         }
@@ -420,6 +446,17 @@ fn tell_early(told: &mut Told, choice: Choice) -> Result<(), AllocError>
 {
     told.title(&[choice.name(), b" stands before the command"])?;
     push_usage(told)?;
+    Ok(())
+}
+
+// Tells of a word that is none of the numbers that a command takes.
+fn tell_bad_number(told: &mut Told, command: Command, word: &[u8]) -> Result<(), AllocError>
+    ensures title { OnOk result (told.new.title.bytes.items ≡ told.old.title.bytes.items ++ slip_title (slip.BadNumber command) word.now) }
+    ensures notes { told.new.notes ≡ told.old.notes }
+{
+    told.title(&[command.word(), b" takes a number, "])?;
+    push_range(told, command.range())?;
+    told.title(&[b", not '", word, b"'"])?;
     Ok(())
 }
 
@@ -479,8 +516,8 @@ fn tell_slip(alloc: Global, told: &mut Told, slip: Slip, word: &[u8]) -> Result<
             tell_missing(told, command)?;
             Ok(())
         }
-        Slip::BadNumber => {
-            told.title(&[b"self takes a number, 0 to 60, not '", word, b"'"])?;
+        Slip::BadNumber(command) => {
+            tell_bad_number(told, command, word)?;
             Ok(())
         }
         Slip::Nothing => {
@@ -501,7 +538,15 @@ pub fn tell_not_built(told: &mut Told, words: &[String]) -> Result<(), AllocErro
             told.title(&[b"'", first, b"' is a command that this program does not do"])?;
             Ok(())
         }
-        Some(Command::Synth | Command::Exec | Command::Trace | Command::Lower) | None => {
+        Some(
+            Command::Synth
+            | Command::Exec
+            | Command::Trace
+            | Command::Lower
+            | Command::All
+            | Command::Why,
+        )
+        | None => {
             told.title(&[b"this program writes no certificates: leave --cert out"])?;
             Ok(())
         }

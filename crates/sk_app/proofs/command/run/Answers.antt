@@ -1,5 +1,6 @@
 use Rattle.sk_app.proofs.EffectLaws as laws
 use Rattle.sk_app.proofs.HeadlineLaws.{headline}
+use Rattle.sk_app.proofs.ListingsLaws.{listings}
 use Rattle.sk_app.proofs.command.run.Goals as goal
 
 pub returns-clause-headline : goal.returns-clause-headline
@@ -142,3 +143,24 @@ returns-clause-ends_not_tagged g c = laws.ends_not_tagged c.answer-ending.ensure
 
 pub returns-clause-ends_refused : goal.returns-clause-ends_refused
 returns-clause-ends_refused g c = laws.ends_refused c.answer-ending.ensures
+
+pub returns-clause-listings : goal.returns-clause-listings
+returns-clause-listings g c = listings c.answer-ending.ensures
+
+pub returns-clause-listed : goal.returns-clause-listed
+returns-clause-listed g c = laws.listed c.answer-ending.ensures
+
+pub returns-clause-explained : goal.returns-clause-explained
+returns-clause-explained g c = laws.explained c.answer-ending.ensures
+
+pub returns-clause-met : goal.returns-clause-met
+returns-clause-met g c = laws.met c.answer-ending.ensures
+
+pub returns-clause-ends_listed : goal.returns-clause-ends_listed
+returns-clause-ends_listed g c = laws.ends_listed c.answer-ending.ensures
+
+pub returns-clause-ends_explained : goal.returns-clause-ends_explained
+returns-clause-ends_explained g c = laws.ends_explained c.answer-ending.ensures
+
+pub returns-clause-ends_met : goal.returns-clause-ends_met
+returns-clause-ends_met g c = laws.ends_met c.answer-ending.ensures
