@@ -1,6 +1,6 @@
-mod Read
+pub mod Read
 mod Walk
-mod Built
+pub mod Built
 mod Words
 mod Stay
 pub mod Structs

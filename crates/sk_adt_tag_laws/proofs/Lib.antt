@@ -8,3 +8,4 @@ pub mod WalkedStmts
 pub mod Ahead
 pub mod Expanded
 pub mod Fillings
+mod Computed

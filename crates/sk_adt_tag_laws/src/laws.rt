@@ -1,4 +1,5 @@
 //! What stays tagged.
+ghost use Rattle.sk_adt_tag_laws.specs.Examples.{TagExamples};
 ghost use Rattle.sk_adt_tag_laws.specs.Fillings.{ExpansionsStayTagged, FilledStayTagged, FillingsStayTagged};
 
 /// The expansion of a tagged program that keeps the rules of types and is well-formed is tagged.
@@ -17,4 +18,10 @@ pub fn filled_stay_tagged()
 #[tactic(auto, using(crate::proofs::Fillings::fillings_stay_tagged))]
 pub fn fillings_stay_tagged()
     ensures { FillingsStayTagged }
+{}
+
+/// Small programs with an algebraic type: the spans in them that break a rule of tags.
+#[tactic(auto, using(crate::proofs::Computed::examples))]
+pub fn tag_examples()
+    ensures { TagExamples }
 {}

@@ -3,4 +3,4 @@
 
 mod laws;
 
-pub use laws::{expansions_stay_tagged, filled_stay_tagged, fillings_stay_tagged};
+pub use laws::{expansions_stay_tagged, filled_stay_tagged, fillings_stay_tagged, tag_examples};

@@ -1,2 +1,3 @@
 pub mod PlainTexts
 pub mod Laws
+pub mod Kept

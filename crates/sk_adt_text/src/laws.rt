@@ -1,4 +1,5 @@
 //! What holds of the definitions.
+ghost use Rattle.sk_adt_text.specs.Kept.{TextsKeepVariants};
 ghost use Rattle.sk_adt_text.specs.Laws.{OneReason, OneSpan, OneText, NoReasonOfSpan, NoReasonOfText, NoSpanOfText, NoCauseOfReason, NoCauseOfSpan, NoCauseOfText};
 
 /// Of each text, with the options of a line, one thing holds: one text is written, or one span of its program is the first that breaks a rule of tags, or one
@@ -13,4 +14,10 @@ pub fn one_end()
     ensures no_cause_of_reason { NoCauseOfReason }
     ensures no_cause_of_span { NoCauseOfSpan }
     ensures no_cause_of_text { NoCauseOfText }
+{}
+
+/// Of each text that is written, with options in their ranges, the program has tags that are integers and keeps the rules of types, and its runs with records
+/// by their variants never stray, and end as its runs do; and the text shows that program.
+pub fn texts_keep_variants()
+    ensures { TextsKeepVariants }
 {}

@@ -8,6 +8,7 @@ ghost use Rattle.sk_front.specs.Texts.{most_bytes};
 ghost use Rattle.sk_front.specs.declared.fault.SketchFault.{SketchFault};
 ghost use Rattle.sk_front.specs.Front.{IsCause, IsToldAs, IsMemory};
 ghost use Rattle.sk_adt_text.specs.PlainTexts.{HasNoPlainForm, IsNotTagged, IsLoweredText, IsLowering, IsFaultOfPlain, IsFaultOfLowering, IsPlacedIn, IsPlacedFault, IsWritten, IsOfForm, IsWrittenAs};
+ghost use Rattle.sk_adt_text.specs.Kept.{IsKept};
 
 use crate::form::plain_form;
 use crate::meaning::meaning_of;
@@ -95,6 +96,8 @@ pub fn lowered_text(alloc: Global, set: &Set, text: &[u8]) -> Result<Lowering, S
     ensures found { IfOk result (IsLowering set.now text.now) }
     ensures fault { IfErr result (IsFaultOfLowering set.now text.now) }
     ensures place { IfErr result (IsPlacedFault text.now) }
+    // The program of a text that is written does what the algebraic types say, and the text shows it.
+    ensures kept { IfOk result (IsKept set.now text.now) }
     // The other direction: what holds of a text is what is answered.
     ensures only { (told : SketchFault) → IsCause (IsFaultOfLowering set.now text.now) told → MatchResult result (λ _. ⊥) (IsToldAs told) }
     ensures not_lowered { (reason : AdtFault) → HasNoPlainForm text.now reason → MatchResult result (λ told. told ≡ Lowering.NotLowered reason) IsMemory }

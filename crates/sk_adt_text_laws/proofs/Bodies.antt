@@ -1,5 +1,5 @@
 -- No token `struct` stands in an item that is none, nor behind the first token of one, where each string of their patterns reads.
-use Rattle.std.proofs.Common.{◌≡◌, inl, inr, Bool, true, List, [], ◌∷◌, ◌++◌, Option, Some, None, refl, sym, ap, subst, ◌∙◌}
+use Rattle.std.proofs.Common.{Bool, true, List, [], ◌∷◌, ◌++◌, Option, Some, None, refl, sym, ap, subst}
 use Rattle.std.specs.Prelude.{map, flat_map}
 use Rattle.sk_tree.specs.declared.token.Token.{Token}
 use Rattle.sk_tree.specs.declared.token.Kind.TheVariants as kind
@@ -27,7 +27,7 @@ use Rattle.sk_tree.specs.Phrase.{Phrase, Sign, Keyword, One, ◌▸◌, Each, Be
 use Rattle.sk_tree.specs.Patterns.{Patterns, join, any_patterns, expr_patterns, ty_patterns, declared_patterns, form_patterns, stmt_patterns, field_patterns, param_patterns, fun_patterns}
 use Rattle.sk_tree.specs.Spelt.{SpeltBase, SpeltLength, SpeltTy, SpeltExpr, Role, InBlock, AsBody, AsFirst, AsNext, Ending, SpeltDeclared, SpeltStep, SpeltTarget, SpeltParens, SpeltStmt, SpeltField, SpeltRef, SpeltParam, SpeltKind, SpeltResult, SpeltFun}
 use Rattle.sk_tree.proofs.Layers.{StmtLayer, stmt_parts, stmt_law, SpeltForm, FormLayer, form_is, stmt_is}
-use Rattle.sk_adt_text_laws.proofs.Others.{others, Free, then, one, sign, word, given, spans, nothing, same, AllFit, parts_fit, Clean, expr_free}
+use Rattle.sk_adt_text_laws.proofs.Others.{Free, then, one, sign, word, given, spans, nothing, same, AllFit, parts_fit, Clean, expr_free}
 
 abbrev pub Held : Patterns → Type 0
 Held = AllFit Clean

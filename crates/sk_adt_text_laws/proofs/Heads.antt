@@ -1,5 +1,5 @@
 -- Where the tokens of a tree hold the head of an algebraic struct, the tree has that struct, and its first field is the tag.
-use Rattle.std.proofs.Common.{◌≡◌, ◌⊎◌, inl, inr, ℕ, suc, ◌<◌, Bool, true, false, List, [], ◌∷◌, ◌++◌, map, Contains, codes, refl, sym, ap, subst, ◌∙◌, arith}
+use Rattle.std.proofs.Common.{◌≡◌, ◌⊎◌, inl, inr, ℕ, suc, true, false, List, [], ◌∷◌, ◌++◌, Contains, codes, refl, sym, ap, ◌∙◌, arith}
 use Rattle.std.specs.Prelude.{flat_map}
 use Rattle.std.specs.List.{list_all}
 use Rattle.std.proofs.lemmas.List.{map-append, append-nil}
@@ -13,22 +13,20 @@ use Rattle.sk_tree.specs.declared.pattern.Pattern.{Pattern}
 use Rattle.sk_tree.specs.declared.expr.Expr.{Expr}
 use Rattle.sk_tree.specs.declared.item.Base.{Base}
 use Rattle.sk_tree.specs.declared.item.Base.TheVariants as base
-use Rattle.sk_tree.specs.declared.item.TyTree.{TyTree}
 use Rattle.sk_tree.specs.declared.item.Field.{Field}
 use Rattle.sk_tree.specs.declared.item.Item.{Item}
 use Rattle.sk_tree.specs.declared.item.Item.TheVariants as item
 use Rattle.sk_tree.specs.declared.item.Tree.{Tree}
-use Rattle.sk_tree.specs.Phrase.{Phrase, One, Sign, Keyword, ◌▸◌, Each}
-use Rattle.sk_tree.specs.Patterns.{Patterns, expr_patterns, field_patterns, item_patterns, patterns_of}
-use Rattle.sk_tree.specs.Spelt.{SpeltField, SpeltItem, SpeltTree}
-use Rattle.sk_tree.specs.Spell.{Kinds, each, spell_base, spell_length, spell_field, spell_item}
-use Rattle.sk_tree.specs.Reads.{HasTooManyStrings, HasBadAlternative}
+use Rattle.sk_tree.specs.Phrase.{Each}
+use Rattle.sk_tree.specs.Patterns.{Patterns, field_patterns, item_patterns, patterns_of}
+use Rattle.sk_tree.specs.Spelt.{SpeltField, SpeltItem}
+use Rattle.sk_tree.specs.Spell.{Kinds, spell_item}
 use Rattle.sk_tree.proofs.Says.{kinds}
 use Rattle.sk_tree.proofs.KindLaws.{tree_says}
 use Rattle.sk_parser.specs.Parses.{IsTreeOf}
 use Rattle.sk_types_laws.proofs.Ats.{both_true}
 use Rattle.sk_adt_laws.specs.Heads.{head, HasHead}
-use Rattle.sk_adt_text_laws.proofs.Others.{is_other, others, Free, then, one, sign, word, Clean, expr_free}
+use Rattle.sk_adt_text_laws.proofs.Others.{is_other, others, then, one, sign, word, Clean, expr_free}
 use Rattle.sk_adt_text_laws.proofs.Bodies.{Held, halves, each_free, field_free, fun_free}
 
 abbrev struct : Kind

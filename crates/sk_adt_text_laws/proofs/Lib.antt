@@ -2,6 +2,8 @@ mod Others
 mod Bodies
 mod Heads
 mod Typed
-mod Tags
+pub mod Tags
 pub mod Rules
 pub mod Composed
+mod Words
+pub mod Shown

@@ -1,5 +1,5 @@
 -- No token `struct` stands in an expression or in a statement, where each string of their patterns reads.
-use Rattle.std.proofs.Common.{◌≡◌, inl, inr, Bool, true, false, List, [], ◌∷◌, ◌++◌, Contains, Option, Some, None, refl, sym, ap, subst, ◌∙◌}
+use Rattle.std.proofs.Common.{◌≡◌, inl, inr, Bool, true, false, List, [], ◌∷◌, ◌++◌, Some, None, refl, sym, ap, subst, ◌∙◌}
 use Rattle.std.specs.Prelude.{map, flat_map}
 use Rattle.std.specs.List.{list_all, AllZip}
 use Rattle.std.proofs.lemmas.List.Folds.{list_all-append}
@@ -11,7 +11,6 @@ use Rattle.sk_tree.specs.declared.token.Mark.TheVariants as mark
 use Rattle.sk_tree.specs.declared.token.Key.TheVariants as key
 use Rattle.sk_tree.specs.declared.pattern.Pattern.{Pattern}
 use Rattle.sk_tree.specs.declared.pattern.Pattern.TheOpen as P
-use Rattle.sk_tree.specs.declared.pattern.Pattern.TheViews.{roll-Pattern}
 use Rattle.sk_tree.specs.declared.pattern.Pattern.TheFolds.{map-Pattern, fold-roll-Pattern}
 use Rattle.sk_tree.specs.declared.expr.Expr.{Expr}
 use Rattle.sk_tree.specs.declared.expr.EForm.{EForm}
@@ -19,10 +18,10 @@ use Rattle.sk_tree.specs.declared.expr.NewField.{NewField}
 use Rattle.sk_tree.specs.declared.expr.EForm.TheOpen as E
 use Rattle.sk_tree.specs.declared.expr.EForm.TheViews.{roll-EForm}
 use Rattle.sk_tree.specs.declared.expr.EForm.TheFolds.{map-EForm, fold-EForm, fold-NewField, fold-roll-EForm, fold-roll-Expr, fold-roll-NewField}
-use Rattle.sk_tree.specs.Phrase.{Phrase, Never, Nothing, Given, One, Sign, ◌▸◌, Each, Behind, Between, Perhaps}
+use Rattle.sk_tree.specs.Phrase.{Phrase, Never, Nothing, Given, One, Sign, ◌▸◌, Each, Behind, Between}
 use Rattle.sk_tree.specs.Strings.{Strings, pairs, rows, pattern_strings, strings_of}
 use Rattle.sk_tree.specs.Patterns.{Patterns, join, eform_patterns, expr_patterns}
-use Rattle.sk_tree.specs.Spelt.{Spans, PatternRole, AsChoice, AsSequence, AsPart, AsPlain, is_plain, may_stand, SpeltPart, Saying, SpeltString, ReadsString, HasTooMany, HasBad, Holds, SpeltPattern, SpeltExpr}
+use Rattle.sk_tree.specs.Spelt.{Spans, PatternRole, AsChoice, AsSequence, AsPart, AsPlain, SpeltPart, Saying, SpeltString, ReadsString, HasTooMany, HasBad, Holds, SpeltPattern, SpeltExpr}
 use Rattle.sk_tree.proofs.Layers.{PatternLayer, pattern_parts, pattern_law, PartLayer, part_spelt, ExprLayer, expr_parts, expr_law, FormBy, ExprBy, FieldBy, LayerBy, form_by, expr_by, field_by}
 use Rattle.sk_types_laws.proofs.Ats.{both_true, both}
 

@@ -1,5 +1,5 @@
 -- In a program that plain tokens mean, the tag of each struct of an algebraic type is an integer.
-use Rattle.std.proofs.Common.{◌≡◌, ℕ, zero, suc, Bool, true, false, List, [], ◌∷◌, map, Option, Some, None, refl, sym, ap, subst, ◌∙◌, if◌then◌else◌}
+use Rattle.std.proofs.Common.{◌≡◌, ℕ, suc, Bool, true, false, List, [], ◌∷◌, map, Option, Some, None, refl, subst, if◌then◌else◌}
 use Rattle.std.specs.Prelude.{option_and_then, slice_get}
 use Rattle.std.specs.Str.{bytes_eq}
 use Rattle.std.proofs.lemmas.Slice.Eq.{bytes_eq-Decides}
@@ -9,7 +9,7 @@ use Rattle.sk_adt_tags.specs.Tags.{type_named}
 use Rattle.sk_adt_laws.specs.Heads.{HasHead}
 use Rattle.sk_adt_laws.proofs.Structs.{structs}
 use Rattle.sk_adt_text_laws.specs.Lowered.{LoweredTagsAreIntegers}
-use Rattle.sk_adt_text_laws.proofs.Heads.{AnyTagged, tree_tagged}
+use Rattle.sk_adt_text_laws.proofs.Heads.{tree_tagged}
 use Rattle.sk_adt_text_laws.proofs.Typed.{tag_is_int}
 
 -- the type that is found has the name

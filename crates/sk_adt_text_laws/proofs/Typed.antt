@@ -1,5 +1,5 @@
 -- In a program that a tree means, a struct whose first field is written as the tag has an integer there, and no other struct has its name.
-use Rattle.std.proofs.Common.{◌≡◌, inl, inr, ℕ, zero, suc, Bool, true, false, List, [], ◌∷◌, ◌++◌, Option, Some, None, refl, sym, ap, subst, ◌∙◌}
+use Rattle.std.proofs.Common.{◌≡◌, inl, inr, ℕ, zero, suc, Bool, true, false, List, [], ◌∷◌, ◌++◌, Some, refl, sym, ap, subst, ◌∙◌}
 use Rattle.std.specs.Prelude.{not, ◌&&◌, ◌||◌, map, slice_get}
 use Rattle.std.specs.List.{list_any}
 use Rattle.std.specs.Str.{bytes_eq}
@@ -9,7 +9,6 @@ use Rattle.sk_tree.specs.declared.item.Field.{Field}
 use Rattle.sk_tree.specs.declared.item.Item.{Item}
 use Rattle.sk_tree.specs.declared.item.Item.TheVariants as item
 use Rattle.sk_tree.specs.declared.item.Tree.{Tree}
-use Rattle.sk_prog.specs.declared.ty.Ty.{Ty}
 use Rattle.sk_prog.specs.declared.ty.Ty.TheVariants as ty
 use Rattle.sk_prog.specs.declared.ty.Elem.TheVariants as elem
 use Rattle.sk_prog.specs.declared.prog.FieldDef.{FieldDef}
@@ -17,7 +16,7 @@ use Rattle.sk_prog.specs.declared.prog.StructDef.{StructDef}
 use Rattle.sk_prog.specs.declared.prog.ConstDef.{ConstDef}
 use Rattle.sk_prog.specs.declared.prog.Fun.{Fun}
 use Rattle.sk_prog.specs.declared.prog.Prog.{Prog}
-use Rattle.sk_types_rules.specs.Scope.{Known, Top, top_of, top_names, Context, all_distinct}
+use Rattle.sk_types_rules.specs.Scope.{Known, Top, top_of, Context, all_distinct}
 use Rattle.sk_types_rules.specs.Sorts.{written_type}
 use Rattle.sk_types_rules.specs.Plain.{plain_items}
 use Rattle.sk_types_rules.specs.Types.{StructFieldsMean, ItemsMean, Types}

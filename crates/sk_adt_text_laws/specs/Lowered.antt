@@ -1,5 +1,5 @@
 -- What holds of the program that the plain tokens of a text mean.
-use Rattle.std.specs.Prelude.{ℕ, ◌≡◌, IsTrue, not, List, slice_get, Some, Ok}
+use Rattle.std.specs.Prelude.{◌≡◌, IsTrue, not, List, slice_get, Some, Ok}
 use Rattle.sk_base.specs.declared.bounds.Bounds.{Bounds}
 use Rattle.sk_tree.specs.declared.token.Token.{Token}
 use Rattle.sk_tree.specs.declared.item.Tree.{Tree}

@@ -363,5 +363,9 @@ of_item (item.Fun f) =
     (says_both (of_implements f.implements) (says_right (says_left
     (all_each (λ s. SpeltStmt s InBlock) (stmt_names is_name) (λ s. of_stmt s InBlock) f.body)))))))))
 
+-- the names of a tree that tokens spell, where the words of these are names
+pub spelt_named : (tokens : List Token) (tree : Tree) → SpeltTree tree tokens → named tokens ≡ true → all_names is_name tree ≡ true
+spelt_named tokens tree spelt held = (all_each SpeltItem (item_names is_name) of_item tree.items).says tokens spelt held
+
 pub tree_named : (text : List ℕ) (tokens : List Token) (tree : Tree) → AreTokens text tokens → SpeltTree tree tokens → all_names is_name tree ≡ true
-tree_named text tokens tree lexed spelt = (all_each SpeltItem (item_names is_name) of_item tree.items).says tokens spelt (tokens_named text tokens lexed)
+tree_named text tokens tree lexed spelt = spelt_named tokens tree spelt (tokens_named text tokens lexed)
