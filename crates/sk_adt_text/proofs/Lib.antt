@@ -1,3 +1,3 @@
 pub mod PlainLaws
 pub mod Answering
-mod Keeping
+pub mod Keeping

@@ -11,5 +11,6 @@ mod QuestionLaws
 mod EffectLaws
 mod HeadlineLaws
 mod ListingsLaws
+mod KeptLaws
 pub mod SpentLaws
 pub mod CompleteLaws

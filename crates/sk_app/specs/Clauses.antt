@@ -21,7 +21,8 @@ use Rattle.sk_front.specs.declared.fault.TextFault.{TextFault}
 use Rattle.sk_front.specs.declared.fault.SketchFault.{SketchFault}
 use Rattle.sk_front.specs.declared.fault.SketchFault.TheVariants as sketch
 use Rattle.sk_adt.specs.declared.algebraic.AdtFault.{AdtFault}
-use Rattle.sk_adt_text.specs.PlainTexts.{HasNoPlainForm, IsNotTagged, IsLoweredText, IsFaultOfLowering, IsPlacedFault}
+use Rattle.sk_adt_text.specs.Kept.{KeepsVariants}
+use Rattle.sk_adt_text.specs.PlainTexts.{HasPlainForm, HasNoPlainForm, IsNotTagged, IsLoweredText, IsFaultOfLowering, IsPlacedFault}
 use Rattle.sk_types_laws.specs.declared.fault.TypeFault.{TypeFault}
 use Rattle.sk_expand_sizes.specs.declared.fault.SizeFault.{SizeFault}
 use Rattle.sk_exec.specs.declared.fault.ExecFault.{ExecFault}
@@ -184,6 +185,11 @@ NotRunEnds c = (set : Set) (job : Job) → IsJob c.words set job → OfText c (�
 -- The sink got the text of the program that the plain form of the text means, which is tagged.
 abbrev pub TellsLowered : Call → Type 0
 TellsLowered c = c.ending ≡ Lowered → ForLower c.words (λ set. OfText c (λ text. Gets c (IsLoweredText set text)))
+
+-- And it keeps what the algebraic types of the text say: tags are integers, runs never stray from the variants, and the text that
+-- the sink got shows its program.
+abbrev pub KeepsTypes : Call → Type 0
+KeepsTypes c = c.ending ≡ Lowered → ForLower c.words (λ set. OfText c (λ text. Gets c (λ out. HasPlainForm text (KeepsVariants set out))))
 
 -- A text with such a program ends so.
 abbrev pub LoweredEnds : Call → Type 0

@@ -20,7 +20,7 @@ ghost use Rattle.sk_app.specs.Effects.{is_of_synth, TellsSpan, Serves, Answers};
 ghost use Rattle.sk_app.specs.Call.{effect, call};
 ghost use Rattle.sk_app.specs.Headline.{Headline};
 ghost use Rattle.sk_app.specs.Listings.{Listings};
-ghost use Rattle.sk_app.specs.Clauses.{TellsNoLine, NoLineEnds, TellsUnbuilt, UnbuiltEnds, TellsHelp, HelpEnds, TellsVersion, VersionEnds, TellsCompletion, TellsNone, TellsRounds, TellsConflicts, BuiltEnds, TellsNotText, PlacesNotText, FaultyEnds, TellsNotTyped, PlacesNotTyped, UntypedEnds, TellsTooLarge, LargeEnds, CopiesEnds, TellsTooLong, LongEnds, TellsDone, TellsFailed, TellsSkipped, RunEnds, TellsNotRun, TellsNotFilled, NotRunEnds, TellsLowered, LoweredEnds, TellsNotLowered, NotLoweredEnds, TellsNotTagged, NotTaggedEnds, RefusedEnds, TellsListed, ListedEnds, TellsExplained, ExplainedEnds, TellsMet, MetEnds, TellsReadFault, TellsWriteFault, CutsOutput, CutsHelp, CutsVersion, KeepsSink, ReadsFew, LeavesSource};
+ghost use Rattle.sk_app.specs.Clauses.{TellsNoLine, NoLineEnds, TellsUnbuilt, UnbuiltEnds, TellsHelp, HelpEnds, TellsVersion, VersionEnds, TellsCompletion, TellsNone, TellsRounds, TellsConflicts, BuiltEnds, TellsNotText, PlacesNotText, FaultyEnds, TellsNotTyped, PlacesNotTyped, UntypedEnds, TellsTooLarge, LargeEnds, CopiesEnds, TellsTooLong, LongEnds, TellsDone, TellsFailed, TellsSkipped, RunEnds, TellsNotRun, TellsNotFilled, NotRunEnds, TellsLowered, KeepsTypes, LoweredEnds, TellsNotLowered, NotLoweredEnds, TellsNotTagged, NotTaggedEnds, RefusedEnds, TellsListed, ListedEnds, TellsExplained, ExplainedEnds, TellsMet, MetEnds, TellsReadFault, TellsWriteFault, CutsOutput, CutsHelp, CutsVersion, KeepsSink, ReadsFew, LeavesSource};
 
 use crate::direct::{Job, Way, run_source};
 use crate::ending::Ending;
@@ -205,6 +205,7 @@ pub fn run<S: Source, K: Sink>(
 
     // A line `lower`.
     ensures lowered { TellsLowered (call S.Source K.Sink words.now result source sink) }
+    ensures kept_types { KeepsTypes (call S.Source K.Sink words.now result source sink) }
     ensures ends_lowered { LoweredEnds (call S.Source K.Sink words.now result source sink) }
     ensures not_lowered { TellsNotLowered (call S.Source K.Sink words.now result source sink) }
     ensures ends_not_lowered { NotLoweredEnds (call S.Source K.Sink words.now result source sink) }

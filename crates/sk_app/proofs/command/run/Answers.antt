@@ -1,6 +1,7 @@
 use Rattle.sk_app.proofs.EffectLaws as laws
 use Rattle.sk_app.proofs.HeadlineLaws.{headline}
 use Rattle.sk_app.proofs.ListingsLaws.{listings}
+use Rattle.sk_app.proofs.KeptLaws.{kept_types}
 use Rattle.sk_app.proofs.command.run.Goals as goal
 
 pub returns-clause-headline : goal.returns-clause-headline
@@ -125,6 +126,9 @@ returns-clause-ends_not_run g c = laws.ends_not_run c.answer-ending.ensures
 
 pub returns-clause-lowered : goal.returns-clause-lowered
 returns-clause-lowered g c = laws.lowered c.answer-ending.ensures
+
+pub returns-clause-kept_types : goal.returns-clause-kept_types
+returns-clause-kept_types g c = kept_types c.answer-ending.ensures
 
 pub returns-clause-not_lowered : goal.returns-clause-not_lowered
 returns-clause-not_lowered g c = laws.not_lowered c.answer-ending.ensures
