@@ -167,16 +167,12 @@ def tried(piece):
 
 
 def inputs_of(it, lines):
-    """The inputs that lines `//@ input O A ..` name."""
+    """The inputs that lines `//@ input O A ..` name, an argument a word."""
     inputs = []
     for line in lines:
         words = line.split()[2:]
-        given, args = [int(w) for w in words[1:]], []
-        for t in it.questions[int(words[0])][1]:
-            size = t[2] if t[0] == "arr" else 1
-            args.append(given[:size] if t[0] == "arr" else given[0])
-            del given[:size]
-        inputs.append((int(words[0]), args))
+        types = it.questions[int(words[0])][1]
+        inputs.append((int(words[0]), [cases.value(w, t, it.bounds["W"]) for w, t in zip(words[1:], types)]))
     return inputs
 
 

@@ -1,0 +1,10 @@
+use Rattle.std.proofs.Common.{◌≡◌, ◌++◌, length}
+use Rattle.std.specs.List.{flat_map}
+use Rattle.sk_all_text.specs.AllLines.{holes_line}
+use Rattle.sk_all_text.proofs.lines.push_choices.Given as goal
+
+abbrev pub invariant-loop-rest : goal.invariant-loop-rest
+invariant-loop-rest l = l.out.items ++ flat_map holes_line l.rest ≡ l.fn.out.items ++ flat_map holes_line l.choices
+
+abbrev pub decreases-loop-rest : goal.decreases-loop-rest
+decreases-loop-rest l = length l.rest

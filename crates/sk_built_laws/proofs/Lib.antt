@@ -1,0 +1,3 @@
+pub mod Fillable
+pub mod Taken
+pub mod Refusals
