@@ -1,5 +1,5 @@
 -- What a test tells.
-use Rattle.std.proofs.Common.{◌≡◌, false, true, true≢false, refl, sym}
+use Rattle.std.proofs.Common.{false, true, true≢false, refl, sym}
 use Rattle.std.specs.Prelude.{IsTrue, ◌↔◌}
 
 -- a test that fails tells that something is not so

@@ -11,4 +11,5 @@ mod stop;
 mod verdict;
 
 pub use accepting::accepts;
+pub use sk_check_laws::Reason;
 pub use verdict::Verdict;

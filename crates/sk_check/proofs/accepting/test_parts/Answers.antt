@@ -1,4 +1,3 @@
-use Rattle.std.proofs.Common.{◌≡◌}
 use Rattle.sk_check.proofs.accepting.test_parts.Goals as goal
 
 pub test_formulas-requires-clause-five : goal.test_formulas-requires-clause-five

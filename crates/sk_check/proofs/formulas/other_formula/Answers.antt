@@ -1,4 +1,3 @@
-use Rattle.std.proofs.Common.{◌≡◌}
 use Rattle.sk_check.proofs.Asked.{same_asks}
 use Rattle.sk_check.proofs.formulas.other_formula.Goals as goal
 

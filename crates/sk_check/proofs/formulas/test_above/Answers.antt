@@ -1,4 +1,4 @@
-use Rattle.std.proofs.Common.{◌≡◌, length}
+use Rattle.std.proofs.Common.{length}
 use Rattle.sk_check.proofs.Asked.{above_some}
 use Rattle.sk_check.proofs.formulas.test_above.Goals as goal
 

@@ -1,4 +1,3 @@
-use Rattle.std.proofs.Common.{◌≡◌}
 use Rattle.sk_check.proofs.Asked.{all_ask}
 use Rattle.sk_check.proofs.formulas.test_formulas.Goals as goal
 

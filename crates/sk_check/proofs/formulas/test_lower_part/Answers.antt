@@ -1,4 +1,3 @@
-use Rattle.std.proofs.Common.{◌≡◌}
 use Rattle.sk_check.proofs.Asked.{asks_below, lower_asked, rejected_below}
 use Rattle.sk_check.proofs.formulas.test_lower_part.Goals as goal
 

@@ -1,4 +1,3 @@
-use Rattle.std.proofs.Common.{◌≡◌}
 use Rattle.sk_check.proofs.Asked.{asks_at, rejected_above, upper_asked}
 use Rattle.sk_check.proofs.formulas.test_upper_formula.Goals as goal
 

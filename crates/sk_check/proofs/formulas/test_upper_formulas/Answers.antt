@@ -1,4 +1,4 @@
-use Rattle.std.proofs.Common.{◌≡◌, ◌<◌, ℕ, length, ap, arith}
+use Rattle.std.proofs.Common.{length, ap, arith}
 use Rattle.sk_check.proofs.Asked.{asks_next}
 use Rattle.sk_check.proofs.formulas.test_upper_formulas.Goals as goal
 

@@ -1,4 +1,3 @@
-use Rattle.std.proofs.Common.{◌≡◌}
 use Rattle.sk_check.proofs.parts.test_lower.Goals as goal
 
 pub returns-then-not-refuted-clause-stops : goal.returns-then-not-refuted-clause-stops

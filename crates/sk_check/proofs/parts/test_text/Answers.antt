@@ -1,4 +1,4 @@
-use Rattle.std.proofs.Common.{◌≡◌, ◌∙◌, ℕ, List, sym, subst}
+use Rattle.std.proofs.Common.{◌∙◌, ℕ, List, sym, subst}
 use Rattle.sk_check_laws.specs.Parts.{is_layout}
 use Rattle.sk_check.proofs.Rejecting.{one_layout}
 use Rattle.sk_check.proofs.parts.test_text.Goals as goal

@@ -1,4 +1,4 @@
-use Rattle.std.proofs.Common.{◌≡◌, All, sym, subst}
+use Rattle.std.proofs.Common.{All, sym, subst}
 use Rattle.sk_check_laws.specs.Parts.{Refuting}
 use Rattle.sk_check.proofs.parts.test_upper.Goals as goal
 
