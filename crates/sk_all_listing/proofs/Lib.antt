@@ -1,0 +1,4 @@
+pub mod Ordering
+pub mod Apart
+pub mod Proposals
+pub mod Lists
