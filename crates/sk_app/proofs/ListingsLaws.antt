@@ -1,5 +1,5 @@
 -- What a line `all` and a line `why` say, from what a call does for them.
-use Rattle.std.proofs.Common.{◌≡◌, ℕ, ◌<◌, inl, inr, List, [], ◌∷◌, lit<, refl, sym, ap, ◌∙◌, arith}
+use Rattle.std.proofs.Common.{◌≡◌, ℕ, ◌<◌, inl, inr, List, [], ◌∷◌, lit<, sym, ap, ◌∙◌, arith}
 use Rattle.std.specs.Prelude.{IfSome, Contains}
 use Rattle.std.proofs.lemmas.List.Elements.{All-contains}
 use Rattle.sk_base.specs.declared.bounds.Bounds.{Bounds}
@@ -27,7 +27,7 @@ use Rattle.sk_app.specs.declared.ending.Ending.{Ending}
 use Rattle.sk_app.specs.declared.ending.Ending.TheVariants as ending
 use Rattle.sk_app.specs.Ending.{text_refusal, status_of}
 use Rattle.sk_app.specs.Ends.{delivered, cut, no_room, Writes}
-use Rattle.sk_app.specs.Effects.{refusal, unanswered, replied, Asks, Answers}
+use Rattle.sk_app.specs.Effects.{refusal, unanswered, replied, Answers}
 use Rattle.sk_app.specs.Call.{Effect}
 use Rattle.sk_app.specs.Headline.{ForSketch}
 use Rattle.sk_app.specs.Listings.{Completes, AreApart, IsList, IsExplanation, IsOne, Listings}

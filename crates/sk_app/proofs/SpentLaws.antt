@@ -1,5 +1,5 @@
 -- Parts of the texts of a spent budget.
-use Rattle.std.proofs.Common.{◌≡◌, ℕ, List, [], ◌++◌, Option, Some, None, refl}
+use Rattle.std.proofs.Common.{◌≡◌, ℕ, List, ◌++◌, Option, Some, None, refl}
 use Rattle.std.proofs.lemmas.List.{append_assoc}
 use Rattle.sk_model.specs.declared.expanded.Choice.{Choice}
 use Rattle.sk_model.specs.declared.expanded.Expanded.{Expanded}

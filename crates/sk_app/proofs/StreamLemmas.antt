@@ -6,6 +6,7 @@ use Rattle.sk_base.specs.Stream.{Counts, IsAppended}
 use Rattle.sk_front.specs.Texts.{most_bytes}
 use Rattle.sk_app.specs.Streams.{Appends, TakesFew}
 use Rattle.sk_app.specs.ReadStep.{Loses}
+use Rattle.sk_app.specs.Help.{usage_text, statuses_text, help_text}
 
 -- what is written, and what is left of the bytes
 pub record IsWriting (bytes rest : List ℕ) (old new : Option (List ℕ)) (faults_old faults_new spare : ℕ) : Type 0 where
@@ -54,3 +55,7 @@ loses_few {text} {old} {mid} {new} h l fits = record {
   few = rw (length-append text l.bytes) (omega (arith, fits, l.most));
   split = front-more text l.bytes old mid new h.front l.left;
 }
+
+-- the help is its two parts, one behind the other
+pub help_joins : (all first second : List ℕ) → all ≡ first ++ second → first ≡ usage_text → second ≡ statuses_text → all ≡ help_text
+help_joins all first second is a b = is ∙ (λ i. a i ++ b i)

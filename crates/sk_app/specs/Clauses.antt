@@ -39,7 +39,7 @@ use Rattle.sk_app.specs.ResultText.{IsCompletion, IsNone}
 use Rattle.sk_app.specs.Spent.{AreLearnt, IsSpentRounds, IsSpentConflicts}
 use Rattle.sk_app.specs.Streams.{Appends, AppendsPrefix, TakesFew}
 use Rattle.sk_app.specs.Help.{help_text, version_text}
-use Rattle.sk_app.specs.Lines.{IsNoLine, IsSearch, ForSearch, IsSynth, ForSynth, IsJob, ForJob, ForTrace, ForLower, ForAll, ForWhy, TakesText, SizesText, ForText, ReadsText, IsUnbuiltLine}
+use Rattle.sk_app.specs.Lines.{IsNoLine, IsSearch, ForSearch, ForSynth, IsJob, ForJob, ForTrace, ForLower, ForAll, ForWhy, TakesText, SizesText, ForText, ReadsText, IsUnbuiltLine}
 use Rattle.sk_app.specs.Jobs.{IsStopped, IsRunOfJob}
 use Rattle.sk_app.specs.Questions.{IsExplained, IsMet}
 use Rattle.sk_app.specs.Ends.{WritesPart, writes_nothing, Ends, IsOfBuilt, IsOfFault, IsOfUntyped, IsOfRefused, ending_of, stopped}

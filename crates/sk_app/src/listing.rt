@@ -26,13 +26,7 @@ pub enum Question {
 }
 
 /// Writes the reply to a question about a text, or says why there is none.
-fn reply<K: Sink>(
-    alloc: Global,
-    set: &Set,
-    question: Question,
-    text: &[u8],
-    sink: &mut K,
-) -> Ending
+fn reply<K: Sink>(alloc: Global, set: &Set, question: Question, text: &[u8], sink: &mut K) -> Ending
     requires short { length text.now ≤ most_bytes }
     requires set { IsInRanges set.now }
     requires some { AsksForSome question }
