@@ -1,8 +1,8 @@
 -- Words and the signs in them, and numbers that are not too large.
-use Rattle.std.proofs.Common.{◌≡◌, suc, ◌≤◌, ◌<◌, ◌+◌, ◌*◌, ◌^◌, ◌==◌, ℕ, Bool, true, false, cond, List, [], ◌∷◌, length, take, drop, Option, Some, None, refl, ap, arith, rules}
+use Rattle.std.proofs.Common.{◌≡◌, suc, ◌≤◌, ◌^◌, ◌==◌, ℕ, Bool, true, false, List, [], ◌∷◌, length, take, drop, Option, Some, None, refl, ap, arith}
 use Rattle.std.specs.List.{list_all}
 use Rattle.std.proofs.Math.Nat.{pow-le-pow_right}
-use Rattle.sk_explain_notes.specs.Numbers.{is_number, between_commas, longer_first, are_numbers, front_of, back_of}
+use Rattle.sk_explain_notes.specs.Numbers.{is_number, between_commas, longer_first, front_of, back_of}
 
 -- ten digits at most
 pub power_within : (i : ℕ) → i ≤ 10 → 10 ^ i ≤ 10000000000

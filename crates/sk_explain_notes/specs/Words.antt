@@ -6,7 +6,7 @@ use Rattle.sk_explain_notes.specs.Notes.{said, line_said, one, one_line}
 use Rattle.sk_explain_notes.specs.Near.{nearest}
 use Rattle.sk_explain_notes.specs.Numbers.{number_of, front_of}
 use Rattle.sk_explain_notes.specs.Options.{command_word, command_of, command_has, command_range, choice_name, choices, choice_takes}
-use Rattle.sk_explain_notes.specs.Slips.{Wrong, slip_of}
+use Rattle.sk_explain_notes.specs.Slips.{slip_of}
 use Rattle.sk_explain_notes.specs.declared.options.Command.{Command}
 use Rattle.sk_explain_notes.specs.declared.options.Command.TheVariants as command
 use Rattle.sk_explain_notes.specs.declared.options.Choice.{Choice}
@@ -172,12 +172,15 @@ extra_notes command.Trace word = input_notes command.Trace word
 extra_notes command.Lower word = input_notes command.Lower word
 extra_notes command.Check word = input_notes command.Check word
 
+abbrev pub listing_notes : List ℕ
+listing_notes = one_line (codes "as in: sketch all K < SKETCH")
+
 abbrev pub missing_notes : Command → List ℕ
 missing_notes command.Exec = one_line (codes "as in: sketch exec NAME VALUE.. < PROGRAM")
 missing_notes command.Trace = one_line (codes "as in: sketch trace NAME VALUE.. < SKETCH")
 missing_notes command.Synth = []
 missing_notes command.Lower = []
-missing_notes command.All = one_line (codes "as in: sketch all K < SKETCH")
+missing_notes command.All = listing_notes
 missing_notes command.Why = []
 missing_notes command.Check = []
 missing_notes command.Itself = []

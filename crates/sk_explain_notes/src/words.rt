@@ -5,7 +5,7 @@ ghost use Rattle.std.specs.String.{string_bytes};
 ghost use Rattle.sk_explain_notes.specs.Near.{nearest};
 ghost use Rattle.sk_explain_notes.specs.Options.{choice_name, command_has};
 ghost use Rattle.sk_explain_notes.specs.declared.slips.Slip.TheVariants as slip;
-ghost use Rattle.sk_explain_notes.specs.Words.{command_lines, usage, question, command_names, names_of, no_command_title, no_others, wants_number, unknown_notes, value_title, value_notes, early_title, is_below_zero, takes_values, is_value, range_text, takes_text, wants_text, not_text, unknown_title, no_option_title, extra_words, extra_title, missing_title, slip_title, alone_notes, no_option_notes, input_notes, extra_notes, missing_notes, slip_notes, words_title, words_notes, first_word, not_built_title};
+ghost use Rattle.sk_explain_notes.specs.Words.{command_lines, one_number, listing_notes, usage, question, command_names, names_of, no_command_title, no_others, wants_number, unknown_notes, value_title, value_notes, early_title, is_below_zero, takes_values, is_value, range_text, takes_text, wants_text, not_text, unknown_title, no_option_title, extra_words, extra_title, missing_title, slip_title, alone_notes, no_option_notes, input_notes, extra_notes, missing_notes, slip_notes, words_title, words_notes, first_word, not_built_title};
 
 use crate::near::nearest;
 use crate::note::Told;
@@ -352,15 +352,28 @@ fn push_input(told: &mut Told, command: Command, word: &[u8]) -> Result<(), Allo
     Ok(())
 }
 
+// Appends that a command takes one number to the title.
+fn push_one_number(told: &mut Told, command: Command, word: &[u8]) -> Result<(), AllocError>
+    ensures title { OnOk result (told.new.title.bytes.items ≡ told.old.title.bytes.items ++ one_number command word.now) }
+    ensures notes { told.new.notes ≡ told.old.notes }
+{
+    told.title(&[command.word(), b" takes one number"])?;
+    told.title(&[b", and not '", word, b"' too"])?;
+    Ok(())
+}
+
 // Tells of a word that the command does not take.
 fn tell_extra(told: &mut Told, command: Command, word: &[u8]) -> Result<(), AllocError>
     ensures title { OnOk result (told.new.title.bytes.items ≡ told.old.title.bytes.items ++ extra_title command word.now) }
     ensures notes { OnOk result (told.new.notes.bytes.items ≡ told.old.notes.bytes.items ++ extra_notes command word.now) }
 {
     match command {
-        Command::All | Command::Itself => {
-            told.title(&[command.word(), b" takes one number"])?;
-            told.title(&[b", and not '", word, b"' too"])?;
+        Command::All => {
+            push_one_number(told, command, word)?;
+            Ok(())
+        }
+        Command::Itself => {
+            push_one_number(told, command, word)?;
             Ok(())
         }
         Command::Synth
@@ -386,6 +399,15 @@ fn tell_wants_number(told: &mut Told, command: Command) -> Result<(), AllocError
     Ok(())
 }
 
+// Appends how a list of completions is asked for to the notes.
+fn push_listing(told: &mut Told) -> Result<(), AllocError>
+    ensures title { told.new.title ≡ told.old.title }
+    ensures notes { OnOk result (told.new.notes.bytes.items ≡ told.old.notes.bytes.items ++ listing_notes) }
+{
+    told.note(&[b"as in: sketch all K < SKETCH"])?;
+    Ok(())
+}
+
 // Tells which word a command wants.
 fn tell_missing(told: &mut Told, command: Command) -> Result<(), AllocError>
     ensures title { OnOk result (told.new.title.bytes.items ≡ told.old.title.bytes.items ++ missing_title command) }
@@ -404,7 +426,7 @@ fn tell_missing(told: &mut Told, command: Command) -> Result<(), AllocError>
         }
         Command::All => {
             tell_wants_number(told, command)?;
-            told.note(&[b"as in: sketch all K < SKETCH"])?;
+            push_listing(told)?;
             Ok(())
         }
         Command::Synth | Command::Lower | Command::Why | Command::Check | Command::Itself => {
