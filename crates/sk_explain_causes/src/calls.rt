@@ -318,9 +318,7 @@ pub fn tell_not_run(
         Ok(Line::All { .. } | Line::Why { .. } | Line::Help | Line::Version) => {
             told.title(&[b"the function is not run"])
         }
-        Err(Usage::NotALine) => {
-            told.title(&[b"the function is not run"])
-        }
+        Err(Usage::NotALine) => told.title(&[b"the function is not run"]),
         Err(Usage::Memory) => Err(AllocError),
     }
 }
