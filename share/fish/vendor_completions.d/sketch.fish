@@ -1,12 +1,14 @@
 # Completions of sketch for fish: commands, and the options that each command takes.
 complete -c sketch -f
 complete -c sketch -n __fish_is_first_token -a synth -d 'write the completed sketch, or the line //@ none'
+complete -c sketch -n __fish_is_first_token -a all -d 'write the completions, at most K'
+complete -c sketch -n __fish_is_first_token -a why -d 'write inputs that no filling passes together'
 complete -c sketch -n __fish_is_first_token -a exec -d 'write what a function gives for values'
 complete -c sketch -n __fish_is_first_token -a trace -d 'write each step of a run, in a filling'
 complete -c sketch -n __fish_is_first_token -a lower -d 'write the plain sketch of a text with algebraic types'
 complete -c sketch -n __fish_is_first_token -l help -d 'write the help'
 complete -c sketch -n __fish_is_first_token -l version -d 'write the version'
-set -l command '__fish_seen_subcommand_from synth exec trace lower'
+set -l command '__fish_seen_subcommand_from synth all why exec trace lower'
 complete -c sketch -n $command -l bnd-cbits -x -a '(seq 16)' -d 'bits of a hole ??, else 5'
 complete -c sketch -n $command -l bnd-inbits -x -a '(seq 16)' -d 'bits of an integer input, else 5'
 complete -c sketch -n $command -l bnd-unroll-amnt -x -a '0 4 8 16 32 64' -d 'turns of a loop, else 8'
