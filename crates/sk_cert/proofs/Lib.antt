@@ -16,6 +16,6 @@ mod Program
 mod Parts
 mod Uppers
 mod Whole
-mod Departure
+pub mod Departure
 mod OtherVersion
 mod Placed

@@ -1,3 +1,3 @@
-mod Excluding
+pub mod Excluding
 mod Spared
-mod Certified
+pub mod Certified
