@@ -451,7 +451,7 @@ fn tell_not_alone(told: &mut Told, word: &[u8]) -> Result<(), AllocError>
     }
 }
 
-/// Tells why words are no command line.
+/// Tells why words are no command line. After a refusal title and notes are given up: nothing is told.
 pub fn tell_words(alloc: Global, told: &mut Told, words: &[String]) -> Result<(), AllocError>
     ensures title { OnOk result (told.new.title.bytes.items ≡ told.old.title.bytes.items ++ words_title (map string_bytes words.now)) }
     ensures notes { OnOk result (told.new.notes.bytes.items ≡ told.old.notes.bytes.items ++ words_notes (map string_bytes words.now)) }
@@ -549,7 +549,8 @@ fn tell_slip(alloc: Global, told: &mut Told, slip: Slip, word: &[u8]) -> Result<
     }
 }
 
-/// Tells what of a line the program does not do.
+/// Tells what of a line the program does not do. After a refusal the notes are as they were (`notes`), and the title is given
+/// up: nothing is told.
 pub fn tell_not_built(told: &mut Told, words: &[String]) -> Result<(), AllocError>
     ensures title { OnOk result (told.new.title.bytes.items ≡ told.old.title.bytes.items ++ not_built_title (map string_bytes words.now)) }
     ensures notes { told.new.notes ≡ told.old.notes }
