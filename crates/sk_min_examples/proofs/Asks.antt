@@ -168,7 +168,7 @@ first_agrees u v e zero less = named_first u (v 0) e
 first_agrees u v e (suc i) less = absurd (omega (arith, less))
 
 -- the first variable alone
-first_alone : ℕ → Bool
+abbrev first_alone : ℕ → Bool
 first_alone zero = true
 first_alone (suc n) = false
 

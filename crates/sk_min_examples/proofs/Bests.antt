@@ -142,7 +142,7 @@ limits = record {
 
 -- Answers
 
-never_free : IsTrue (is_free costly.prog) → 3 ≡ 0
+never_free : IsTrue (is_free costly.prog) → ◌≡◌ {A = ℕ} 3 0
 never_free t = absurd (false≢true (sym costly_is ∙ t))
 
 pub answers : AnswerExamples

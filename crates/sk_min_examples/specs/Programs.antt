@@ -91,7 +91,7 @@ pair y x = record { choice = only y; input = on x }
 
 -- `harness void h() { assert E; }`
 abbrev pub asserting : PEForm → Prog
-asserting form = program (harness [] 0 (stmt 1 (form.Assert (bit form)) ∷ []) ∷ [])
+asserting e = program (harness [] 0 (stmt 1 (form.Assert (bit e)) ∷ []) ∷ [])
 
 abbrev pub free : Expanded
 free = record { prog = asserting (eform.Hole None); ordinary = 1; sites = site 2 ∷ [] }
