@@ -26,6 +26,9 @@ module _ (budget : Budget) where
   is_synth (ending.SpentRounds pairs best) h = refl
   is_synth (ending.SpentConflicts pairs q f log best) h = refl
   is_synth ending.HelpShown h = absurd h
+  is_synth ending.Accepted h = absurd h
+  is_synth (ending.Rejected why) h = absurd h
+  is_synth (ending.NotCertificate why) h = absurd h
   is_synth ending.VersionShown h = absurd h
   is_synth ending.NotALine h = absurd h
   is_synth ending.NotBuilt h = absurd h
@@ -54,6 +57,9 @@ module _ (budget : Budget) where
   writes (ending.SpentRounds pairs best) h = refl
   writes (ending.SpentConflicts pairs q f log best) h = refl
   writes ending.HelpShown h = absurd h
+  writes ending.Accepted h = absurd h
+  writes (ending.Rejected why) h = absurd h
+  writes (ending.NotCertificate why) h = absurd h
   writes ending.VersionShown h = absurd h
   writes ending.NotALine h = absurd h
   writes ending.NotBuilt h = absurd h
@@ -84,6 +90,9 @@ module _ (budget : Budget) where
     taken (ending.SpentRounds pairs best) h = record { bounds = h.bounds; e = h.e; built = h.only.built }
     taken (ending.SpentConflicts pairs q f log best) h = record { bounds = h.bounds; e = h.e; built = h.only.built }
     taken ending.HelpShown h = absurd h
+    taken ending.Accepted h = absurd h
+    taken (ending.Rejected why) h = absurd h
+    taken (ending.NotCertificate why) h = absurd h
     taken ending.VersionShown h = absurd h
     taken ending.NotALine h = absurd h
     taken ending.NotBuilt h = absurd h
@@ -112,6 +121,9 @@ module _ (budget : Budget) where
     tells (ending.SpentRounds pairs best) h t = t
     tells (ending.SpentConflicts pairs q f log best) h t = t
     tells ending.HelpShown h t = absurd h
+    tells ending.Accepted h t = absurd h
+    tells (ending.Rejected why) h t = absurd h
+    tells (ending.NotCertificate why) h t = absurd h
     tells ending.VersionShown h t = absurd h
     tells ending.NotALine h t = absurd h
     tells ending.NotBuilt h t = absurd h

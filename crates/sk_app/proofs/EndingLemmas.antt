@@ -22,7 +22,7 @@ use Rattle.sk_app.specs.declared.prepare.Prepared.TheVariants as prepared
 use Rattle.sk_app.specs.declared.ending.Ending.{Ending}
 use Rattle.sk_app.specs.declared.ending.Ending.TheVariants as ending
 use Rattle.sk_app.specs.Prepared.{Finds, IsPossible, IsPrepared}
-use Rattle.sk_app.specs.Streams.{IsWhole}
+use Rattle.sk_app_reading.specs.Streams.{IsWhole}
 use Rattle.sk_app.specs.Ends.{IsDelivered, delivered, cut, no_room, IsToldOf, ending_of, stopped}
 use Rattle.sk_app.specs.Effects.{refusal}
 
@@ -87,6 +87,6 @@ refused_place text (fault.NotText a) r f h is e = let q = sym is ∙ e in cc
 refused_place text (fault.TooLarge a) r f h is e = let q = sym is ∙ e in cc
 refused_place text fault.Memory r f h is e = let q = sym is ∙ e in cc
 
-pub whole_place : (left : Option (List ℕ)) (text : List ℕ) (f : TypeFault) → IsWhole text left → HasSpan text f.span → IfSome left (λ t. HasSpan t f.span)
+pub whole_place : (left : Option (List ℕ)) (text : List ℕ) (f : TypeFault) → IsWhole most_bytes text left → HasSpan text f.span → IfSome left (λ t. HasSpan t f.span)
 whole_place None text f w h = tt
 whole_place (Some t) text f w h = subst (λ x. HasSpan x f.span) (sym w.whole) h

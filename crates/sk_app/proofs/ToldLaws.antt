@@ -64,6 +64,9 @@ module _ (set : Set) (text : List ℕ) where
     ends_built budget ending.TooLong some h bounds e is = too_long is.sized.typed.short h
     ends_built budget ending.NotALine some h bounds e is = absurd h
     ends_built budget ending.HelpShown some h bounds e is = absurd h
+    ends_built budget ending.Accepted some h bounds e is = absurd h
+    ends_built budget (ending.Rejected why) some h bounds e is = absurd h
+    ends_built budget (ending.NotCertificate why) some h bounds e is = absurd h
     ends_built budget ending.VersionShown some h bounds e is = absurd h
     ends_built budget ending.ExecDone some h bounds e is = absurd h
     ends_built budget (ending.ExecFailed span) some h bounds e is = absurd h
@@ -92,6 +95,9 @@ module _ (set : Set) (text : List ℕ) where
     ends_faulty ending.TooLong h short f is = too_long short h
     ends_faulty ending.NotALine h short f is = absurd h
     ends_faulty ending.HelpShown h short f is = absurd h
+    ends_faulty ending.Accepted h short f is = absurd h
+    ends_faulty (ending.Rejected why) h short f is = absurd h
+    ends_faulty (ending.NotCertificate why) h short f is = absurd h
     ends_faulty ending.VersionShown h short f is = absurd h
     ends_faulty ending.ExecDone h short f is = absurd h
     ends_faulty (ending.ExecFailed span) h short f is = absurd h
@@ -120,6 +126,9 @@ module _ (set : Set) (text : List ℕ) where
     ends_untyped ending.TooLong h short n = too_long short h
     ends_untyped ending.NotALine h short n = absurd h
     ends_untyped ending.HelpShown h short n = absurd h
+    ends_untyped ending.Accepted h short n = absurd h
+    ends_untyped (ending.Rejected why) h short n = absurd h
+    ends_untyped (ending.NotCertificate why) h short n = absurd h
     ends_untyped ending.VersionShown h short n = absurd h
     ends_untyped ending.ExecDone h short n = absurd h
     ends_untyped (ending.ExecFailed span) h short n = absurd h
@@ -148,6 +157,9 @@ module _ (set : Set) (text : List ℕ) where
     ends_large ending.TooLong h s is = too_long is.typed.short h
     ends_large ending.NotALine h s is = absurd h
     ends_large ending.HelpShown h s is = absurd h
+    ends_large ending.Accepted h s is = absurd h
+    ends_large (ending.Rejected why) h s is = absurd h
+    ends_large (ending.NotCertificate why) h s is = absurd h
     ends_large ending.VersionShown h s is = absurd h
     ends_large ending.ExecDone h s is = absurd h
     ends_large (ending.ExecFailed span) h s is = absurd h
@@ -176,6 +188,9 @@ module _ (set : Set) (text : List ℕ) where
     ends_long ending.TooLong h long = refl
     ends_long ending.NotALine h long = absurd h
     ends_long ending.HelpShown h long = absurd h
+    ends_long ending.Accepted h long = absurd h
+    ends_long (ending.Rejected why) h long = absurd h
+    ends_long (ending.NotCertificate why) h long = absurd h
     ends_long ending.VersionShown h long = absurd h
     ends_long ending.ExecDone h long = absurd h
     ends_long (ending.ExecFailed span) h long = absurd h

@@ -84,6 +84,12 @@ pub record ForWhy (words : List (List ℕ)) (Holds : Set → Type 0) : Type 0 wh
   pub is : IsLine words (line.Why set)
   pub holds : Holds set
 
+-- The words are a line `check`, and this holds of its options.
+pub record ForCheck (words : List (List ℕ)) (Holds : Set → Type 0) : Type 0 where
+  pub set : Set
+  pub is : IsLine words (line.Check set)
+  pub holds : Holds set
+
 -- the line that asks this about completions
 abbrev pub line_asking : Set → Question → Line
 line_asking set (question.Which most) = line.All set most
@@ -109,11 +115,15 @@ pub record ForText (words : List (List ℕ)) (Holds : Set → Type 0) : Type 0 w
   pub takes : TakesText words set
   pub holds : Holds set
 
--- The words are a line that reads its source, with these options: one that takes a text as it is, or `lower`, which takes its plain form.
+-- The words are a line that reads a text, with these options: one that takes it as it is, or `lower`, which takes its plain form.
 abbrev pub ReadsText : List (List ℕ) → Set → Type 0
 ReadsText words set = TakesText words set ⊎ IsLine words (line.Lower set)
 
--- whether the program does nothing for a line: it is `check` or `self`, or it asks for a certificate
+-- The words are a line that reads its source, with these options: one that reads a text, or `check`, which reads a sketch and a certificate.
+abbrev pub ReadsSource : List (List ℕ) → Set → Type 0
+ReadsSource words set = ReadsText words set ⊎ IsLine words (line.Check set)
+
+-- whether the program does nothing for a line: it is `self`, or it asks for a certificate
 abbrev pub is_unbuilt : Line → Bool
 is_unbuilt (line.Synth set budget cert) = cert
 is_unbuilt (line.Exec set name values) = false
@@ -121,7 +131,7 @@ is_unbuilt (line.Trace set name values holes) = false
 is_unbuilt (line.Lower set) = false
 is_unbuilt (line.All set most) = false
 is_unbuilt (line.Why set) = false
-is_unbuilt (line.Check set) = true
+is_unbuilt (line.Check set) = false
 is_unbuilt (line.Itself n) = true
 is_unbuilt line.Help = false
 is_unbuilt line.Version = false

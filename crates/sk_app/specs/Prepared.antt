@@ -11,7 +11,7 @@ use Rattle.sk_app.specs.declared.prepare.Found.{Found}
 use Rattle.sk_app.specs.declared.prepare.Found.TheVariants as found
 use Rattle.sk_app.specs.declared.prepare.Prepared.{Prepared}
 use Rattle.sk_app.specs.declared.prepare.Prepared.TheVariants as prepared
-use Rattle.sk_app.specs.Streams.{IsLong}
+use Rattle.sk_app_reading.specs.Streams.{IsLong}
 use Rattle.sk_built_laws.specs.Built.{IsReady}
 use Rattle.sk_app.specs.Results.{HasResult, IsResultOf}
 
@@ -40,5 +40,5 @@ pub record Finds (set : Set) (budget : Budget) (f : Found) (text : List ℕ) : T
 
 abbrev pub IsPrepared : Set → Budget → Prepared → ℕ → ℕ → Option (List ℕ) → Type 0
 IsPrepared set budget prepared.ReadFault faults_old faults_new left = Rose faults_old faults_new
-IsPrepared set budget prepared.TooLong faults_old faults_new left = IsLong left
+IsPrepared set budget prepared.TooLong faults_old faults_new left = IsLong most_bytes left
 IsPrepared set budget (prepared.Found f) faults_old faults_new left = IsPossible budget f × IfSome left (Finds set budget f)

@@ -13,15 +13,17 @@ ghost use Rattle.sk_opts.specs.Ranges.{IsInRanges, LineIsInRanges};
 ghost use Rattle.sk_app.specs.ResultText.{IsCompletion, IsNone};
 ghost use Rattle.sk_app.specs.Spent.{AreLearnt, IsSpentRounds, IsSpentConflicts};
 ghost use Rattle.sk_app.specs.Results.{IsResult};
-ghost use Rattle.sk_app.specs.Streams.{TakesFew};
+ghost use Rattle.sk_front.specs.Texts.{most_bytes};
+ghost use Rattle.sk_app_reading.specs.Streams.{TakesFew};
 ghost use Rattle.sk_app.specs.Help.{help_text};
 ghost use Rattle.sk_app.specs.Ends.{IsDelivered, Writes, WritesPart, writes_nothing, IsToldOf};
 ghost use Rattle.sk_app.specs.Effects.{is_of_synth, TellsSpan, Serves, Answers};
 ghost use Rattle.sk_app.specs.Call.{effect, call};
 ghost use Rattle.sk_app.specs.Headline.{Headline};
 ghost use Rattle.sk_app.specs.Listings.{Listings};
-ghost use Rattle.sk_app.specs.Clauses.{TellsNoLine, NoLineEnds, TellsUnbuilt, UnbuiltEnds, TellsHelp, HelpEnds, TellsVersion, VersionEnds, TellsCompletion, TellsNone, TellsRounds, TellsConflicts, BuiltEnds, TellsNotText, PlacesNotText, FaultyEnds, TellsNotTyped, PlacesNotTyped, UntypedEnds, TellsTooLarge, LargeEnds, CopiesEnds, TellsTooLong, LongEnds, TellsDone, TellsFailed, TellsSkipped, RunEnds, TellsNotRun, TellsNotFilled, NotRunEnds, TellsLowered, KeepsTypes, LoweredEnds, TellsNotLowered, NotLoweredEnds, TellsNotTagged, NotTaggedEnds, RefusedEnds, TellsListed, ListedEnds, TellsExplained, ExplainedEnds, TellsMet, MetEnds, TellsReadFault, TellsWriteFault, CutsOutput, CutsHelp, CutsVersion, KeepsSink, ReadsFew, LeavesSource};
+ghost use Rattle.sk_app.specs.Clauses.{TellsNoLine, NoLineEnds, TellsUnbuilt, UnbuiltEnds, TellsHelp, HelpEnds, TellsVersion, VersionEnds, TellsCompletion, TellsNone, TellsRounds, TellsConflicts, BuiltEnds, TellsNotText, PlacesNotText, FaultyEnds, TellsNotTyped, PlacesNotTyped, UntypedEnds, TellsTooLarge, LargeEnds, CopiesEnds, TellsTooLong, LongEnds, TellsDone, TellsFailed, TellsSkipped, RunEnds, TellsNotRun, TellsNotFilled, NotRunEnds, TellsLowered, KeepsTypes, LoweredEnds, TellsNotLowered, NotLoweredEnds, TellsNotTagged, NotTaggedEnds, RefusedEnds, TellsListed, ListedEnds, TellsExplained, ExplainedEnds, TellsMet, MetEnds, TellsAccepted, CheckedEnds, AcceptedEnds, TellsRejected, RejectedEnds, TellsNotCertificate, NotCertificateEnds, TellsLongInput, LongInputEnds, RefusedInputEnds, TellsReadFault, TellsWriteFault, CutsOutput, CutsHelp, CutsVersion, KeepsSink, ReadsFew, LeavesSource};
 
+use crate::check::check_source;
 use crate::direct::{Job, Way, run_source};
 use crate::ending::Ending;
 use crate::help::{help, version};
@@ -63,7 +65,7 @@ fn synth<S: Source, K: Sink>(
     ensures write_fault { result ≡ Ending.WriteFault → Rose (K.faults sink.old) (K.faults sink.new) }
     ensures prefix { result ≡ Ending.WriteFault → IfSome (S.left source.old) (λ text. WritesPart (IsResult set.now budget.now text) (K.held sink.old) (K.held sink.new)) }
     ensures kept { IsTrue (writes_nothing result) → K.held sink.new ≡ K.held sink.old }
-    ensures few { TakesFew (S.left source.old) (S.left source.new) }
+    ensures few { TakesFew most_bytes (S.left source.old) (S.left source.new) }
 {
     match prepare(alloc, set, budget, source) {
         Err(_) => Ending::Memory,
@@ -120,7 +122,8 @@ fn serve<S: Source, K: Sink>(alloc: Global, line: Line, source: &mut S, sink: &m
             ask_source(alloc, &set, question, source, sink)
         }
         Line::Why { set } => ask_source(alloc, &set, Question::Why, source, sink),
-        Line::Check { .. } | Line::Itself { .. } => Ending::NotBuilt,
+        Line::Check { set } => check_source(alloc, &set, source, sink),
+        Line::Itself { .. } => Ending::NotBuilt,
         Line::Help => show_help(alloc, sink),
         Line::Version => deliver(sink, version(), Ending::VersionShown),
     }
@@ -146,8 +149,8 @@ fn answer<S: Source, K: Sink>(
 /// completes it, and writes the result to the sink; a line `exec` runs a function of it, and writes what comes of that; a line
 /// `trace` fills it with numbers, runs a function of the filling, and writes its steps too; a line `lower` writes the plain
 /// sketch of a text with algebraic types; a line `all` lists completions of a sketch, and a line `why` writes inputs that explain why
-/// it has none; `--help` and `--version` write their texts. A line `check` or `self`, or one that asks for a certificate, ends with
-/// `NotBuilt`.
+/// it has none; a line `check` says whether a sketch and a certificate behind it belong together; `--help` and `--version` write their
+/// texts. A line `self`, or one that asks for a certificate, ends with `NotBuilt`.
 ///
 /// What is said of the text holds where the source tells what is left, and what is said of what the sink
 /// holds where the sink tells it. Want of memory may come at any step.
@@ -220,6 +223,18 @@ pub fn run<S: Source, K: Sink>(
     ensures ends_explained { ExplainedEnds (call S.Source K.Sink words.now result source sink) }
     ensures met { TellsMet (call S.Source K.Sink words.now result source sink) }
     ensures ends_met { MetEnds (call S.Source K.Sink words.now result source sink) }
+
+    // A line `check`.
+    ensures accepted { TellsAccepted (call S.Source K.Sink words.now result source sink) }
+    ensures ends_checked { CheckedEnds (call S.Source K.Sink words.now result source sink) }
+    ensures ends_accepted { AcceptedEnds (call S.Source K.Sink words.now result source sink) }
+    ensures rejected { TellsRejected (call S.Source K.Sink words.now result source sink) }
+    ensures ends_rejected { RejectedEnds (call S.Source K.Sink words.now result source sink) }
+    ensures not_certificate { TellsNotCertificate (call S.Source K.Sink words.now result source sink) }
+    ensures ends_not_certificate { NotCertificateEnds (call S.Source K.Sink words.now result source sink) }
+    ensures long_input { TellsLongInput (call S.Source K.Sink words.now result source sink) }
+    ensures ends_long_input { LongInputEnds (call S.Source K.Sink words.now result source sink) }
+    ensures ends_refused_input { RefusedInputEnds (call S.Source K.Sink words.now result source sink) }
 
     // The streams.
     ensures read_fault { TellsReadFault (call S.Source K.Sink words.now result source sink) }

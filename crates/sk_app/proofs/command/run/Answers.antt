@@ -168,3 +168,33 @@ returns-clause-ends_explained g c = laws.ends_explained c.answer-ending.ensures
 
 pub returns-clause-ends_met : goal.returns-clause-ends_met
 returns-clause-ends_met g c = laws.ends_met c.answer-ending.ensures
+
+pub returns-clause-accepted : goal.returns-clause-accepted
+returns-clause-accepted g c = laws.accepted c.answer-ending.ensures
+
+pub returns-clause-ends_checked : goal.returns-clause-ends_checked
+returns-clause-ends_checked g c = laws.ends_checked c.answer-ending.ensures
+
+pub returns-clause-ends_accepted : goal.returns-clause-ends_accepted
+returns-clause-ends_accepted g c = laws.ends_accepted c.answer-ending.ensures
+
+pub returns-clause-rejected : goal.returns-clause-rejected
+returns-clause-rejected g c = laws.rejected c.answer-ending.ensures
+
+pub returns-clause-ends_rejected : goal.returns-clause-ends_rejected
+returns-clause-ends_rejected g c = laws.ends_rejected c.answer-ending.ensures
+
+pub returns-clause-not_certificate : goal.returns-clause-not_certificate
+returns-clause-not_certificate g c = laws.not_certificate c.answer-ending.ensures
+
+pub returns-clause-ends_not_certificate : goal.returns-clause-ends_not_certificate
+returns-clause-ends_not_certificate g c = laws.ends_not_certificate c.answer-ending.ensures
+
+pub returns-clause-long_input : goal.returns-clause-long_input
+returns-clause-long_input g c = laws.long_input c.answer-ending.ensures
+
+pub returns-clause-ends_long_input : goal.returns-clause-ends_long_input
+returns-clause-ends_long_input g c = laws.ends_long_input c.answer-ending.ensures
+
+pub returns-clause-ends_refused_input : goal.returns-clause-ends_refused_input
+returns-clause-ends_refused_input g c = laws.ends_refused_input c.answer-ending.ensures

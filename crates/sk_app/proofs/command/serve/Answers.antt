@@ -8,3 +8,6 @@ returns-in-All g c = rw c.in-All.is c.ask_source.ensures
 
 pub returns-in-Why : goal.returns-in-Why
 returns-in-Why g c = rw c.in-Why.is c.ask_source-in-Why.ensures
+
+pub returns-in-Check : goal.returns-in-Check
+returns-in-Check g c = rw c.in-Check.is c.check_source.ensures

@@ -2,8 +2,8 @@
 use Rattle.std.specs.Prelude.{ℕ, ◌≤◌, ◌≡◌, List, ◌++◌, length, Option, option_map, Result, Ok, Err}
 use Rattle.std.specs.declared.alloc.AllocError.{AllocError}
 use Rattle.sk_base.specs.Stream.{Counts, NothingLeft, Rose}
-use Rattle.sk_app.specs.declared.text.Step.{Step}
-use Rattle.sk_app.specs.declared.text.Step.TheVariants.{More, End, Failed}
+use Rattle.sk_app_reading.specs.declared.text.Step.{Step}
+use Rattle.sk_app_reading.specs.declared.text.Step.TheVariants.{More, End, Failed}
 
 -- so many bytes at most moved from what was left to the end of the text
 pub record Moves (least : ℕ) (text_old text_new : List ℕ) (room : ℕ) (left_old left_new : Option (List ℕ)) : Type 0 where

@@ -1,36 +1,33 @@
-//! The text of the sketch, read from a source.
+//! The bytes of a source, up to a limit.
 
 ghost use Rattle.std.specs.Prelude.{◌≡◌, ◌≤◌, ◌<◌, ◌+◌, length, IfOk};
-ghost use Rattle.sk_front.specs.Texts.{most_bytes};
-ghost use Rattle.sk_app.specs.Streams.{IsRead, TakesFew};
-ghost use Rattle.sk_app.specs.ReadStep.{IsStep};
+ghost use Rattle.sk_app_reading.specs.Streams.{IsRead, TakesFew};
+ghost use Rattle.sk_app_reading.specs.ReadStep.{IsStep};
 
 use sk_base::{Got, Source};
 use std::alloc::{AllocError, Global};
-
-/// The greatest number of bytes of a sketch.
-const MOST_BYTES: usize = 1_048_576;
 
 /// What a source gave.
 #[derive(Drop)]
 pub enum Reading {
     /// All its bytes.
     Whole(Vec<u8>),
-    /// More bytes than a sketch may have.
+    /// More bytes than the limit.
     Long,
     /// It failed.
     Failed,
 }
 
-/// How many bytes to ask for, where so many were read.
-fn room(have: usize) -> usize
-    requires { have ≤ most_bytes }
+/// How many bytes to ask for, where so many were read of at most so many.
+fn room(have: usize, most: usize) -> usize
+    requires limit { most < 18446744073709551615 }
+    requires have { have ≤ most }
     ensures some { 0 < result }
-    ensures within { have + result ≤ most_bytes + 1 }
+    ensures within { have + result ≤ most + 1 }
     ensures chunk { result ≤ 4096 }
 {
-    let left = MOST_BYTES + 1 - have;
-    if left < 4096 { left } else { 4096 }
+    let left = most - have;
+    if left < 4095 { left + 1 } else { 4096 }
 }
 
 /// Whether there may be more to read.
@@ -59,16 +56,25 @@ fn read_more<S: Source>(
     }
 }
 
-/// Reads the text to its end, or to the first byte past the greatest number of bytes.
-pub fn read_text<S: Source>(alloc: Global, source: &mut S) -> Result<Reading, AllocError>
+/// Reads a source to its end, or to the first byte past the limit, which is a number of bytes. At most 4,096 are asked for at once.
+///
+/// # Errors
+///
+/// Memory is wanting. What was read then is gone.
+pub fn read_text<S: Source>(
+    alloc: Global,
+    source: &mut S,
+    most: usize,
+) -> Result<Reading, AllocError>
+    requires limit { most < 18446744073709551615 }
     ensures count { S.faults source.old ≤ S.faults source.new }
-    ensures read { IfOk result (λ reading. IsRead reading (S.faults source.old) (S.faults source.new) (S.left source.old)) }
-    ensures few { TakesFew (S.left source.old) (S.left source.new) }
+    ensures read { IfOk result (λ reading. IsRead most reading (S.faults source.old) (S.faults source.new) (S.left source.old)) }
+    ensures few { TakesFew most (S.left source.old) (S.left source.new) }
 {
     let mut text = Vec::new(alloc);
     let mut chunk = [0u8; 4096];
-    'reading: while text.len() <= MOST_BYTES {
-        let room = room(text.len());
+    'reading: while text.len() <= most {
+        let room = room(text.len(), most);
         match read_more(source, &mut text, &mut chunk[..room])? {
             Step::More => {}
             Step::End => return Ok(Reading::Whole(text)),
