@@ -61,7 +61,7 @@ use Rattle.sk_app.specs.ResultText.{IsCompletion, IsNone}
 use Rattle.sk_app.specs.Spent.{AreLearnt, IsSpentRounds, IsSpentConflicts}
 use Rattle.sk_app.specs.Results.{IsResult}
 use Rattle.sk_app.specs.Help.{help_text, version_text}
-use Rattle.sk_app.specs.Lines.{IsNoLine, IsSearch, ForSearch, IsSynth, ForSynth, line_by, line_of, IsJob, ForJob, ForTrace, ForLower, ForAll, ForWhy, line_asking, TakesText, takes_synth, takes_job, takes_all, takes_why, SizesText, sizes_synth, sizes_all, sizes_why, ForText, ReadsText, ForCheck, ReadsSource, is_unbuilt, IsUnbuiltLine}
+use Rattle.sk_app.specs.Lines.{IsNoLine, IsSearch, ForSearch, IsSynth, line_by, line_of, IsJob, ForJob, ForTrace, ForLower, ForAll, ForWhy, line_asking, TakesText, takes_synth, takes_job, takes_all, takes_why, SizesText, sizes_synth, sizes_all, sizes_why, ForText, ReadsText, ForCheck, ReadsSource, is_unbuilt, IsUnbuiltLine}
 use Rattle.sk_app.specs.Ends.{delivered, cut, no_room, Writes, WritesPart, writes_nothing, IsToldOf}
 use Rattle.sk_app.proofs.Endings.{EndsBuilt, EndsFaulty, EndsUntyped, EndsLarge, EndsLong, EndsRun, EndsStopped, EndsLowered, EndsNotLowered, EndsNotTagged, EndsRefused, EndsListed, EndsExplained, EndsMet, EndsReply, EndsChecked, EndsAccepted, EndsRejected, EndsNotCertificate, EndsRefusedInput, EndsNoLine, EndsUnbuiltLine, EndsHelp, EndsVersion}
 use Rattle.sk_app.specs.Call.{Effect}
@@ -128,7 +128,7 @@ module _ (words : List (List ℕ)) (r : Ending) (f : Effect) where
   data Kind : Type 0 where
     of_none : IsNoLine words → IsRefused ending.NotALine r f → Kind
     of_unbuilt : IsUnbuiltLine words → IsRefused ending.NotBuilt r f → Kind
-    of_synth : (set : Set) (budget : Budget) → IsSearch words set budget → Synthesises set budget r f → Kind
+    of_synth : (set : Set) (budget : Budget) (cert : Bool) → IsSearch words set budget cert → Synthesises set budget cert r f → Kind
     of_exec : (set : Set) (job : Job) → IsJob words set job → Executes set job r f → Kind
     of_lower : (set : Set) → IsLine words (line.Lower set) → Lowers set r f → Kind
     of_question : (set : Set) (asked : Question) → IsLine words (line_asking set asked) → Asks set asked r f → Kind
@@ -138,8 +138,7 @@ module _ (words : List (List ℕ)) (r : Ending) (f : Effect) where
     of_memory : IsRefused ending.Memory r f → Kind
 
   line_kind : (l : Line) → IsLine words l → Serves l r f → Kind
-  line_kind (line.Synth set budget true) h s = of_unbuilt (record { line = line.Synth set budget true; is = h; unbuilt = refl }) s
-  line_kind (line.Synth set budget false) h s = of_synth set budget h s
+  line_kind (line.Synth set budget cert) h s = of_synth set budget cert h s
   line_kind (line.Exec set name values) h s = of_exec set (record { name = name; values = values; way = way.Exec }) h s
   line_kind (line.Trace set name values holes) h s = of_exec set (record { name = name; values = values; way = way.Trace holes }) h s
   line_kind (line.Lower set) h s = of_lower set h s
@@ -269,10 +268,10 @@ module _ (words : List (List ℕ)) (r : Ending) (f : Effect) where
   exec_alone_not_lower ending.NotBuilt a = absurd (false≢true a)
 
   -- the endings of a line `synth` alone come for no other line
-  synth_of : (x : Ending) → is_synth_alone x ≡ true → by_asking.is_of_question x ≡ false → by_check.is_of_check x ≡ false → Kind → r ≡ x → ForSearch words (λ set budget. Synthesises set budget r f)
+  synth_of : (x : Ending) → is_synth_alone x ≡ true → by_asking.is_of_question x ≡ false → by_check.is_of_check x ≡ false → Kind → r ≡ x → ForSearch words (λ set budget cert. Synthesises set budget cert r f)
   synth_of x a d o (of_none n s) e = absurd (alone_not ending.NotALine x a refl (sym s.is ∙ e))
   synth_of x a d o (of_unbuilt u s) e = absurd (alone_not ending.NotBuilt x a refl (sym s.is ∙ e))
-  synth_of x a d o (of_synth set budget h s) e = record { set = set; budget = budget; is = h; holds = s }
+  synth_of x a d o (of_synth set budget cert h s) e = record { set = set; budget = budget; cert = cert; is = h; holds = s }
   synth_of x a d o (of_exec set job h s) e = by_exec.exec_not set job r f x (synth_alone_not_exec x a) s.runs e
   synth_of x a d o (of_lower set h s) e = by_lower.lower_not set r f x (synth_alone_not_lower x a) s.lowers e
   synth_of x a d o (of_question set asked h s) e = by_asking.question_not set asked r f x d s.asks e
@@ -285,7 +284,7 @@ module _ (words : List (List ℕ)) (r : Ending) (f : Effect) where
   exec_of : (x : Ending) → is_exec_alone x ≡ true → is_of_synth x ≡ false → by_asking.is_of_question x ≡ false → by_check.is_of_check x ≡ false → Kind → r ≡ x → ForJob words (λ set job. Executes set job r f)
   exec_of x a b d o (of_none n s) e = absurd (exec_alone_not ending.NotALine x a refl (sym s.is ∙ e))
   exec_of x a b d o (of_unbuilt u s) e = absurd (exec_alone_not ending.NotBuilt x a refl (sym s.is ∙ e))
-  exec_of x a b d o (of_synth set budget h s) e = absurd (false≢true (sym b ∙ ap is_of_synth (sym e) ∙ s.ends))
+  exec_of x a b d o (of_synth set budget cert h s) e = absurd (false≢true (sym b ∙ ap is_of_synth (sym e) ∙ s.ends))
   exec_of x a b d o (of_exec set job h s) e = record { set = set; job = job; is = h; holds = s }
   exec_of x a b d o (of_lower set h s) e = by_lower.lower_not set r f x (exec_alone_not_lower x a) s.lowers e
   exec_of x a b d o (of_question set asked h s) e = by_asking.question_not set asked r f x d s.asks e
@@ -298,7 +297,7 @@ module _ (words : List (List ℕ)) (r : Ending) (f : Effect) where
   lower_of : (x : Ending) → is_lower_alone x ≡ true → is_of_synth x ≡ false → by_exec.is_of_exec x ≡ false → by_asking.is_of_question x ≡ false → by_check.is_of_check x ≡ false → Kind → r ≡ x → ForLower words (λ set. Lowers set r f)
   lower_of x a b c d o (of_none n s) e = absurd (lower_alone_not ending.NotALine x a refl (sym s.is ∙ e))
   lower_of x a b c d o (of_unbuilt u s) e = absurd (lower_alone_not ending.NotBuilt x a refl (sym s.is ∙ e))
-  lower_of x a b c d o (of_synth set budget h s) e = absurd (false≢true (sym b ∙ ap is_of_synth (sym e) ∙ s.ends))
+  lower_of x a b c d o (of_synth set budget cert h s) e = absurd (false≢true (sym b ∙ ap is_of_synth (sym e) ∙ s.ends))
   lower_of x a b c d o (of_exec set job h s) e = by_exec.exec_not set job r f x c s.runs e
   lower_of x a b c d o (of_lower set h s) e = record { set = set; is = h; holds = s }
   lower_of x a b c d o (of_question set asked h s) e = by_asking.question_not set asked r f x d s.asks e
@@ -315,7 +314,7 @@ module _ (words : List (List ℕ)) (r : Ending) (f : Effect) where
   asking_of : (x : Ending) → by_asking.is_reply x ≡ true → is_of_synth x ≡ false → by_exec.is_of_exec x ≡ false → by_lower.is_of_lower x ≡ false → by_check.is_of_check x ≡ false → Kind → r ≡ x → ForQuestion words (λ set asked. Asks set asked r f)
   asking_of x a b c d o (of_none n s) e = absurd (reply_not ending.NotALine x a refl (sym s.is ∙ e))
   asking_of x a b c d o (of_unbuilt u s) e = absurd (reply_not ending.NotBuilt x a refl (sym s.is ∙ e))
-  asking_of x a b c d o (of_synth set budget h s) e = absurd (false≢true (sym b ∙ ap is_of_synth (sym e) ∙ s.ends))
+  asking_of x a b c d o (of_synth set budget cert h s) e = absurd (false≢true (sym b ∙ ap is_of_synth (sym e) ∙ s.ends))
   asking_of x a b c d o (of_exec set job h s) e = by_exec.exec_not set job r f x c s.runs e
   asking_of x a b c d o (of_lower set h s) e = by_lower.lower_not set r f x d s.lowers e
   asking_of x a b c d o (of_question set asked h s) e = record { set = set; asked = asked; is = h; holds = s }
@@ -325,10 +324,10 @@ module _ (words : List (List ℕ)) (r : Ending) (f : Effect) where
   asking_of x a b c d o (of_memory s) e = absurd (reply_not ending.Memory x a refl (sym s.is ∙ e))
 
   -- what follows for a line that takes a text as it is, and for a line `lower`, from an ending of lines that read their source alone
-  text_of : (x : Ending) → is_of_text x ≡ true → (P Q C : Set → Type 0) → ((set : Set) (budget : Budget) → Synthesises set budget r f → P set) → ((set : Set) (job : Job) → Executes set job r f → P set) → ((set : Set) → Lowers set r f → Q set) → ((set : Set) (asked : Question) → Asks set asked r f → P set) → ((set : Set) → Checks set r f → C set) → Kind → r ≡ x → ForText words P ⊎ ForLower words Q ⊎ ForCheck words C
+  text_of : (x : Ending) → is_of_text x ≡ true → (P Q C : Set → Type 0) → ((set : Set) (budget : Budget) (cert : Bool) → Synthesises set budget cert r f → P set) → ((set : Set) (job : Job) → Executes set job r f → P set) → ((set : Set) → Lowers set r f → Q set) → ((set : Set) (asked : Question) → Asks set asked r f → P set) → ((set : Set) → Checks set r f → C set) → Kind → r ≡ x → ForText words P ⊎ ForLower words Q ⊎ ForCheck words C
   text_of x a P Q C k l m v w (of_none n s) e = absurd (text_not ending.NotALine x a refl (sym s.is ∙ e))
   text_of x a P Q C k l m v w (of_unbuilt u s) e = absurd (text_not ending.NotBuilt x a refl (sym s.is ∙ e))
-  text_of x a P Q C k l m v w (of_synth set budget h s) e = inl (record { set = set; takes = takes_synth (record { budget = budget; is = h }); holds = k set budget s })
+  text_of x a P Q C k l m v w (of_synth set budget cert h s) e = inl (record { set = set; takes = takes_synth (record { budget = budget; cert = cert; is = h }); holds = k set budget cert s })
   text_of x a P Q C k l m v w (of_exec set job h s) e = inl (record { set = set; takes = takes_job job h; holds = l set job s })
   text_of x a P Q C k l m v w (of_lower set h s) e = inr (inl (record { set = set; is = h; holds = m set s }))
   text_of x a P Q C k l m v w (of_check set h s) e = inr (inr (record { set = set; is = h; holds = w set s }))
@@ -344,19 +343,19 @@ module _ (words : List (List ℕ)) (r : Ending) (f : Effect) where
   for_each (inr (inr h)) = h.holds
 
   -- a line `synth` has none of the endings of other lines
-  synth_not : (set : Set) (budget : Budget) (x : Ending) → Synthesises set budget r f → is_of_synth x ≡ false → r ≡ x → ⊥
-  synth_not set budget x s b e = false≢true (sym b ∙ ap is_of_synth (sym e) ∙ s.ends)
+  synth_not : (set : Set) (budget : Budget) (cert : Bool) (x : Ending) → Synthesises set budget cert r f → is_of_synth x ≡ false → r ≡ x → ⊥
+  synth_not set budget cert x s b e = false≢true (sym b ∙ ap is_of_synth (sym e) ∙ s.ends)
 
   -- what is told of the text with this ending
-  pub told_as : (set : Set) (budget : Budget) → Synthesises set budget r f → (x : Ending) (P : List ℕ → Type 0) → ((text : List ℕ) → IsToldOf set text x f.read_faults_old f.read_faults_new f.write_faults_old f.write_faults_new → P text) → r ≡ x → IfSome f.left_old P
-  told_as set budget s x P k e = mapped f.left_old (λ text. IsToldOf set text r f.read_faults_old f.read_faults_new f.write_faults_old f.write_faults_new) P (λ text h. k text (subst (λ y. IsToldOf set text y f.read_faults_old f.read_faults_new f.write_faults_old f.write_faults_new) e h)) s.told
+  pub told_as : (set : Set) (budget : Budget) (cert : Bool) → Synthesises set budget cert r f → (x : Ending) (P : List ℕ → Type 0) → ((text : List ℕ) → IsToldOf set text x f.read_faults_old f.read_faults_new f.write_faults_old f.write_faults_new → P text) → r ≡ x → IfSome f.left_old P
+  told_as set budget cert s x P k e = mapped f.left_old (λ text. IsToldOf set text r f.read_faults_old f.read_faults_new f.write_faults_old f.write_faults_new) P (λ text h. k text (subst (λ y. IsToldOf set text y f.read_faults_old f.read_faults_new f.write_faults_old f.write_faults_new) e h)) s.told
 
   -- Clauses that follow from the ending
 
   not_a_line_of : Kind → r ≡ ending.NotALine → IsNoLine words
   not_a_line_of (of_none n s) e = n
   not_a_line_of (of_unbuilt u s) e = let q = sym s.is ∙ e in cc
-  not_a_line_of (of_synth set budget h s) e = absurd (synth_not set budget ending.NotALine s refl e)
+  not_a_line_of (of_synth set budget cert h s) e = absurd (synth_not set budget cert ending.NotALine s refl e)
   not_a_line_of (of_exec set job h s) e = by_exec.exec_not set job r f ending.NotALine refl s.runs e
   not_a_line_of (of_lower set h s) e = by_lower.lower_not set r f ending.NotALine refl s.lowers e
   not_a_line_of (of_question set asked h s) e = by_asking.question_not set asked r f ending.NotALine refl s.asks e
@@ -386,7 +385,7 @@ module _ (words : List (List ℕ)) (r : Ending) (f : Effect) where
   help_of : Kind → r ≡ ending.HelpShown → IsLine words line.Help × Appends help_text f.held_old f.held_new
   help_of (of_none n s) e = let q = sym s.is ∙ e in cc
   help_of (of_unbuilt u s) e = let q = sym s.is ∙ e in cc
-  help_of (of_synth set budget h s) e = absurd (synth_not set budget ending.HelpShown s refl e)
+  help_of (of_synth set budget cert h s) e = absurd (synth_not set budget cert ending.HelpShown s refl e)
   help_of (of_exec set job h s) e = by_exec.exec_not set job r f ending.HelpShown refl s.runs e
   help_of (of_lower set h s) e = by_lower.lower_not set r f ending.HelpShown refl s.lowers e
   help_of (of_question set asked h s) e = by_asking.question_not set asked r f ending.HelpShown refl s.asks e
@@ -398,7 +397,7 @@ module _ (words : List (List ℕ)) (r : Ending) (f : Effect) where
   version_of : Kind → r ≡ ending.VersionShown → IsLine words line.Version × Appends version_text f.held_old f.held_new
   version_of (of_none n s) e = let q = sym s.is ∙ e in cc
   version_of (of_unbuilt u s) e = let q = sym s.is ∙ e in cc
-  version_of (of_synth set budget h s) e = absurd (synth_not set budget ending.VersionShown s refl e)
+  version_of (of_synth set budget cert h s) e = absurd (synth_not set budget cert ending.VersionShown s refl e)
   version_of (of_exec set job h s) e = by_exec.exec_not set job r f ending.VersionShown refl s.runs e
   version_of (of_lower set h s) e = by_lower.lower_not set r f ending.VersionShown refl s.lowers e
   version_of (of_question set asked h s) e = by_asking.question_not set asked r f ending.VersionShown refl s.asks e
@@ -410,7 +409,7 @@ module _ (words : List (List ℕ)) (r : Ending) (f : Effect) where
   not_built_of : Kind → r ≡ ending.NotBuilt → IsUnbuiltLine words
   not_built_of (of_none n s) e = let q = sym s.is ∙ e in cc
   not_built_of (of_unbuilt u s) e = u
-  not_built_of (of_synth set budget h s) e = absurd (synth_not set budget ending.NotBuilt s refl e)
+  not_built_of (of_synth set budget cert h s) e = absurd (synth_not set budget cert ending.NotBuilt s refl e)
   not_built_of (of_exec set job h s) e = by_exec.exec_not set job r f ending.NotBuilt refl s.runs e
   not_built_of (of_lower set h s) e = by_lower.lower_not set r f ending.NotBuilt refl s.lowers e
   not_built_of (of_question set asked h s) e = by_asking.question_not set asked r f ending.NotBuilt refl s.asks e
@@ -422,7 +421,7 @@ module _ (words : List (List ℕ)) (r : Ending) (f : Effect) where
   write_fault_of : Kind → r ≡ ending.WriteFault → Rose f.write_faults_old f.write_faults_new
   write_fault_of (of_none n s) e = let q = sym s.is ∙ e in cc
   write_fault_of (of_unbuilt u s) e = let q = sym s.is ∙ e in cc
-  write_fault_of (of_synth set budget h s) e = s.write_fault e
+  write_fault_of (of_synth set budget cert h s) e = s.write_fault e
   write_fault_of (of_exec set job h s) e = by_exec.write_fault_by set job r f s.runs e
   write_fault_of (of_lower set h s) e = by_lower.write_fault_by set r f s.lowers e
   write_fault_of (of_question set asked h s) e = by_asking.write_fault_by set asked r f s.asks e
@@ -446,7 +445,7 @@ module _ (words : List (List ℕ)) (r : Ending) (f : Effect) where
   prefix_of : Kind → r ≡ ending.WriteFault → IfSome f.left_old Cut
   prefix_of (of_none n s) e = let q = sym s.is ∙ e in cc
   prefix_of (of_unbuilt u s) e = let q = sym s.is ∙ e in cc
-  prefix_of (of_synth set budget h s) e = mapped f.left_old (λ text. WritesPart (IsResult set budget text) f.held_old f.held_new) Cut (λ text w. record { out = w.out; is = output.result (record { set = set; budget = budget; is = h; holds = w.is }); appends = w.appends }) (s.prefix e)
+  prefix_of (of_synth set budget cert h s) e = mapped f.left_old (λ text. WritesPart (IsResult set budget cert text) f.held_old f.held_new) Cut (λ text w. record { out = w.out; is = output.result (record { set = set; budget = budget; cert = cert; is = h; holds = w.is }); appends = w.appends }) (s.prefix e)
   prefix_of (of_exec set job h s) e = mapped f.left_old (λ text. WritesPart (IsRunOutput set job text) f.held_old f.held_new) Cut (λ text w. record { out = w.out; is = output.run (record { set = set; job = job; is = h; holds = w.is }); appends = w.appends }) (by_exec.told_by set job r f (λ text. WritesPart (IsRunOutput set job text) f.held_old f.held_new) (λ text w. by_exec.prefix_by set job r f e text w) s.runs)
   prefix_of (of_lower set h s) e = by_lower.told_as set r f ending.WriteFault Cut (λ text told. record { out = told.1.out; is = output.plain (record { set = set; is = h; holds = told.1.is }); appends = told.1.appends }) e s.lowers
   prefix_of (of_question set asked h s) e = by_asking.told_by set asked r f Cut (λ text came. let w = by_asking.prefix_by set asked r f text came e in record { out = w.out; is = output_of set asked text w.is.0 w.out h w.is.1; appends = w.appends }) s.asks
@@ -458,7 +457,7 @@ module _ (words : List (List ℕ)) (r : Ending) (f : Effect) where
   kept_of : Kind → IsTrue (writes_nothing r) → f.held_new ≡ f.held_old
   kept_of (of_none n s) k = s.nothing.unwritten
   kept_of (of_unbuilt u s) k = s.nothing.unwritten
-  kept_of (of_synth set budget h s) k = s.kept k
+  kept_of (of_synth set budget cert h s) k = s.kept k
   kept_of (of_exec set job h s) k = by_exec.kept_by set job r f s.runs k
   kept_of (of_lower set h s) k = by_lower.kept_by set r f s.lowers k
   kept_of (of_question set asked h s) k = by_asking.kept_by set asked r f s.asks k
@@ -479,7 +478,7 @@ module _ (words : List (List ℕ)) (r : Ending) (f : Effect) where
   few_of : Kind → Few
   few_of (of_none n s) = few_none s.nothing.unread.left
   few_of (of_unbuilt u s) = few_none s.nothing.unread.left
-  few_of (of_synth set budget h s) = few_text s.few
+  few_of (of_synth set budget cert h s) = few_text s.few
   few_of (of_exec set job h s) = few_text s.few
   few_of (of_lower set h s) = few_text s.few
   few_of (of_question set asked h s) = few_text s.few
@@ -491,7 +490,7 @@ module _ (words : List (List ℕ)) (r : Ending) (f : Effect) where
   unread_of : Kind → ((set : Set) → ReadsSource words set → ⊥) → f.left_new ≡ f.left_old
   unread_of (of_none n s) reads = s.nothing.unread.left
   unread_of (of_unbuilt u s) reads = s.nothing.unread.left
-  unread_of (of_synth set budget h s) reads = absurd (reads set (inl (inl (takes_synth (record { budget = budget; is = h })))))
+  unread_of (of_synth set budget cert h s) reads = absurd (reads set (inl (inl (takes_synth (record { budget = budget; cert = cert; is = h })))))
   unread_of (of_exec set job h s) reads = absurd (reads set (inl (inl (takes_job job h))))
   unread_of (of_lower set h s) reads = absurd (reads set (inl (inr h)))
   unread_of (of_check set h s) reads = absurd (reads set (inr h))
@@ -514,7 +513,7 @@ module _ (words : List (List ℕ)) (r : Ending) (f : Effect) where
   ends_no_line_of : Kind → IsNoLine words → EndsNoLine r
   ends_no_line_of (of_none n s) spells = subst EndsNoLine (sym s.is) refl
   ends_no_line_of (of_unbuilt u s) spells = absurd (spells u.line u.is)
-  ends_no_line_of (of_synth set budget h s) spells = absurd (spells (line.Synth set budget false) h)
+  ends_no_line_of (of_synth set budget cert h s) spells = absurd (spells (line.Synth set budget cert) h)
   ends_no_line_of (of_exec set job h s) spells = absurd (spells (line_of set job) h)
   ends_no_line_of (of_lower set h s) spells = absurd (spells (line.Lower set) h)
   ends_no_line_of (of_question set asked h s) spells = absurd (spells (line_asking set asked) h)
@@ -526,7 +525,7 @@ module _ (words : List (List ℕ)) (r : Ending) (f : Effect) where
   ends_unbuilt_line_of : Kind → IsUnbuiltLine words → EndsUnbuiltLine r
   ends_unbuilt_line_of (of_none n s) u = absurd (n u.line u.is)
   ends_unbuilt_line_of (of_unbuilt v s) u = subst EndsUnbuiltLine (sym s.is) refl
-  ends_unbuilt_line_of (of_synth set budget h s) u = unbuilt_not (line.Synth set budget false) refl u h
+  ends_unbuilt_line_of (of_synth set budget cert h s) u = unbuilt_not (line.Synth set budget cert) refl u h
   ends_unbuilt_line_of (of_exec set job h s) u = unbuilt_not (line_of set job) (job_is_built set job) u h
   ends_unbuilt_line_of (of_lower set h s) u = unbuilt_not (line.Lower set) refl u h
   ends_unbuilt_line_of (of_question set asked h s) u = unbuilt_not (line_asking set asked) (asking_is_built set asked) u h
@@ -542,7 +541,7 @@ module _ (words : List (List ℕ)) (r : Ending) (f : Effect) where
   ends_help_of : Kind → IsLine words line.Help → EndsHelp r f.write_faults_old f.write_faults_new
   ends_help_of (of_none n s) h = absurd (n line.Help h)
   ends_help_of (of_unbuilt u s) h = not_unbuilt line.Help refl h u
-  ends_help_of (of_synth set budget g s) h = let q = one (line.Synth set budget false) line.Help g h in cc
+  ends_help_of (of_synth set budget cert g s) h = let q = one (line.Synth set budget cert) line.Help g h in cc
   ends_help_of (of_exec set job g s) h = not_of_job line.Help set job refl (one line.Help (line_of set job) h g)
   ends_help_of (of_lower set g s) h = let q = one (line.Lower set) line.Help g h in cc
   ends_help_of (of_question set asked g s) h = not_asking line.Help set asked refl (one line.Help (line_asking set asked) h g)
@@ -554,7 +553,7 @@ module _ (words : List (List ℕ)) (r : Ending) (f : Effect) where
   ends_version_of : Kind → IsLine words line.Version → EndsVersion r f.write_faults_old f.write_faults_new
   ends_version_of (of_none n s) h = absurd (n line.Version h)
   ends_version_of (of_unbuilt u s) h = not_unbuilt line.Version refl h u
-  ends_version_of (of_synth set budget g s) h = let q = one (line.Synth set budget false) line.Version g h in cc
+  ends_version_of (of_synth set budget cert g s) h = let q = one (line.Synth set budget cert) line.Version g h in cc
   ends_version_of (of_exec set job g s) h = not_of_job line.Version set job refl (one line.Version (line_of set job) h g)
   ends_version_of (of_lower set g s) h = let q = one (line.Lower set) line.Version g h in cc
   ends_version_of (of_question set asked g s) h = not_asking line.Version set asked refl (one line.Version (line_asking set asked) h g)
@@ -566,7 +565,7 @@ module _ (words : List (List ℕ)) (r : Ending) (f : Effect) where
   prefix_help_of : Kind → IsLine words line.Help → r ≡ ending.WriteFault → AppendsPrefix help_text f.held_old f.held_new
   prefix_help_of (of_none n s) h e = absurd (n line.Help h)
   prefix_help_of (of_unbuilt u s) h e = not_unbuilt line.Help refl h u
-  prefix_help_of (of_synth set budget g s) h e = let q = one (line.Synth set budget false) line.Help g h in cc
+  prefix_help_of (of_synth set budget cert g s) h e = let q = one (line.Synth set budget cert) line.Help g h in cc
   prefix_help_of (of_exec set job g s) h e = not_of_job line.Help set job refl (one line.Help (line_of set job) h g)
   prefix_help_of (of_lower set g s) h e = let q = one (line.Lower set) line.Help g h in cc
   prefix_help_of (of_question set asked g s) h e = not_asking line.Help set asked refl (one line.Help (line_asking set asked) h g)
@@ -578,7 +577,7 @@ module _ (words : List (List ℕ)) (r : Ending) (f : Effect) where
   prefix_version_of : Kind → IsLine words line.Version → r ≡ ending.WriteFault → AppendsPrefix version_text f.held_old f.held_new
   prefix_version_of (of_none n s) h e = absurd (n line.Version h)
   prefix_version_of (of_unbuilt u s) h e = not_unbuilt line.Version refl h u
-  prefix_version_of (of_synth set budget g s) h e = let q = one (line.Synth set budget false) line.Version g h in cc
+  prefix_version_of (of_synth set budget cert g s) h e = let q = one (line.Synth set budget cert) line.Version g h in cc
   prefix_version_of (of_exec set job g s) h e = not_of_job line.Version set job refl (one line.Version (line_of set job) h g)
   prefix_version_of (of_lower set g s) h e = let q = one (line.Lower set) line.Version g h in cc
   prefix_version_of (of_question set asked g s) h e = not_asking line.Version set asked refl (one line.Version (line_asking set asked) h g)
@@ -588,27 +587,28 @@ module _ (words : List (List ℕ)) (r : Ending) (f : Effect) where
   prefix_version_of (of_memory s) h e = let q = sym s.is ∙ e in cc
 
   -- what follows for a line `synth` from its own call, or from want of memory
-  for_synth : (P : Set → Budget → Type 0) → ((set : Set) (budget : Budget) → Synthesises set budget r f → P set budget) → ((set : Set) (budget : Budget) → r ≡ ending.Memory → P set budget) → Kind → (set : Set) (budget : Budget) → IsSearch words set budget → P set budget
-  for_synth P a m (of_none n s) set budget h = absurd (n (line.Synth set budget false) h)
-  for_synth P a m (of_unbuilt u s) set budget h = not_unbuilt (line.Synth set budget false) refl h u
-  for_synth P a m (of_synth t other g s) set budget h =
-      let q = one (line.Synth t other false) (line.Synth set budget false) g h in
+  for_synth : (P : Set → Budget → Bool → Type 0) → ((set : Set) (budget : Budget) (cert : Bool) → Synthesises set budget cert r f → P set budget cert) → ((set : Set) (budget : Budget) (cert : Bool) → r ≡ ending.Memory → P set budget cert) → Kind → (set : Set) (budget : Budget) (cert : Bool) → IsSearch words set budget cert → P set budget cert
+  for_synth P a m (of_none n s) set budget cert h = absurd (n (line.Synth set budget cert) h)
+  for_synth P a m (of_unbuilt u s) set budget cert h = not_unbuilt (line.Synth set budget cert) refl h u
+  for_synth P a m (of_synth t other its g s) set budget cert h =
+      let q = one (line.Synth t other its) (line.Synth set budget cert) g h in
       let sets : t ≡ set = cc in
       let budgets : other ≡ budget = cc in
-      subst (λ x. P x budget) sets (subst (P t) budgets (a t other s))
-  for_synth P a m (of_exec other job g s) set budget h = not_of_job (line.Synth set budget false) other job refl (one (line.Synth set budget false) (line_of other job) h g)
-  for_synth P a m (of_lower t g s) set budget h = let q = one (line.Lower t) (line.Synth set budget false) g h in cc
-  for_synth P a m (of_question t asked g s) set budget h = not_asking (line.Synth set budget false) t asked refl (one (line.Synth set budget false) (line_asking t asked) h g)
-  for_synth P a m (of_check t g s) set budget h = let q = one (line.Check t) (line.Synth set budget false) g h in cc
-  for_synth P a m (of_help g s) set budget h = let q = one line.Help (line.Synth set budget false) g h in cc
-  for_synth P a m (of_version g s) set budget h = let q = one line.Version (line.Synth set budget false) g h in cc
-  for_synth P a m (of_memory s) set budget h = m set budget s.is
+      let certs : its ≡ cert = cc in
+      subst (λ x. P x budget cert) sets (subst (λ x. P t x cert) budgets (subst (P t other) certs (a t other its s)))
+  for_synth P a m (of_exec other job g s) set budget cert h = not_of_job (line.Synth set budget cert) other job refl (one (line.Synth set budget cert) (line_of other job) h g)
+  for_synth P a m (of_lower t g s) set budget cert h = let q = one (line.Lower t) (line.Synth set budget cert) g h in cc
+  for_synth P a m (of_question t asked g s) set budget cert h = not_asking (line.Synth set budget cert) t asked refl (one (line.Synth set budget cert) (line_asking t asked) h g)
+  for_synth P a m (of_check t g s) set budget cert h = let q = one (line.Check t) (line.Synth set budget cert) g h in cc
+  for_synth P a m (of_help g s) set budget cert h = let q = one line.Help (line.Synth set budget cert) g h in cc
+  for_synth P a m (of_version g s) set budget cert h = let q = one line.Version (line.Synth set budget cert) g h in cc
+  for_synth P a m (of_memory s) set budget cert h = m set budget cert s.is
 
   -- what follows for a line that runs a function from its own call, or from want of memory
   for_exec : (P : Set → Job → Type 0) → ((set : Set) (job : Job) → Executes set job r f → P set job) → ((set : Set) (job : Job) → r ≡ ending.Memory → P set job) → Kind → (set : Set) (job : Job) → IsJob words set job → P set job
   for_exec P a m (of_none n s) set job h = absurd (n (line_of set job) h)
   for_exec P a m (of_unbuilt u s) set job h = not_unbuilt (line_of set job) (job_is_built set job) h u
-  for_exec P a m (of_synth t budget g s) set job h = not_of_job (line.Synth t budget false) set job refl (one (line.Synth t budget false) (line_of set job) g h)
+  for_exec P a m (of_synth t budget cert g s) set job h = not_of_job (line.Synth t budget cert) set job refl (one (line.Synth t budget cert) (line_of set job) g h)
   for_exec P a m (of_exec t other g s) set job h =
       let same = one_job t set other job (one (line_of t other) (line_of set job) g h) in
       subst (λ x. P x job) same.sets (subst (P t) same.jobs (a t other s))
@@ -623,7 +623,7 @@ module _ (words : List (List ℕ)) (r : Ending) (f : Effect) where
   for_lower : (P : Set → Type 0) → ((set : Set) → Lowers set r f → P set) → ((set : Set) → r ≡ ending.Memory → P set) → Kind → (set : Set) → IsLine words (line.Lower set) → P set
   for_lower P a m (of_none n s) set h = absurd (n (line.Lower set) h)
   for_lower P a m (of_unbuilt u s) set h = not_unbuilt (line.Lower set) refl h u
-  for_lower P a m (of_synth t budget g s) set h = let q = one (line.Synth t budget false) (line.Lower set) g h in cc
+  for_lower P a m (of_synth t budget cert g s) set h = let q = one (line.Synth t budget cert) (line.Lower set) g h in cc
   for_lower P a m (of_exec t job g s) set h = not_of_job (line.Lower set) t job refl (one (line.Lower set) (line_of t job) h g)
   for_lower P a m (of_lower t g s) set h =
       let q = one (line.Lower t) (line.Lower set) g h in
@@ -639,7 +639,7 @@ module _ (words : List (List ℕ)) (r : Ending) (f : Effect) where
   for_asking : (P : Set → Question → Type 0) → ((set : Set) (asked : Question) → Asks set asked r f → P set asked) → ((set : Set) (asked : Question) → r ≡ ending.Memory → P set asked) → Kind → (set : Set) (asked : Question) → IsLine words (line_asking set asked) → P set asked
   for_asking P a m (of_none n s) set asked h = absurd (n (line_asking set asked) h)
   for_asking P a m (of_unbuilt u s) set asked h = not_unbuilt (line_asking set asked) (asking_is_built set asked) h u
-  for_asking P a m (of_synth t budget g s) set asked h = not_asking (line.Synth t budget false) set asked refl (one (line.Synth t budget false) (line_asking set asked) g h)
+  for_asking P a m (of_synth t budget cert g s) set asked h = not_asking (line.Synth t budget cert) set asked refl (one (line.Synth t budget cert) (line_asking set asked) g h)
   for_asking P a m (of_exec t job g s) set asked h = job_or_question t job set asked (one (line_of t job) (line_asking set asked) g h)
   for_asking P a m (of_lower t g s) set asked h = not_asking (line.Lower t) set asked refl (one (line.Lower t) (line_asking set asked) g h)
   for_asking P a m (of_question t other g s) set asked h =
@@ -654,7 +654,7 @@ module _ (words : List (List ℕ)) (r : Ending) (f : Effect) where
   for_check : (P : Set → Type 0) → ((set : Set) → Checks set r f → P set) → ((set : Set) → r ≡ ending.Memory → P set) → Kind → (set : Set) → IsLine words (line.Check set) → P set
   for_check P a m (of_none n s) set h = absurd (n (line.Check set) h)
   for_check P a m (of_unbuilt u s) set h = not_unbuilt (line.Check set) refl h u
-  for_check P a m (of_synth t budget g s) set h = let q = one (line.Synth t budget false) (line.Check set) g h in cc
+  for_check P a m (of_synth t budget cert g s) set h = let q = one (line.Synth t budget cert) (line.Check set) g h in cc
   for_check P a m (of_exec t job g s) set h = not_of_job (line.Check set) t job refl (one (line.Check set) (line_of t job) h g)
   for_check P a m (of_lower t g s) set h = let q = one (line.Lower t) (line.Check set) g h in cc
   for_check P a m (of_question t asked g s) set h = not_asking (line.Check set) t asked refl (one (line.Check set) (line_asking t asked) h g)
@@ -679,7 +679,7 @@ module _ (words : List (List ℕ)) (r : Ending) (f : Effect) where
   check_of : (x : Ending) → is_check_alone x ≡ true → is_of_synth x ≡ false → by_exec.is_of_exec x ≡ false → by_lower.is_of_lower x ≡ false → by_asking.is_of_question x ≡ false → Kind → r ≡ x → ForCheck words (λ set. Checks set r f)
   check_of x a b c d o (of_none n s) e = absurd (check_alone_not ending.NotALine x a refl (sym s.is ∙ e))
   check_of x a b c d o (of_unbuilt u s) e = absurd (check_alone_not ending.NotBuilt x a refl (sym s.is ∙ e))
-  check_of x a b c d o (of_synth set budget h s) e = absurd (false≢true (sym b ∙ ap is_of_synth (sym e) ∙ s.ends))
+  check_of x a b c d o (of_synth set budget cert h s) e = absurd (false≢true (sym b ∙ ap is_of_synth (sym e) ∙ s.ends))
   check_of x a b c d o (of_exec set job h s) e = by_exec.exec_not set job r f x c s.runs e
   check_of x a b c d o (of_lower set h s) e = by_lower.lower_not set r f x d s.lowers e
   check_of x a b c d o (of_question set asked h s) e = by_asking.question_not set asked r f x o s.asks e
@@ -697,17 +697,17 @@ module _ {words : List (List ℕ)} {r : Ending} {f : Effect} (a : Answers words 
   pub not_a_line : r ≡ ending.NotALine → IsNoLine words
   not_a_line = not_a_line_of words r f the
 
-  pub completed : r ≡ ending.Completed → ForSynth words (λ set. IfSome f.left_old (λ text. Writes (IsCompletion set text) f.held_old f.held_new))
-  completed e = let s = synth_of words r f ending.Completed refl refl refl the e in record { set = s.set; is = record { budget = s.budget; is = s.is }; holds = (s.holds).completed e }
+  pub completed : r ≡ ending.Completed → ForSearch words (λ set budget cert. IfSome f.left_old (λ text. Writes (IsCompletion set cert text) f.held_old f.held_new))
+  completed e = let s = synth_of words r f ending.Completed refl refl refl the e in record { set = s.set; budget = s.budget; cert = s.cert; is = s.is; holds = (s.holds).completed e }
 
-  pub none : r ≡ ending.NoCompletion → ForSynth words (λ set. IfSome f.left_old (λ text. Writes (IsNone set text) f.held_old f.held_new))
-  none e = let s = synth_of words r f ending.NoCompletion refl refl refl the e in record { set = s.set; is = record { budget = s.budget; is = s.is }; holds = (s.holds).none e }
+  pub none : r ≡ ending.NoCompletion → ForSearch words (λ set budget cert. IfSome f.left_old (λ text. Writes (IsNone set cert text) f.held_old f.held_new))
+  none e = let s = synth_of words r f ending.NoCompletion refl refl refl the e in record { set = s.set; budget = s.budget; cert = s.cert; is = s.is; holds = (s.holds).none e }
 
-  pub spent_rounds : (pairs : List Pair) (best : Option Choice) → r ≡ ending.SpentRounds pairs best → ForSearch words (λ set budget. AreSpent budget.rounds pairs × IfSome f.left_old (λ text. Writes (IsSpentRounds set budget text pairs best) f.held_old f.held_new))
-  spent_rounds pairs best e = let s = synth_of words r f (ending.SpentRounds pairs best) refl refl refl the e in record { set = s.set; budget = s.budget; is = s.is; holds = (s.holds).rounds pairs best e }
+  pub spent_rounds : (pairs : List Pair) (best : Option Choice) → r ≡ ending.SpentRounds pairs best → ForSearch words (λ set budget cert. AreSpent budget.rounds pairs × IfSome f.left_old (λ text. Writes (IsSpentRounds set budget text pairs best) f.held_old f.held_new))
+  spent_rounds pairs best e = let s = synth_of words r f (ending.SpentRounds pairs best) refl refl refl the e in record { set = s.set; budget = s.budget; cert = s.cert; is = s.is; holds = (s.holds).rounds pairs best e }
 
-  pub spent_conflicts : (pairs : List Pair) (q : Query) (formula : Encoded) (log : List (List Lit)) (best : Option Choice) → r ≡ ending.SpentConflicts pairs q formula log best → ForSearch words (λ set budget. AreLearnt budget.conflicts log × IfSome f.left_old (λ text. Writes (IsSpentConflicts set budget text pairs q formula log best) f.held_old f.held_new))
-  spent_conflicts pairs q formula log best e = let s = synth_of words r f (ending.SpentConflicts pairs q formula log best) refl refl refl the e in record { set = s.set; budget = s.budget; is = s.is; holds = (s.holds).conflicts pairs q formula log best e }
+  pub spent_conflicts : (pairs : List Pair) (q : Query) (formula : Encoded) (log : List (List Lit)) (best : Option Choice) → r ≡ ending.SpentConflicts pairs q formula log best → ForSearch words (λ set budget cert. AreLearnt budget.conflicts log × IfSome f.left_old (λ text. Writes (IsSpentConflicts set budget cert text pairs q formula log best) f.held_old f.held_new))
+  spent_conflicts pairs q formula log best e = let s = synth_of words r f (ending.SpentConflicts pairs q formula log best) refl refl refl the e in record { set = s.set; budget = s.budget; cert = s.cert; is = s.is; holds = (s.holds).conflicts pairs q formula log best e }
 
   pub help : r ≡ ending.HelpShown → IsLine words line.Help × Appends help_text f.held_old f.held_new
   help = help_of words r f the
@@ -791,13 +791,13 @@ module _ {words : List (List ℕ)} {r : Ending} {f : Effect} (a : Answers words 
   met e = let s = asking_of words r f ending.Met refl refl refl refl refl the e in met_of s.set s.asked s.is s.holds e
 
   -- what is told of the text by an ending of lines that read their source
-  told_of : (x : Ending) → is_of_text x ≡ true → (P Q C : Set → List ℕ → Type 0) → ((set : Set) (budget : Budget) → Synthesises set budget r f → IfSome f.left_old (P set)) → ((set : Set) (job : Job) → Executes set job r f → IfSome f.left_old (P set)) → ((set : Set) → Lowers set r f → IfSome f.left_old (Q set)) → ((set : Set) (asked : Question) → Asks set asked r f → IfSome f.left_old (P set)) → ((set : Set) → Checks set r f → IfSome f.left_old (C set)) → r ≡ x → ForText words (λ set. IfSome f.left_old (P set)) ⊎ ForLower words (λ set. IfSome f.left_old (Q set)) ⊎ ForCheck words (λ set. IfSome f.left_old (C set))
+  told_of : (x : Ending) → is_of_text x ≡ true → (P Q C : Set → List ℕ → Type 0) → ((set : Set) (budget : Budget) (cert : Bool) → Synthesises set budget cert r f → IfSome f.left_old (P set)) → ((set : Set) (job : Job) → Executes set job r f → IfSome f.left_old (P set)) → ((set : Set) → Lowers set r f → IfSome f.left_old (Q set)) → ((set : Set) (asked : Question) → Asks set asked r f → IfSome f.left_old (P set)) → ((set : Set) → Checks set r f → IfSome f.left_old (C set)) → r ≡ x → ForText words (λ set. IfSome f.left_old (P set)) ⊎ ForLower words (λ set. IfSome f.left_old (Q set)) ⊎ ForCheck words (λ set. IfSome f.left_old (C set))
   told_of x a P Q C k l m n o e = text_of words r f x a (λ set. IfSome f.left_old (P set)) (λ set. IfSome f.left_old (Q set)) (λ set. IfSome f.left_old (C set)) k l m n o the e
 
   pub not_text : (fault : TextFault) → r ≡ ending.NotText fault → ForText words (λ set. IfSome f.left_old (IsTextFault fault)) ⊎ ForLower words (λ set. IfSome f.left_old (λ text. IsFaultOfLowering set text (sketch.NotText fault))) ⊎ ForCheck words (λ set. IfSome f.left_old (λ input. IsFaultOfCheck set input (check.Sketch (sketch.NotText fault))))
   not_text fault e =
       told_of (ending.NotText fault) refl (λ set text. IsTextFault fault text) (λ set text. IsFaultOfLowering set text (sketch.NotText fault)) (λ set input. IsFaultOfCheck set input (check.Sketch (sketch.NotText fault)))
-      (λ set budget s. told_as words r f set budget s (ending.NotText fault) (IsTextFault fault) (λ text h. h.1) e)
+      (λ set budget cert s. told_as words r f set budget cert s (ending.NotText fault) (IsTextFault fault) (λ text h. h.1) e)
       (λ set job s. by_exec.told_by set job r f (IsTextFault fault) (λ text w. by_exec.not_text_by set job r f fault e text w) s.runs)
       (λ set s. by_lower.told_as set r f (ending.NotText fault) (λ text. IsFaultOfLowering set text (sketch.NotText fault)) (λ text h. h.0) e s.lowers)
       (λ set asked s. by_asking.told_as set asked r f (ending.NotText fault) (IsTextFault fault) (λ text h. h.1) e s.asks)
@@ -806,7 +806,7 @@ module _ {words : List (List ℕ)} {r : Ending} {f : Effect} (a : Answers words 
   pub not_typed : (fault : TypeFault) → r ≡ ending.NotTyped fault → ForText words (λ set. IfSome f.left_old (IsUntyped set)) ⊎ ForLower words (λ set. IfSome f.left_old (λ text. IsFaultOfLowering set text (sketch.NotTyped fault))) ⊎ ForCheck words (λ set. IfSome f.left_old (λ input. IsFaultOfCheck set input (check.Sketch (sketch.NotTyped fault))))
   not_typed fault e =
       told_of (ending.NotTyped fault) refl IsUntyped (λ set text. IsFaultOfLowering set text (sketch.NotTyped fault)) (λ set input. IsFaultOfCheck set input (check.Sketch (sketch.NotTyped fault)))
-      (λ set budget s. told_as words r f set budget s (ending.NotTyped fault) (IsUntyped set) (λ text h. h.1) e)
+      (λ set budget cert s. told_as words r f set budget cert s (ending.NotTyped fault) (IsUntyped set) (λ text h. h.1) e)
       (λ set job s. by_exec.told_by set job r f (IsUntyped set) (λ text w. by_exec.not_typed_by set job r f fault e text w) s.runs)
       (λ set s. by_lower.told_as set r f (ending.NotTyped fault) (λ text. IsFaultOfLowering set text (sketch.NotTyped fault)) (λ text h. h.0) e s.lowers)
       (λ set asked s. by_asking.told_as set asked r f (ending.NotTyped fault) (IsUntyped set) (λ text h. h.1) e s.asks)
@@ -819,7 +819,7 @@ module _ {words : List (List ℕ)} {r : Ending} {f : Effect} (a : Answers words 
   pub text_place : (fault : TextFault) → r ≡ ending.NotText fault → IfSome f.left_old (λ text. byte_of fault ≤ length text)
   text_place fault e =
       for_each words r f (told_of (ending.NotText fault) refl (λ set text. byte_of fault ≤ length text) (λ set text. byte_of fault ≤ length text) (λ set text. byte_of fault ≤ length text)
-      (λ set budget s. byte_told fault (told_as words r f set budget s (ending.NotText fault) (IsTextFault fault) (λ text h. h.1) e))
+      (λ set budget cert s. byte_told fault (told_as words r f set budget cert s (ending.NotText fault) (IsTextFault fault) (λ text h. h.1) e))
       (λ set job s. byte_told fault (by_exec.told_by set job r f (IsTextFault fault) (λ text w. by_exec.not_text_by set job r f fault e text w) s.runs))
       (λ set s. by_lower.told_as set r f (ending.NotText fault) (λ text. byte_of fault ≤ length text) (λ text h. h.1) e s.lowers)
       (λ set asked s. byte_told fault (by_asking.told_as set asked r f (ending.NotText fault) (IsTextFault fault) (λ text h. h.1) e s.asks))
@@ -828,7 +828,7 @@ module _ {words : List (List ℕ)} {r : Ending} {f : Effect} (a : Answers words 
   pub type_place : (fault : TypeFault) → r ≡ ending.NotTyped fault → ForText words (λ set. IfSome f.left_old (λ text. HasSpan text fault.span)) ⊎ ForLower words (λ set. IfSome f.left_old (λ text. IsPlacedFault text (sketch.NotTyped fault))) ⊎ ForCheck words (λ set. IfSome f.left_old (λ input. checking.IsPlacedFault input (check.Sketch (sketch.NotTyped fault))))
   type_place fault e =
       told_of (ending.NotTyped fault) refl (λ set text. HasSpan text fault.span) (λ set text. IsPlacedFault text (sketch.NotTyped fault)) (λ set input. checking.IsPlacedFault input (check.Sketch (sketch.NotTyped fault)))
-      (λ set budget s. s.place fault e)
+      (λ set budget cert s. s.place fault e)
       (λ set job s. s.place fault e)
       (λ set s. by_lower.told_as set r f (ending.NotTyped fault) (λ text. IsPlacedFault text (sketch.NotTyped fault)) (λ text h. h.1) e s.lowers)
       (λ set asked s. by_asking.told_by set asked r f (λ text. HasSpan text fault.span) (by_asking.place_by set asked r f fault e) s.asks)
@@ -844,7 +844,7 @@ module _ {words : List (List ℕ)} {r : Ending} {f : Effect} (a : Answers words 
   too_large reason e =
       not_lower (λ set. IfSome f.left_old (λ text. IsTooLarge set text reason)) (λ set. IfSome f.left_old (λ input. IsFaultOfCheck set input (check.Sketch (sketch.TooLarge reason))))
       (text_of words r f (ending.TooLarge reason) refl (λ set. IfSome f.left_old (λ text. IsTooLarge set text reason)) (λ set. ⊥) (λ set. IfSome f.left_old (λ input. IsFaultOfCheck set input (check.Sketch (sketch.TooLarge reason))))
-      (λ set budget s. told_as words r f set budget s (ending.TooLarge reason) (λ text. IsTooLarge set text reason) (λ text h. h) e)
+      (λ set budget cert s. told_as words r f set budget cert s (ending.TooLarge reason) (λ text. IsTooLarge set text reason) (λ text h. h) e)
       (λ set job s. by_exec.told_by set job r f (λ text. IsTooLarge set text reason) (λ text w. by_exec.too_large_by set job r f reason e text w) s.runs)
       (λ set s. by_lower.lower_not set r f (ending.TooLarge reason) refl s.lowers e)
       (λ set asked s. by_asking.told_as set asked r f (ending.TooLarge reason) (λ text. IsTooLarge set text reason) (λ text h. h) e s.asks)
@@ -856,7 +856,7 @@ module _ {words : List (List ℕ)} {r : Ending} {f : Effect} (a : Answers words 
   pub too_long : r ≡ ending.TooLong → IfSome f.left_old (λ text. most_bytes < length text)
   too_long e =
       for_each words r f (told_of ending.TooLong refl (λ set text. most_bytes < length text) (λ set text. most_bytes < length text) (λ set text. most_bytes < length text)
-      (λ set budget s. told_as words r f set budget s ending.TooLong (λ text. most_bytes < length text) (λ text h. h) e)
+      (λ set budget cert s. told_as words r f set budget cert s ending.TooLong (λ text. most_bytes < length text) (λ text h. h) e)
       (λ set job s. by_exec.told_by set job r f (λ text. most_bytes < length text) (λ text w. by_exec.too_long_by set job r f e text w) s.runs)
       (λ set s. by_lower.told_as set r f ending.TooLong (λ text. most_bytes < length text) (λ text h. h) e s.lowers)
       (λ set asked s. by_asking.told_as set asked r f ending.TooLong (λ text. most_bytes < length text) (λ text h. h) e s.asks)
@@ -865,7 +865,7 @@ module _ {words : List (List ℕ)} {r : Ending} {f : Effect} (a : Answers words 
   pub read_fault : r ≡ ending.ReadFault → Rose f.read_faults_old f.read_faults_new
   read_fault e =
       for_each words r f (text_of words r f ending.ReadFault refl (λ set. Rose f.read_faults_old f.read_faults_new) (λ set. Rose f.read_faults_old f.read_faults_new) (λ set. Rose f.read_faults_old f.read_faults_new)
-      (λ set budget s. s.read_fault e)
+      (λ set budget cert s. s.read_fault e)
       (λ set job s. by_exec.read_fault_by set job r f s.runs e)
       (λ set s. by_lower.read_fault_by set r f s.lowers e)
       (λ set asked s. by_asking.read_fault_by set asked r f s.asks e)
@@ -905,16 +905,16 @@ module _ {words : List (List ℕ)} {r : Ending} {f : Effect} (a : Answers words 
   ends_version = ends_version_of words r f the
 
   -- what follows for a line `synth` from what is told of its text; of want of memory that is nothing
-  for_search : (P : Set → Budget → List ℕ → Type 0) → ((set : Set) (budget : Budget) → Synthesises set budget r f → (text : List ℕ) → IsToldOf set text r f.read_faults_old f.read_faults_new f.write_faults_old f.write_faults_new → P set budget text) → ((set : Set) (budget : Budget) (text : List ℕ) → r ≡ ending.Memory → P set budget text) → (set : Set) (budget : Budget) → IsSearch words set budget → IfSome f.left_old (P set budget)
-  for_search P k m = for_synth words r f (λ set budget. IfSome f.left_old (P set budget)) (λ set budget s. mapped f.left_old (λ text. IsToldOf set text r f.read_faults_old f.read_faults_new f.write_faults_old f.write_faults_new) (P set budget) (k set budget s) s.told) (λ set budget e. every f.left_old (P set budget) (λ text. m set budget text e)) the
+  for_search : (P : Set → Budget → Bool → List ℕ → Type 0) → ((set : Set) (budget : Budget) (cert : Bool) → Synthesises set budget cert r f → (text : List ℕ) → IsToldOf set text r f.read_faults_old f.read_faults_new f.write_faults_old f.write_faults_new → P set budget cert text) → ((set : Set) (budget : Budget) (cert : Bool) (text : List ℕ) → r ≡ ending.Memory → P set budget cert text) → (set : Set) (budget : Budget) (cert : Bool) → IsSearch words set budget cert → IfSome f.left_old (P set budget cert)
+  for_search P k m = for_synth words r f (λ set budget cert. IfSome f.left_old (P set budget cert)) (λ set budget cert s. mapped f.left_old (λ text. IsToldOf set text r f.read_faults_old f.read_faults_new f.write_faults_old f.write_faults_new) (P set budget cert) (k set budget cert s) s.told) (λ set budget cert e. every f.left_old (P set budget cert) (λ text. m set budget cert text e)) the
 
   -- what a line `synth` does, or that memory was wanting
-  pub of_search : (set : Set) (budget : Budget) → IsSearch words set budget → Synthesises set budget r f ⊎ (r ≡ ending.Memory)
-  of_search = for_synth words r f (λ set budget. Synthesises set budget r f ⊎ (r ≡ ending.Memory)) (λ set budget s. inl s) (λ set budget m. inr m) the
+  pub of_search : (set : Set) (budget : Budget) (cert : Bool) → IsSearch words set budget cert → Synthesises set budget cert r f ⊎ (r ≡ ending.Memory)
+  of_search = for_synth words r f (λ set budget cert. Synthesises set budget cert r f ⊎ (r ≡ ending.Memory)) (λ set budget cert s. inl s) (λ set budget cert m. inr m) the
 
   -- whatever its budgets are
   for_text : (P : Set → List ℕ → Type 0) → ((set : Set) (text : List ℕ) → IsToldOf set text r f.read_faults_old f.read_faults_new f.write_faults_old f.write_faults_new → P set text) → (set : Set) → IsSynth words set → IfSome f.left_old (P set)
-  for_text P k set h = for_search (λ s budget text. P s text) (λ s budget called text told. k s text told) (λ s budget text m. k s text (subst (λ x. IsToldOf s text x f.read_faults_old f.read_faults_new f.write_faults_old f.write_faults_new) (sym m) tt)) set h.budget h.is
+  for_text P k set h = for_search (λ s budget cert text. P s text) (λ s budget cert called text told. k s text told) (λ s budget cert text m. k s text (subst (λ x. IsToldOf s text x f.read_faults_old f.read_faults_new f.write_faults_old f.write_faults_new) (sym m) tt)) set h.budget h.cert h.is
 
   -- the same for a line that runs a function
   for_exec_text : (P : Set → Job → List ℕ → Type 0) → ((set : Set) (job : Job) (text : List ℕ) → by_exec.Came set job r f text → P set job text) → (set : Set) (job : Job) → IsJob words set job → IfSome f.left_old (P set job)
@@ -946,45 +946,45 @@ module _ {words : List (List ℕ)} {r : Ending} {f : Effect} (a : Answers words 
   for_lowering P k = for_lower words r f (λ set. IfSome f.left_old (P set)) (λ set s. by_lower.told_by set r f (P set) (k set) s.lowers) (λ set m. every f.left_old (P set) (λ text. k set text (came_wanting m))) the
 
   -- a budget that is spent is not 0
-  allowed : (set : Set) (budget : Budget) → Synthesises set budget r f → (x : Ending) → r ≡ x → by.IsAllowed budget x
-  allowed set budget s (ending.SpentRounds pairs best) e = (s.rounds pairs best e).0.some
-  allowed set budget s (ending.SpentConflicts pairs q formula log best) e = (s.conflicts pairs q formula log best e).0.some
-  allowed set budget s ending.Completed e = tt
-  allowed set budget s ending.NoCompletion e = tt
-  allowed set budget s ending.HelpShown e = tt
-  allowed set budget s ending.Accepted e = tt
-  allowed set budget s (ending.Rejected why) e = tt
-  allowed set budget s (ending.NotCertificate why) e = tt
-  allowed set budget s ending.VersionShown e = tt
-  allowed set budget s ending.NotALine e = tt
-  allowed set budget s ending.NotBuilt e = tt
-  allowed set budget s ending.ExecDone e = tt
-  allowed set budget s (ending.ExecFailed span) e = tt
-  allowed set budget s (ending.ExecSkipped span) e = tt
-  allowed set budget s (ending.NotText fault) e = tt
-  allowed set budget s (ending.NotTyped fault) e = tt
-  allowed set budget s (ending.TooLarge reason) e = tt
-  allowed set budget s (ending.NotRun reason) e = tt
-  allowed set budget s (ending.NotFilled reason) e = tt
-  allowed set budget s ending.Lowered e = tt
-  allowed set budget s ending.Listed e = absurd (synth_not words r f set budget ending.Listed s refl e)
-  allowed set budget s ending.Explained e = absurd (synth_not words r f set budget ending.Explained s refl e)
-  allowed set budget s ending.Met e = absurd (synth_not words r f set budget ending.Met s refl e)
-  allowed set budget s (ending.NotLowered reason) e = tt
-  allowed set budget s (ending.NotTagged span) e = tt
-  allowed set budget s ending.ReadFault e = tt
-  allowed set budget s ending.WriteFault e = tt
-  allowed set budget s ending.TooLong e = tt
-  allowed set budget s ending.Memory e = tt
+  allowed : (set : Set) (budget : Budget) (cert : Bool) → Synthesises set budget cert r f → (x : Ending) → r ≡ x → by.IsAllowed budget x
+  allowed set budget cert s (ending.SpentRounds pairs best) e = (s.rounds pairs best e).0.some
+  allowed set budget cert s (ending.SpentConflicts pairs q formula log best) e = (s.conflicts pairs q formula log best e).0.some
+  allowed set budget cert s ending.Completed e = tt
+  allowed set budget cert s ending.NoCompletion e = tt
+  allowed set budget cert s ending.HelpShown e = tt
+  allowed set budget cert s ending.Accepted e = tt
+  allowed set budget cert s (ending.Rejected why) e = tt
+  allowed set budget cert s (ending.NotCertificate why) e = tt
+  allowed set budget cert s ending.VersionShown e = tt
+  allowed set budget cert s ending.NotALine e = tt
+  allowed set budget cert s ending.NotBuilt e = tt
+  allowed set budget cert s ending.ExecDone e = tt
+  allowed set budget cert s (ending.ExecFailed span) e = tt
+  allowed set budget cert s (ending.ExecSkipped span) e = tt
+  allowed set budget cert s (ending.NotText fault) e = tt
+  allowed set budget cert s (ending.NotTyped fault) e = tt
+  allowed set budget cert s (ending.TooLarge reason) e = tt
+  allowed set budget cert s (ending.NotRun reason) e = tt
+  allowed set budget cert s (ending.NotFilled reason) e = tt
+  allowed set budget cert s ending.Lowered e = tt
+  allowed set budget cert s ending.Listed e = absurd (synth_not words r f set budget cert ending.Listed s refl e)
+  allowed set budget cert s ending.Explained e = absurd (synth_not words r f set budget cert ending.Explained s refl e)
+  allowed set budget cert s ending.Met e = absurd (synth_not words r f set budget cert ending.Met s refl e)
+  allowed set budget cert s (ending.NotLowered reason) e = tt
+  allowed set budget cert s (ending.NotTagged span) e = tt
+  allowed set budget cert s ending.ReadFault e = tt
+  allowed set budget cert s ending.WriteFault e = tt
+  allowed set budget cert s ending.TooLong e = tt
+  allowed set budget cert s ending.Memory e = tt
 
   abbrev Built : Set → Budget → List ℕ → Type 0
   Built set budget text = (bounds : Bounds) (e : Expanded) → IsBuilt set text bounds e → EndsBuilt budget r f.read_faults_old f.read_faults_new f.write_faults_old f.write_faults_new
 
-  pub ends_built : (set : Set) (budget : Budget) → IsSearch words set budget → IfSome f.left_old (λ text. (bounds : Bounds) (e : Expanded) → IsBuilt set text bounds e → EndsBuilt budget r f.read_faults_old f.read_faults_new f.write_faults_old f.write_faults_new)
+  pub ends_built : (set : Set) (budget : Budget) (cert : Bool) → IsSearch words set budget cert → IfSome f.left_old (λ text. (bounds : Bounds) (e : Expanded) → IsBuilt set text bounds e → EndsBuilt budget r f.read_faults_old f.read_faults_new f.write_faults_old f.write_faults_new)
   ends_built =
-      for_search Built
-      (λ set budget s text told. by.ends_built set text f.read_faults_old f.read_faults_new f.write_faults_old f.write_faults_new budget r (allowed set budget s r refl) told)
-      (λ set budget text m bounds e is. subst (λ x. EndsBuilt budget x f.read_faults_old f.read_faults_new f.write_faults_old f.write_faults_new) (sym m) tt)
+      for_search (λ set budget cert. Built set budget)
+      (λ set budget cert s text told. by.ends_built set text f.read_faults_old f.read_faults_new f.write_faults_old f.write_faults_new budget r (allowed set budget cert s r refl) told)
+      (λ set budget cert text m bounds e is. subst (λ x. EndsBuilt budget x f.read_faults_old f.read_faults_new f.write_faults_old f.write_faults_new) (sym m) tt)
 
   pub ends_faulty : (set : Set) → TakesText words set → IfSome f.left_old (λ text. length text ≤ most_bytes → (fault : TextFault) → IsTextFault fault text → EndsFaulty fault r f.read_faults_old f.read_faults_new)
   ends_faulty =
@@ -1110,7 +1110,3 @@ module _ {words : List (List ℕ)} {r : Ending} {f : Effect} (a : Answers words 
 
   pub ends_refused_input : (set : Set) → IsLine words (line.Check set) → IfSome f.left_old (λ input. length input ≤ most_input → (told : CheckFault) → checking.IsCause set input told → EndsRefusedInput told r f.read_faults_old f.read_faults_new)
   ends_refused_input = for_checked (λ set input. length input ≤ most_input → (told : CheckFault) → checking.IsCause set input told → EndsRefusedInput told r f.read_faults_old f.read_faults_new) (λ set input came. by_check.ends_refused_by set r f input came)
-
--- a call for a line `synth` without a certificate
-pub serves_search : (set : Set) (budget : Budget) (cert : Bool) (r : Ending) (f : Effect) → cert ≡ false → Synthesises set budget r f → Serves (line.Synth set budget cert) r f
-serves_search set budget cert r f is s = subst (λ b. Serves (line.Synth set budget b) r f) (sym is) s

@@ -1,6 +1,6 @@
 -- The clauses of `run`, in pairs: an ending comes only where it has its cause; and where there is the cause, it comes, or the
 -- source or the sink failed as `Ends` says, or memory was wanting.
-use Rattle.std.specs.Prelude.{ℕ, ◌≡◌, ◌≤◌, ◌<◌, ◌⊎◌, List, length, Option, IsTrue}
+use Rattle.std.specs.Prelude.{ℕ, ◌≡◌, ◌≤◌, ◌<◌, ◌⊎◌, Bool, List, length, Option, IsTrue}
 use Rattle.sk_base.specs.declared.bounds.Bounds.{Bounds}
 use Rattle.sk_base.specs.declared.bounds.Budget.{Budget}
 use Rattle.sk_base.specs.declared.span.Span.{Span}
@@ -48,7 +48,7 @@ use Rattle.sk_check_text.specs.declared.fault.CheckFault.TheVariants as check
 use Rattle.sk_check_text.specs.Checking.{TakesSketch, IsAccepted, IsRejectedFor, IsSomeCertificate, IsFaultOfCheck}
 use Rattle.sk_check_text.specs.Checking as checking
 use Rattle.sk_app.specs.Checks.{most_input, IsTooLongInput, told_reason}
-use Rattle.sk_app.specs.Lines.{IsNoLine, IsSearch, ForSearch, ForSynth, IsJob, ForJob, ForTrace, ForLower, ForAll, ForWhy, TakesText, SizesText, ForText, ReadsText, ForCheck, ReadsSource, IsUnbuiltLine}
+use Rattle.sk_app.specs.Lines.{IsNoLine, IsSearch, ForSearch, IsJob, ForJob, ForTrace, ForLower, ForAll, ForWhy, TakesText, SizesText, ForText, ReadsText, ForCheck, ReadsSource, IsUnbuiltLine}
 use Rattle.sk_app.specs.Jobs.{IsStopped, IsRunOfJob}
 use Rattle.sk_app.specs.Questions.{IsExplained, IsMet}
 use Rattle.sk_app.specs.Ends.{WritesPart, writes_nothing, Ends, IsOfBuilt, IsOfFault, IsOfUntyped, IsOfRefused, IsOfRefusedInput, IsOfVerdict, IsOfAccepted, ending_of, stopped}
@@ -65,7 +65,7 @@ TellsNoLine c = c.ending ≡ NotALine → IsNoLine c.words
 abbrev pub NoLineEnds : Call → Type 0
 NoLineEnds c = IsNoLine c.words → Ends (λ e. e ≡ NotALine) ⊥ ⊥ c.ending
 
--- The line is one for which the program does nothing: `self`, or one that asks for a certificate.
+-- The line is one for which the program does nothing: `self`.
 abbrev pub TellsUnbuilt : Call → Type 0
 TellsUnbuilt c = c.ending ≡ NotBuilt → IsUnbuiltLine c.words
 
@@ -91,26 +91,26 @@ VersionEnds c = IsLine c.words line.Version → Ends (λ e. e ≡ VersionShown) 
 
 -- A line `synth`
 
--- The sink got the result text of a filling that meets its obligations and costs least.
+-- The sink got the result text of a filling that meets its obligations and costs least, with a certificate where the line asks for one.
 abbrev pub TellsCompletion : Call → Type 0
-TellsCompletion c = c.ending ≡ Completed → ForSynth c.words (λ set. OfText c (λ text. Gets c (IsCompletion set text)))
+TellsCompletion c = c.ending ≡ Completed → ForSearch c.words (λ set budget cert. OfText c (λ text. Gets c (IsCompletion set cert text)))
 
--- No filling meets them.
+-- No filling meets them. The sink got a line that says so, with a certificate where the line asks for one.
 abbrev pub TellsNone : Call → Type 0
-TellsNone c = c.ending ≡ NoCompletion → ForSynth c.words (λ set. OfText c (λ text. Gets c (IsNone set text)))
+TellsNone c = c.ending ≡ NoCompletion → ForSearch c.words (λ set budget cert. OfText c (λ text. Gets c (IsNone set cert text)))
 
 -- The line's budget of rounds is spent, which is not 0: the pairs are as many. The sink got them, and a choice whose filling
 -- meets its obligations, where one is known.
 abbrev pub TellsRounds : Call → Type 0
-TellsRounds c = (pairs : List Pair) (best : Option Choice) → c.ending ≡ SpentRounds pairs best → ForSearch c.words (λ set budget. AreSpent budget.rounds pairs × OfText c (λ text. Gets c (IsSpentRounds set budget text pairs best)))
+TellsRounds c = (pairs : List Pair) (best : Option Choice) → c.ending ≡ SpentRounds pairs best → ForSearch c.words (λ set budget cert. AreSpent budget.rounds pairs × OfText c (λ text. Gets c (IsSpentRounds set budget text pairs best)))
 
 -- The line's budget of conflicts is spent, which is not 0: as many clauses were learnt from the formula of the query.
 abbrev pub TellsConflicts : Call → Type 0
-TellsConflicts c = (pairs : List Pair) (q : Query) (formula : Encoded) (log : List (List Lit)) (best : Option Choice) → c.ending ≡ SpentConflicts pairs q formula log best → ForSearch c.words (λ set budget. AreLearnt budget.conflicts log × OfText c (λ text. Gets c (IsSpentConflicts set budget text pairs q formula log best)))
+TellsConflicts c = (pairs : List Pair) (q : Query) (formula : Encoded) (log : List (List Lit)) (best : Option Choice) → c.ending ≡ SpentConflicts pairs q formula log best → ForSearch c.words (λ set budget cert. AreLearnt budget.conflicts log × OfText c (λ text. Gets c (IsSpentConflicts set budget cert text pairs q formula log best)))
 
 -- A text that is taken ends in one of these ways.
 abbrev pub BuiltEnds : Call → Type 0
-BuiltEnds c = (set : Set) (budget : Budget) → IsSearch c.words set budget → OfText c (λ text. (bounds : Bounds) (e : Expanded) → IsBuilt set text bounds e → Ends (IsOfBuilt budget) (SourceFailed c) (SinkFailed c) c.ending)
+BuiltEnds c = (set : Set) (budget : Budget) (cert : Bool) → IsSearch c.words set budget cert → OfText c (λ text. (bounds : Bounds) (e : Expanded) → IsBuilt set text bounds e → Ends (IsOfBuilt budget) (SourceFailed c) (SinkFailed c) c.ending)
 
 -- Texts that are refused
 

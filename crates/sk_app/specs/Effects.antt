@@ -98,18 +98,18 @@ is_of_synth _ = true
 abbrev pub TellsSpan : Ending → Option (List ℕ) → Type 0
 TellsSpan result left = (fault : TypeFault) → result ≡ NotTyped fault → IfSome left (λ text. HasSpan text fault.span)
 
--- a call for a line `synth` with these options and budgets
-pub record Synthesises (set : Set) (budget : Budget) (result : Ending) (f : Effect) : Type 0 where
+-- a call for a line `synth` with these options and budgets, which asks for a certificate or does not
+pub record Synthesises (set : Set) (budget : Budget) (cert : Bool) (result : Ending) (f : Effect) : Type 0 where
   pub ends : IsTrue (is_of_synth result)
-  pub completed : result ≡ Completed → IfSome f.left_old (λ text. Writes (IsCompletion set text) f.held_old f.held_new)
-  pub none : result ≡ NoCompletion → IfSome f.left_old (λ text. Writes (IsNone set text) f.held_old f.held_new)
+  pub completed : result ≡ Completed → IfSome f.left_old (λ text. Writes (IsCompletion set cert text) f.held_old f.held_new)
+  pub none : result ≡ NoCompletion → IfSome f.left_old (λ text. Writes (IsNone set cert text) f.held_old f.held_new)
   pub rounds : (pairs : List Pair) (best : Option Choice) → result ≡ SpentRounds pairs best → AreSpent budget.rounds pairs × IfSome f.left_old (λ text. Writes (IsSpentRounds set budget text pairs best) f.held_old f.held_new)
-  pub conflicts : (pairs : List Pair) (q : Query) (formula : Encoded) (log : List (List Lit)) (best : Option Choice) → result ≡ SpentConflicts pairs q formula log best → AreLearnt budget.conflicts log × IfSome f.left_old (λ text. Writes (IsSpentConflicts set budget text pairs q formula log best) f.held_old f.held_new)
+  pub conflicts : (pairs : List Pair) (q : Query) (formula : Encoded) (log : List (List Lit)) (best : Option Choice) → result ≡ SpentConflicts pairs q formula log best → AreLearnt budget.conflicts log × IfSome f.left_old (λ text. Writes (IsSpentConflicts set budget cert text pairs q formula log best) f.held_old f.held_new)
   pub told : IfSome f.left_old (λ text. IsToldOf set text result f.read_faults_old f.read_faults_new f.write_faults_old f.write_faults_new)
   pub place : TellsSpan result f.left_old
   pub read_fault : result ≡ ReadFault → Rose f.read_faults_old f.read_faults_new
   pub write_fault : result ≡ WriteFault → Rose f.write_faults_old f.write_faults_new
-  pub prefix : result ≡ WriteFault → IfSome f.left_old (λ text. WritesPart (IsResult set budget text) f.held_old f.held_new)
+  pub prefix : result ≡ WriteFault → IfSome f.left_old (λ text. WritesPart (IsResult set budget cert text) f.held_old f.held_new)
   pub kept : IsTrue (writes_nothing result) → f.held_new ≡ f.held_old
   pub few : TakesFew most_bytes f.left_old f.left_new
 
@@ -215,8 +215,7 @@ pub record Checks (set : Set) (result : Ending) (f : Effect) : Type 0 where
 
 -- what a call does for a line
 abbrev pub Serves : Line → Ending → Effect → Type 0
-Serves (line.Synth set budget true) result f = IsRefused NotBuilt result f
-Serves (line.Synth set budget false) result f = Synthesises set budget result f
+Serves (line.Synth set budget cert) result f = Synthesises set budget cert result f
 Serves (line.Exec set name values) result f = Executes set (record { name = name; values = values; way = way.Exec }) result f
 Serves (line.Trace set name values holes) result f = Executes set (record { name = name; values = values; way = way.Trace holes }) result f
 Serves (line.Lower set) result f = Lowers set result f
@@ -235,7 +234,7 @@ pub data Answers (words : List (List ℕ)) (result : Ending) (f : Effect) : Type
 
 -- a text that a line writes for this text of its source
 pub data IsOutput (words : List (List ℕ)) (text out : List ℕ) : Type 0 where
-  result : ForSearch words (λ set budget. IsResult set budget text out) → IsOutput words text out
+  result : ForSearch words (λ set budget cert. IsResult set budget cert text out) → IsOutput words text out
   run : ForJob words (λ set job. IsRunOutput set job text out) → IsOutput words text out
   plain : ForLower words (λ set. IsLoweredText set text out) → IsOutput words text out
   listing : ForAll words (λ set most. IsListing set most text out) → IsOutput words text out

@@ -45,29 +45,31 @@ fn show_help<K: Sink>(alloc: Global, sink: &mut K) -> Ending
     }
 }
 
-/// Completes the text of the source with the options and budgets of a line, and writes the result to the sink.
+/// Completes the text of the source with the options and budgets of a line, and writes the result to the sink, with
+/// a certificate where one is asked for.
 fn synth<S: Source, K: Sink>(
     alloc: Global,
     set: &Set,
     budget: &Budget,
+    cert: bool,
     source: &mut S,
     sink: &mut K,
 ) -> Ending
     requires { IsInRanges set.now }
     ensures ends { IsTrue (is_of_synth result) }
-    ensures completed { result ≡ Ending.Completed → IfSome (S.left source.old) (λ text. Writes (IsCompletion set.now text) (K.held sink.old) (K.held sink.new)) }
-    ensures none { result ≡ Ending.NoCompletion → IfSome (S.left source.old) (λ text. Writes (IsNone set.now text) (K.held sink.old) (K.held sink.new)) }
+    ensures completed { result ≡ Ending.Completed → IfSome (S.left source.old) (λ text. Writes (IsCompletion set.now cert text) (K.held sink.old) (K.held sink.new)) }
+    ensures none { result ≡ Ending.NoCompletion → IfSome (S.left source.old) (λ text. Writes (IsNone set.now cert text) (K.held sink.old) (K.held sink.new)) }
     ensures rounds { (pairs : List Pair) (best : Option Choice) → result ≡ Ending.SpentRounds pairs best → AreSpent budget.now.rounds pairs × IfSome (S.left source.old) (λ text. Writes (IsSpentRounds set.now budget.now text pairs best) (K.held sink.old) (K.held sink.new)) }
-    ensures conflicts { (pairs : List Pair) (q : Query) (formula : Encoded) (log : List (List Lit)) (best : Option Choice) → result ≡ Ending.SpentConflicts pairs q formula log best → AreLearnt budget.now.conflicts log × IfSome (S.left source.old) (λ text. Writes (IsSpentConflicts set.now budget.now text pairs q formula log best) (K.held sink.old) (K.held sink.new)) }
+    ensures conflicts { (pairs : List Pair) (q : Query) (formula : Encoded) (log : List (List Lit)) (best : Option Choice) → result ≡ Ending.SpentConflicts pairs q formula log best → AreLearnt budget.now.conflicts log × IfSome (S.left source.old) (λ text. Writes (IsSpentConflicts set.now budget.now cert text pairs q formula log best) (K.held sink.old) (K.held sink.new)) }
     ensures told { IfSome (S.left source.old) (λ text. IsToldOf set.now text result (S.faults source.old) (S.faults source.new) (K.faults sink.old) (K.faults sink.new)) }
     ensures place { TellsSpan result (S.left source.old) }
     ensures read_fault { result ≡ Ending.ReadFault → Rose (S.faults source.old) (S.faults source.new) }
     ensures write_fault { result ≡ Ending.WriteFault → Rose (K.faults sink.old) (K.faults sink.new) }
-    ensures prefix { result ≡ Ending.WriteFault → IfSome (S.left source.old) (λ text. WritesPart (IsResult set.now budget.now text) (K.held sink.old) (K.held sink.new)) }
+    ensures prefix { result ≡ Ending.WriteFault → IfSome (S.left source.old) (λ text. WritesPart (IsResult set.now budget.now cert text) (K.held sink.old) (K.held sink.new)) }
     ensures kept { IsTrue (writes_nothing result) → K.held sink.new ≡ K.held sink.old }
     ensures few { TakesFew most_bytes (S.left source.old) (S.left source.new) }
 {
-    match prepare(alloc, set, budget, source) {
+    match prepare(alloc, set, budget, cert, source) {
         Err(_) => Ending::Memory,
         Ok(Prepared::ReadFault) => Ending::ReadFault,
         Ok(Prepared::TooLong) => Ending::TooLong,
@@ -90,10 +92,7 @@ fn serve_synth<S: Source, K: Sink>(
     requires { IsInRanges set }
     ensures { Serves (line.Synth set budget cert) result (effect S.Source K.Sink source sink) }
 {
-    if cert {
-        return Ending::NotBuilt;
-    }
-    synth(alloc, &set, &budget, source, sink)
+    synth(alloc, &set, &budget, cert, source, sink)
 }
 
 /// Does what a line asks for.
@@ -150,7 +149,7 @@ fn answer<S: Source, K: Sink>(
 /// `trace` fills it with numbers, runs a function of the filling, and writes its steps too; a line `lower` writes the plain
 /// sketch of a text with algebraic types; a line `all` lists completions of a sketch, and a line `why` writes inputs that explain why
 /// it has none; a line `check` says whether a sketch and a certificate behind it belong together; `--help` and `--version` write their
-/// texts. A line `self`, or one that asks for a certificate, ends with `NotBuilt`.
+/// texts. A line `self` ends with `NotBuilt`.
 ///
 /// What is said of the text holds where the source tells what is left, and what is said of what the sink
 /// holds where the sink tells it. Want of memory may come at any step.

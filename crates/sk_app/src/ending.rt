@@ -99,7 +99,7 @@ pub enum Ending {
     TooLong,
     /// Memory was wanting.
     Memory,
-    /// The line is one for which the program does nothing: `self`, or one that asks for a certificate.
+    /// The line is one for which the program does nothing: `self`.
     NotBuilt,
 }
 

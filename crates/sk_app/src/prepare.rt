@@ -38,22 +38,23 @@ pub enum Prepared {
     Found(Found),
 }
 
-/// Reads the text, and completes it with the options and budgets of a line.
+/// Reads the text, and completes it with the options and budgets of a line, with a certificate or without.
 pub fn prepare<S: Source>(
     alloc: Global,
     set: &Set,
     budget: &Budget,
+    cert: bool,
     source: &mut S,
 ) -> Result<Prepared, AllocError>
     requires { IsInRanges set.now }
-    ensures cause { IfOk result (λ prepared. IsPrepared set.now budget.now prepared (S.faults source.old) (S.faults source.new) (S.left source.old)) }
+    ensures cause { IfOk result (λ prepared. IsPrepared set.now budget.now cert prepared (S.faults source.old) (S.faults source.new) (S.left source.old)) }
     ensures few { TakesFew most_bytes (S.left source.old) (S.left source.new) }
 {
     match read_text(alloc, source, MOST_BYTES)? {
         Reading::Failed => Ok(Prepared::ReadFault),
         Reading::Long => Ok(Prepared::TooLong),
         Reading::Whole(text) => {
-            let found = complete(alloc, set, budget, text.as_slice())?;
+            let found = complete(alloc, set, budget, cert, text.as_slice())?;
             Ok(Prepared::Found(found))
         }
     }

@@ -1,0 +1,4 @@
+pub mod Listing
+pub mod Known
+pub mod Parts
+pub mod Whole
