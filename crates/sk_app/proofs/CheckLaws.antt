@@ -160,7 +160,6 @@ module _ (set : Set) (r : Ending) (f : Effect) where
   told_is_of_check input ending.NotALine h = absurd h
   told_is_of_check input (ending.NotRun reason) h = absurd h
   told_is_of_check input (ending.NotFilled reason) h = absurd h
-  told_is_of_check input ending.NotBuilt h = absurd h
 
   is_of_line : ChecksSource set r f → is_of_check r ≡ true
   is_of_line (failed e rose same) = ap is_of_check e
@@ -247,45 +246,27 @@ module _ (set : Set) (r : Ending) (f : Effect) where
 
   pub ends_checked_by : (input : List ℕ) → Came input → length input ≤ most_input → TakesSketch set input IsSomeCertificate → EndsChecked r f.read_faults_old f.read_faults_new f.write_faults_old f.write_faults_new
   ends_checked_by input came fits is =
-      ends input Wanted tt (λ rose. rose)
-      (λ s found i. by_match Wanted IsVerdict tt verdict_ends s (verdict_taken set input s found i is))
+      ends input (λ x. EndsChecked x f.read_faults_old f.read_faults_new f.write_faults_old f.write_faults_new) tt (λ rose. rose)
+      (λ s found i. by_match (λ x. EndsChecked x f.read_faults_old f.read_faults_new f.write_faults_old f.write_faults_new) IsVerdict tt verdict_ends s (verdict_taken set input s found i is))
       (λ p rose. rose) (λ why p rose. rose) fits came
-    where
-      abbrev Wanted : Ending → Type 0
-      Wanted x = EndsChecked x f.read_faults_old f.read_faults_new f.write_faults_old f.write_faults_new
 
   pub ends_accepted_by : (input : List ℕ) → Came input → length input ≤ most_input → TakesSketch set input IsAccepted → EndsAccepted r f.read_faults_old f.read_faults_new f.write_faults_old f.write_faults_new
   ends_accepted_by input came fits is =
-      ends input Wanted tt (λ rose. rose)
-      (λ s found i. by_match Wanted IsAcceptedButFormulas tt accepted_ends s (accepted_taken set input s found i is))
+      ends input (λ x. EndsAccepted x f.read_faults_old f.read_faults_new f.write_faults_old f.write_faults_new) tt (λ rose. rose)
+      (λ s found i. by_match (λ x. EndsAccepted x f.read_faults_old f.read_faults_new f.write_faults_old f.write_faults_new) IsAcceptedButFormulas tt accepted_ends s (accepted_taken set input s found i is))
       (λ p rose. rose) (λ why p rose. rose) fits came
-    where
-      abbrev Wanted : Ending → Type 0
-      Wanted x = EndsAccepted x f.read_faults_old f.read_faults_new f.write_faults_old f.write_faults_new
 
   pub ends_rejected_by : (input : List ℕ) → Came input → length input ≤ most_input → (why : Reason) → part_number why < 6 → TakesSketch set input (IsRejectedFor why) → EndsRejected why r f.read_faults_old f.read_faults_new f.write_faults_old f.write_faults_new
   ends_rejected_by input came fits why small is =
-      ends input Wanted tt (λ rose. rose)
-      (λ s found i. by_match Wanted (λ a. a ≡ checked.Rejected why) tt said s (rejected_taken set input s found i why small is))
+      ends input (λ x. EndsRejected why x f.read_faults_old f.read_faults_new f.write_faults_old f.write_faults_new) tt (λ rose. rose)
+      (λ s found i. by_match (λ x. EndsRejected why x f.read_faults_old f.read_faults_new f.write_faults_old f.write_faults_new) (λ a. a ≡ checked.Rejected why) tt (λ a e. subst (λ b. EndsRejected why (ending_of_result (Ok b)) f.read_faults_old f.read_faults_new f.write_faults_old f.write_faults_new) (sym e) refl) s (rejected_taken set input s found i why small is))
       (λ p rose. rose) (λ other p rose. rose) fits came
-    where
-      abbrev Wanted : Ending → Type 0
-      Wanted x = EndsRejected why x f.read_faults_old f.read_faults_new f.write_faults_old f.write_faults_new
-
-      said : (a : Checked) → a ≡ checked.Rejected why → Wanted (ending_of_result (Ok a))
-      said a e = subst (λ b. Wanted (ending_of_result (Ok b))) (sym e) refl
 
   pub ends_not_certificate_by : (input : List ℕ) → Came input → length input ≤ most_input → (why : CertFault) → TakesSketch set input (IsNone why) → EndsNotCertificate why r f.read_faults_old f.read_faults_new
   ends_not_certificate_by input came fits why is =
-      ends input Wanted tt (λ rose. rose)
-      (λ s found i. by_match Wanted (λ a. a ≡ checked.NotCertificate why) tt said s (none_taken set input s found i why is))
+      ends input (λ x. EndsNotCertificate why x f.read_faults_old f.read_faults_new) tt (λ rose. rose)
+      (λ s found i. by_match (λ x. EndsNotCertificate why x f.read_faults_old f.read_faults_new) (λ a. a ≡ checked.NotCertificate why) tt (λ a e. subst (λ b. EndsNotCertificate why (ending_of_result (Ok b)) f.read_faults_old f.read_faults_new) (sym e) refl) s (none_taken set input s found i why is))
       (λ p rose. cc) (λ other p rose. cc) fits came
-    where
-      abbrev Wanted : Ending → Type 0
-      Wanted x = EndsNotCertificate why x f.read_faults_old f.read_faults_new
-
-      said : (a : Checked) → a ≡ checked.NotCertificate why → Wanted (ending_of_result (Ok a))
-      said a e = subst (λ b. Wanted (ending_of_result (Ok b))) (sym e) refl
 
   -- an input that is refused for a cause ends as it
   as_refused : (told : CheckFault) (s : Result Checked CheckFault) → MatchResult s (λ a. ⊥) (IsToldAs told) → EndsRefusedInput told (ending_of_result s) f.read_faults_old f.read_faults_new

@@ -26,9 +26,9 @@ use Rattle.sk_clause.specs.declared.lit.Lit.{Lit}
 use Rattle.sk_cnf.specs.declared.growing.Encoded.{Encoded}
 use Rattle.sk_oblig_queries.specs.declared.query.Query.{Query}
 use Rattle.sk_loop_laws.specs.Honest.{Honest}
-use Rattle.sk_loop_laws.specs.Shown.{AreSpent, Learnt}
+use Rattle.sk_loop_laws.specs.Shown.{AreSpent, Learnt, IsOfSearch}
 use Rattle.sk_min_laws.specs.Best.{IsBest, Meeting}
-use Rattle.sk_min.specs.Least.{IsKnown, IsKnownOf}
+use Rattle.sk_min.specs.Least.{IsKnown, IsKnownOf, IsFreeSpent}
 use Rattle.sk_min.specs.Least as least
 use Rattle.sk_cert.specs.declared.certificate.Certificate.{Certificate}
 use Rattle.sk_cert.specs.Certificates.{result_lines, certificate_lines, IsCertificate}
@@ -38,7 +38,9 @@ use Rattle.sk_opts.specs.declared.line.Set.{Set}
 use Rattle.sk_front_laws.proofs.Whole.{texts_keep, texts_fit}
 use Rattle.sk_built_laws.specs.Built.{IsReady}
 use Rattle.sk_app.specs.declared.completion.Completion.{Completion}
+use Rattle.sk_app_texts.specs.SelfTexts.{self_text}
 use Rattle.sk_app.specs.Completing.{IsLeast}
+use Rattle.sk_app.specs.Summary.{IsSummaryOf}
 use Rattle.sk_app.specs.ResultText.{spaced, completion_lines, completed_text, none_text, IsWithCertificate, IsCompletion, IsNone}
 use Rattle.sk_app.specs.SpentText.{spent_result, OfRounds, OfConflicts}
 use Rattle.sk_app.specs.Spent.{IsMeeting, IsSpentRounds, IsSpentBy, IsSpentConflicts}
@@ -190,6 +192,11 @@ module _ (set : Set) where
       is = is;
     }
 
+    -- what a search says of a budget that it spent is more than what is said where a proof may have spent it
+    pub by_search : (cert : Bool) (q : Query) (best : Option Choice) → IsFreeSpent e best → IsOfSearch q → IsSpentBy cert e q best
+    by_search false q best free search = (free, search)
+    by_search true q best free search = tt
+
     pub conflicts_found : (cert : Bool) (budget : Budget) (pairs : List Pair) (q : Query) (f : Encoded) (log : List (List Lit)) (best : Option Choice) (out : List ℕ) → Learnt e bounds budget.conflicts pairs q f log → IsKnownOf e bounds pairs q best → IsSpentBy cert e q best → out ≡ spent_result e best (OfConflicts budget.conflicts) → IsSpentConflicts set budget cert text pairs q f log best out
     conflicts_found cert budget pairs q f log best out learnt known by is = record {
       bounds = bounds;
@@ -205,3 +212,9 @@ module _ (set : Set) where
 -- the parts of the lines of a completion, one behind the other
 pub lines_join : (o a d b s c : List ℕ) → ((((o ++ a) ++ d) ++ b) ++ s) ++ c ≡ o ++ ((((a ++ d) ++ b) ++ s) ++ c)
 lines_join o a d b s c = simp append_assoc refl
+
+-- the summary of a choice that is best
+pub summary_found : (bounds : Bounds) (e : Expanded) (n : ℕ) (choice : Choice) (value : ℕ) (out : List ℕ) → IsBest e bounds choice value → out ≡ self_text n bounds e value → IsSummaryOf n bounds e out
+summary_found bounds e n choice value out best is =
+    let c : Completion = record { choice = choice; filled = fill e choice; value = value } in
+    record { c = c; least = least_of bounds e c refl best; is = is }

@@ -28,7 +28,7 @@ use Rattle.sk_app.specs.declared.listing.Question.TheVariants as question
 use Rattle.sk_app.specs.Questions.{Reply, OfList, OfReasons, OfCompletion, IsReply, IsExplained, IsMet, ending_with}
 use Rattle.sk_all_text.specs.AllTexts.{IsListing}
 use Rattle.sk_min_laws.specs.Best.{Meeting}
-use Rattle.sk_app.proofs.JobLaws.{not_of_job, job_is_built, one_job, not_asking, asking_is_built, one_question, job_or_question}
+use Rattle.sk_app.proofs.JobLaws.{not_of_job, one_job, not_asking, one_question, job_or_question}
 use Rattle.sk_opts.specs.declared.line.Set.{Set}
 use Rattle.sk_opts.specs.declared.line.Line.{Line}
 use Rattle.sk_opts.specs.declared.line.Line.TheVariants as line
@@ -42,6 +42,7 @@ use Rattle.sk_check_text.specs.declared.fault.CheckFault.{CheckFault}
 use Rattle.sk_check_text.specs.declared.fault.CheckFault.TheVariants as check
 use Rattle.sk_check_text.specs.Checking.{TakesSketch, IsAccepted, IsRejectedFor, IsSomeCertificate, IsFaultOfCheck}
 use Rattle.sk_check_text.specs.Checking as checking
+use Rattle.sk_app.specs.Summary.{IsSummary}
 use Rattle.sk_app.specs.Checks.{most_input, IsTooLongInput, told_reason}
 use Rattle.sk_app.specs.declared.ending.Ending.{Ending}
 use Rattle.sk_app.specs.declared.ending.Ending.TheVariants as ending
@@ -61,11 +62,11 @@ use Rattle.sk_app.specs.ResultText.{IsCompletion, IsNone}
 use Rattle.sk_app.specs.Spent.{AreLearnt, IsSpentRounds, IsSpentConflicts}
 use Rattle.sk_app.specs.Results.{IsResult}
 use Rattle.sk_app.specs.Help.{help_text, version_text}
-use Rattle.sk_app.specs.Lines.{IsNoLine, IsSearch, ForSearch, IsSynth, line_by, line_of, IsJob, ForJob, ForTrace, ForLower, ForAll, ForWhy, line_asking, TakesText, takes_synth, takes_job, takes_all, takes_why, SizesText, sizes_synth, sizes_all, sizes_why, ForText, ReadsText, ForCheck, ReadsSource, is_unbuilt, IsUnbuiltLine}
+use Rattle.sk_app.specs.Lines.{IsNoLine, IsSearch, ForSearch, IsSynth, line_by, line_of, IsJob, ForJob, ForTrace, ForLower, ForAll, ForWhy, line_asking, TakesText, takes_synth, takes_job, takes_all, takes_why, SizesText, sizes_synth, sizes_all, sizes_why, ForText, ReadsText, ForCheck, ReadsSource, ForSelf}
 use Rattle.sk_app.specs.Ends.{delivered, cut, no_room, Writes, WritesPart, writes_nothing, IsToldOf}
-use Rattle.sk_app.proofs.Endings.{EndsBuilt, EndsFaulty, EndsUntyped, EndsLarge, EndsLong, EndsRun, EndsStopped, EndsLowered, EndsNotLowered, EndsNotTagged, EndsRefused, EndsListed, EndsExplained, EndsMet, EndsReply, EndsChecked, EndsAccepted, EndsRejected, EndsNotCertificate, EndsRefusedInput, EndsNoLine, EndsUnbuiltLine, EndsHelp, EndsVersion}
+use Rattle.sk_app.proofs.Endings.{EndsBuilt, EndsFaulty, EndsUntyped, EndsLarge, EndsLong, EndsRun, EndsStopped, EndsLowered, EndsNotLowered, EndsNotTagged, EndsRefused, EndsListed, EndsExplained, EndsMet, EndsReply, EndsChecked, EndsAccepted, EndsRejected, EndsNotCertificate, EndsRefusedInput, EndsNoLine, EndsSelf, EndsHelp, EndsVersion}
 use Rattle.sk_app.specs.Call.{Effect}
-use Rattle.sk_app.specs.Effects.{IsRefused, IsShown, is_of_synth, Synthesises, is_of_expansion, IsRunResult, IsRunOutput, Executes, Lowers, Asks, Checks, Serves, Answers, no_line, served, no_memory, IsOutput}
+use Rattle.sk_app.specs.Effects.{IsRefused, IsShown, is_of_synth, Synthesises, is_of_expansion, IsRunResult, IsRunOutput, Executes, Lowers, Asks, Checks, Summarises, summarised, unsummarised, Serves, Answers, no_line, served, no_memory, IsOutput}
 use Rattle.sk_app.specs.Effects as output
 use Rattle.sk_app.proofs.StreamLemmas.{front-nil}
 use Rattle.sk_app.proofs.SourceLaws.{every, mapped, came_wanting}
@@ -127,7 +128,7 @@ module _ (words : List (List ℕ)) (r : Ending) (f : Effect) where
 
   data Kind : Type 0 where
     of_none : IsNoLine words → IsRefused ending.NotALine r f → Kind
-    of_unbuilt : IsUnbuiltLine words → IsRefused ending.NotBuilt r f → Kind
+    of_self : (n : ℕ) → IsLine words (line.Itself n) → Summarises n r f → Kind
     of_synth : (set : Set) (budget : Budget) (cert : Bool) → IsSearch words set budget cert → Synthesises set budget cert r f → Kind
     of_exec : (set : Set) (job : Job) → IsJob words set job → Executes set job r f → Kind
     of_lower : (set : Set) → IsLine words (line.Lower set) → Lowers set r f → Kind
@@ -145,7 +146,7 @@ module _ (words : List (List ℕ)) (r : Ending) (f : Effect) where
   line_kind (line.All set most) h s = of_question set (question.Which most) h s
   line_kind (line.Why set) h s = of_question set question.Why h s
   line_kind (line.Check set) h s = of_check set h s
-  line_kind (line.Itself n) h s = of_unbuilt (record { line = line.Itself n; is = h; unbuilt = refl }) s
+  line_kind (line.Itself n) h s = of_self n h s
   line_kind line.Help h s = of_help h s
   line_kind line.Version h s = of_version h s
 
@@ -158,6 +159,42 @@ module _ (words : List (List ℕ)) (r : Ending) (f : Effect) where
 
   shown_not : (text : List ℕ) (shown : Ending) → IsShown text shown r f → (x : Ending) → (shown ≡ x → ⊥) → (ending.WriteFault ≡ x → ⊥) → (ending.Memory ≡ x → ⊥) → r ≡ x → ⊥
   shown_not text shown s x a b c e = elim s.written [ delivered is w ↦ a (sym is ∙ e) | cut is w ↦ b (sym is ∙ e) | no_room is same ↦ c (sym is ∙ e) ]
+
+  self_not : (n : ℕ) → Summarises n r f → (x : Ending) → (ending.Completed ≡ x → ⊥) → (ending.WriteFault ≡ x → ⊥) → (ending.Memory ≡ x → ⊥) → r ≡ x → ⊥
+  self_not n s x a b c e = elim s.written [
+    | summarised out i w ↦ elim w [ delivered is y ↦ a (sym is ∙ e) | cut is y ↦ b (sym is ∙ e) | no_room is same ↦ c (sym is ∙ e) ]
+    | unsummarised is same ↦ c (sym is ∙ e)
+  ]
+
+  self_written : (n : ℕ) → Summarises n r f → r ≡ ending.Completed → Writes (IsSummary n) f.held_old f.held_new
+  self_written n s e = elim s.written [
+    | summarised out i w ↦ elim w [ delivered is y ↦ record { out = out; is = i; appends = y.appends } | cut is y ↦ (let q = sym is ∙ e in cc) | no_room is same ↦ (let q = sym is ∙ e in cc) ]
+    | unsummarised is same ↦ (let q = sym is ∙ e in cc)
+  ]
+
+  self_cut : (n : ℕ) → Summarises n r f → r ≡ ending.WriteFault → WritesPart (IsSummary n) f.held_old f.held_new
+  self_cut n s e = elim s.written [
+    | summarised out i w ↦ elim w [ delivered is y ↦ (let q = sym is ∙ e in cc) | cut is y ↦ record { out = out; is = i; appends = y.appends } | no_room is same ↦ (let q = sym is ∙ e in cc) ]
+    | unsummarised is same ↦ (let q = sym is ∙ e in cc)
+  ]
+
+  self_rose : (n : ℕ) → Summarises n r f → r ≡ ending.WriteFault → Rose f.write_faults_old f.write_faults_new
+  self_rose n s e = elim s.written [
+    | summarised out i w ↦ elim w [ delivered is y ↦ (let q = sym is ∙ e in cc) | cut is y ↦ y.rose | no_room is same ↦ (let q = sym is ∙ e in cc) ]
+    | unsummarised is same ↦ (let q = sym is ∙ e in cc)
+  ]
+
+  self_kept : (n : ℕ) → Summarises n r f → IsTrue (writes_nothing r) → f.held_new ≡ f.held_old
+  self_kept n s k = elim s.written [
+    | summarised out i w ↦ elim w [ delivered is y ↦ absurd (false≢true (ap writes_nothing (sym is) ∙ k)) | cut is y ↦ absurd (false≢true (ap writes_nothing (sym is) ∙ k)) | no_room is same ↦ same ]
+    | unsummarised is same ↦ same
+  ]
+
+  self_ends : (n : ℕ) (P : Ending → Type 0) → Summarises n r f → P ending.Completed → (Rose f.write_faults_old f.write_faults_new → P ending.WriteFault) → P ending.Memory → P r
+  self_ends n P s a b c = elim s.written [
+    | summarised out i w ↦ elim w [ delivered is y ↦ subst P (sym is) a | cut is y ↦ subst P (sym is) (b y.rose) | no_room is same ↦ subst P (sym is) c ]
+    | unsummarised is same ↦ subst P (sym is) c
+  ]
 
   alone_not : (y x : Ending) → is_synth_alone x ≡ true → is_synth_alone y ≡ false → y ≡ x → ⊥
   alone_not y x a b e = false≢true (sym b ∙ ap is_synth_alone e ∙ a)
@@ -185,7 +222,6 @@ module _ (words : List (List ℕ)) (r : Ending) (f : Effect) where
   synth_alone_not_exec (ending.NotCertificate why) a = refl
   synth_alone_not_exec ending.VersionShown a = refl
   synth_alone_not_exec ending.NotALine a = refl
-  synth_alone_not_exec ending.NotBuilt a = refl
   synth_alone_not_exec ending.ExecDone a = absurd (false≢true a)
   synth_alone_not_exec (ending.ExecFailed span) a = absurd (false≢true a)
   synth_alone_not_exec (ending.ExecSkipped span) a = absurd (false≢true a)
@@ -234,7 +270,6 @@ module _ (words : List (List ℕ)) (r : Ending) (f : Effect) where
   synth_alone_not_lower ending.WriteFault a = absurd (false≢true a)
   synth_alone_not_lower ending.TooLong a = absurd (false≢true a)
   synth_alone_not_lower ending.Memory a = absurd (false≢true a)
-  synth_alone_not_lower ending.NotBuilt a = absurd (false≢true a)
 
   exec_alone_not_lower : (x : Ending) → is_exec_alone x ≡ true → by_lower.is_of_lower x ≡ false
   exec_alone_not_lower ending.ExecDone a = refl
@@ -265,25 +300,24 @@ module _ (words : List (List ℕ)) (r : Ending) (f : Effect) where
   exec_alone_not_lower ending.WriteFault a = absurd (false≢true a)
   exec_alone_not_lower ending.TooLong a = absurd (false≢true a)
   exec_alone_not_lower ending.Memory a = absurd (false≢true a)
-  exec_alone_not_lower ending.NotBuilt a = absurd (false≢true a)
 
   -- the endings of a line `synth` alone come for no other line
-  synth_of : (x : Ending) → is_synth_alone x ≡ true → by_asking.is_of_question x ≡ false → by_check.is_of_check x ≡ false → Kind → r ≡ x → ForSearch words (λ set budget cert. Synthesises set budget cert r f)
-  synth_of x a d o (of_none n s) e = absurd (alone_not ending.NotALine x a refl (sym s.is ∙ e))
-  synth_of x a d o (of_unbuilt u s) e = absurd (alone_not ending.NotBuilt x a refl (sym s.is ∙ e))
-  synth_of x a d o (of_synth set budget cert h s) e = record { set = set; budget = budget; cert = cert; is = h; holds = s }
-  synth_of x a d o (of_exec set job h s) e = by_exec.exec_not set job r f x (synth_alone_not_exec x a) s.runs e
-  synth_of x a d o (of_lower set h s) e = by_lower.lower_not set r f x (synth_alone_not_lower x a) s.lowers e
-  synth_of x a d o (of_question set asked h s) e = by_asking.question_not set asked r f x d s.asks e
-  synth_of x a d o (of_check set h s) e = by_check.check_not set r f x o s.checks e
-  synth_of x a d o (of_help h s) e = absurd (shown_not help_text ending.HelpShown s x (alone_not ending.HelpShown x a refl) (alone_not ending.WriteFault x a refl) (alone_not ending.Memory x a refl) e)
-  synth_of x a d o (of_version h s) e = absurd (shown_not version_text ending.VersionShown s x (alone_not ending.VersionShown x a refl) (alone_not ending.WriteFault x a refl) (alone_not ending.Memory x a refl) e)
-  synth_of x a d o (of_memory s) e = absurd (alone_not ending.Memory x a refl (sym s.is ∙ e))
+  synth_of : (x : Ending) → is_synth_alone x ≡ true → by_asking.is_of_question x ≡ false → by_check.is_of_check x ≡ false → (ending.Completed ≡ x → ⊥) → Kind → r ≡ x → ForSearch words (λ set budget cert. Synthesises set budget cert r f)
+  synth_of x a d o y (of_none n s) e = absurd (alone_not ending.NotALine x a refl (sym s.is ∙ e))
+  synth_of x a d o y (of_self n h s) e = absurd (self_not n s x y (alone_not ending.WriteFault x a refl) (alone_not ending.Memory x a refl) e)
+  synth_of x a d o y (of_synth set budget cert h s) e = record { set = set; budget = budget; cert = cert; is = h; holds = s }
+  synth_of x a d o y (of_exec set job h s) e = by_exec.exec_not set job r f x (synth_alone_not_exec x a) s.runs e
+  synth_of x a d o y (of_lower set h s) e = by_lower.lower_not set r f x (synth_alone_not_lower x a) s.lowers e
+  synth_of x a d o y (of_question set asked h s) e = by_asking.question_not set asked r f x d s.asks e
+  synth_of x a d o y (of_check set h s) e = by_check.check_not set r f x o s.checks e
+  synth_of x a d o y (of_help h s) e = absurd (shown_not help_text ending.HelpShown s x (alone_not ending.HelpShown x a refl) (alone_not ending.WriteFault x a refl) (alone_not ending.Memory x a refl) e)
+  synth_of x a d o y (of_version h s) e = absurd (shown_not version_text ending.VersionShown s x (alone_not ending.VersionShown x a refl) (alone_not ending.WriteFault x a refl) (alone_not ending.Memory x a refl) e)
+  synth_of x a d o y (of_memory s) e = absurd (alone_not ending.Memory x a refl (sym s.is ∙ e))
 
   -- those of lines that run a function alone
   exec_of : (x : Ending) → is_exec_alone x ≡ true → is_of_synth x ≡ false → by_asking.is_of_question x ≡ false → by_check.is_of_check x ≡ false → Kind → r ≡ x → ForJob words (λ set job. Executes set job r f)
   exec_of x a b d o (of_none n s) e = absurd (exec_alone_not ending.NotALine x a refl (sym s.is ∙ e))
-  exec_of x a b d o (of_unbuilt u s) e = absurd (exec_alone_not ending.NotBuilt x a refl (sym s.is ∙ e))
+  exec_of x a b d o (of_self n h s) e = absurd (self_not n s x (exec_alone_not ending.Completed x a refl) (exec_alone_not ending.WriteFault x a refl) (exec_alone_not ending.Memory x a refl) e)
   exec_of x a b d o (of_synth set budget cert h s) e = absurd (false≢true (sym b ∙ ap is_of_synth (sym e) ∙ s.ends))
   exec_of x a b d o (of_exec set job h s) e = record { set = set; job = job; is = h; holds = s }
   exec_of x a b d o (of_lower set h s) e = by_lower.lower_not set r f x (exec_alone_not_lower x a) s.lowers e
@@ -296,7 +330,7 @@ module _ (words : List (List ℕ)) (r : Ending) (f : Effect) where
   -- those of a line `lower` alone
   lower_of : (x : Ending) → is_lower_alone x ≡ true → is_of_synth x ≡ false → by_exec.is_of_exec x ≡ false → by_asking.is_of_question x ≡ false → by_check.is_of_check x ≡ false → Kind → r ≡ x → ForLower words (λ set. Lowers set r f)
   lower_of x a b c d o (of_none n s) e = absurd (lower_alone_not ending.NotALine x a refl (sym s.is ∙ e))
-  lower_of x a b c d o (of_unbuilt u s) e = absurd (lower_alone_not ending.NotBuilt x a refl (sym s.is ∙ e))
+  lower_of x a b c d o (of_self n h s) e = absurd (self_not n s x (lower_alone_not ending.Completed x a refl) (lower_alone_not ending.WriteFault x a refl) (lower_alone_not ending.Memory x a refl) e)
   lower_of x a b c d o (of_synth set budget cert h s) e = absurd (false≢true (sym b ∙ ap is_of_synth (sym e) ∙ s.ends))
   lower_of x a b c d o (of_exec set job h s) e = by_exec.exec_not set job r f x c s.runs e
   lower_of x a b c d o (of_lower set h s) e = record { set = set; is = h; holds = s }
@@ -313,7 +347,7 @@ module _ (words : List (List ℕ)) (r : Ending) (f : Effect) where
   -- those of a line `all` or `why` alone
   asking_of : (x : Ending) → by_asking.is_reply x ≡ true → is_of_synth x ≡ false → by_exec.is_of_exec x ≡ false → by_lower.is_of_lower x ≡ false → by_check.is_of_check x ≡ false → Kind → r ≡ x → ForQuestion words (λ set asked. Asks set asked r f)
   asking_of x a b c d o (of_none n s) e = absurd (reply_not ending.NotALine x a refl (sym s.is ∙ e))
-  asking_of x a b c d o (of_unbuilt u s) e = absurd (reply_not ending.NotBuilt x a refl (sym s.is ∙ e))
+  asking_of x a b c d o (of_self n h s) e = absurd (self_not n s x (reply_not ending.Completed x a refl) (reply_not ending.WriteFault x a refl) (reply_not ending.Memory x a refl) e)
   asking_of x a b c d o (of_synth set budget cert h s) e = absurd (false≢true (sym b ∙ ap is_of_synth (sym e) ∙ s.ends))
   asking_of x a b c d o (of_exec set job h s) e = by_exec.exec_not set job r f x c s.runs e
   asking_of x a b c d o (of_lower set h s) e = by_lower.lower_not set r f x d s.lowers e
@@ -326,7 +360,7 @@ module _ (words : List (List ℕ)) (r : Ending) (f : Effect) where
   -- what follows for a line that takes a text as it is, and for a line `lower`, from an ending of lines that read their source alone
   text_of : (x : Ending) → is_of_text x ≡ true → (P Q C : Set → Type 0) → ((set : Set) (budget : Budget) (cert : Bool) → Synthesises set budget cert r f → P set) → ((set : Set) (job : Job) → Executes set job r f → P set) → ((set : Set) → Lowers set r f → Q set) → ((set : Set) (asked : Question) → Asks set asked r f → P set) → ((set : Set) → Checks set r f → C set) → Kind → r ≡ x → ForText words P ⊎ ForLower words Q ⊎ ForCheck words C
   text_of x a P Q C k l m v w (of_none n s) e = absurd (text_not ending.NotALine x a refl (sym s.is ∙ e))
-  text_of x a P Q C k l m v w (of_unbuilt u s) e = absurd (text_not ending.NotBuilt x a refl (sym s.is ∙ e))
+  text_of x a P Q C k l m v w (of_self n h s) e = absurd (self_not n s x (text_not ending.Completed x a refl) (text_not ending.WriteFault x a refl) (text_not ending.Memory x a refl) e)
   text_of x a P Q C k l m v w (of_synth set budget cert h s) e = inl (record { set = set; takes = takes_synth (record { budget = budget; cert = cert; is = h }); holds = k set budget cert s })
   text_of x a P Q C k l m v w (of_exec set job h s) e = inl (record { set = set; takes = takes_job job h; holds = l set job s })
   text_of x a P Q C k l m v w (of_lower set h s) e = inr (inl (record { set = set; is = h; holds = m set s }))
@@ -354,7 +388,7 @@ module _ (words : List (List ℕ)) (r : Ending) (f : Effect) where
 
   not_a_line_of : Kind → r ≡ ending.NotALine → IsNoLine words
   not_a_line_of (of_none n s) e = n
-  not_a_line_of (of_unbuilt u s) e = let q = sym s.is ∙ e in cc
+  not_a_line_of (of_self n h s) e = absurd (self_not n s ending.NotALine (λ q. cc) (λ q. cc) (λ q. cc) e)
   not_a_line_of (of_synth set budget cert h s) e = absurd (synth_not set budget cert ending.NotALine s refl e)
   not_a_line_of (of_exec set job h s) e = by_exec.exec_not set job r f ending.NotALine refl s.runs e
   not_a_line_of (of_lower set h s) e = by_lower.lower_not set r f ending.NotALine refl s.lowers e
@@ -384,7 +418,7 @@ module _ (words : List (List ℕ)) (r : Ending) (f : Effect) where
 
   help_of : Kind → r ≡ ending.HelpShown → IsLine words line.Help × Appends help_text f.held_old f.held_new
   help_of (of_none n s) e = let q = sym s.is ∙ e in cc
-  help_of (of_unbuilt u s) e = let q = sym s.is ∙ e in cc
+  help_of (of_self n h s) e = absurd (self_not n s ending.HelpShown (λ q. cc) (λ q. cc) (λ q. cc) e)
   help_of (of_synth set budget cert h s) e = absurd (synth_not set budget cert ending.HelpShown s refl e)
   help_of (of_exec set job h s) e = by_exec.exec_not set job r f ending.HelpShown refl s.runs e
   help_of (of_lower set h s) e = by_lower.lower_not set r f ending.HelpShown refl s.lowers e
@@ -396,7 +430,7 @@ module _ (words : List (List ℕ)) (r : Ending) (f : Effect) where
 
   version_of : Kind → r ≡ ending.VersionShown → IsLine words line.Version × Appends version_text f.held_old f.held_new
   version_of (of_none n s) e = let q = sym s.is ∙ e in cc
-  version_of (of_unbuilt u s) e = let q = sym s.is ∙ e in cc
+  version_of (of_self n h s) e = absurd (self_not n s ending.VersionShown (λ q. cc) (λ q. cc) (λ q. cc) e)
   version_of (of_synth set budget cert h s) e = absurd (synth_not set budget cert ending.VersionShown s refl e)
   version_of (of_exec set job h s) e = by_exec.exec_not set job r f ending.VersionShown refl s.runs e
   version_of (of_lower set h s) e = by_lower.lower_not set r f ending.VersionShown refl s.lowers e
@@ -406,21 +440,9 @@ module _ (words : List (List ℕ)) (r : Ending) (f : Effect) where
   version_of (of_version h s) e = (h, shown_whole version_text ending.VersionShown s (λ q. cc) (λ q. cc) e)
   version_of (of_memory s) e = let q = sym s.is ∙ e in cc
 
-  not_built_of : Kind → r ≡ ending.NotBuilt → IsUnbuiltLine words
-  not_built_of (of_none n s) e = let q = sym s.is ∙ e in cc
-  not_built_of (of_unbuilt u s) e = u
-  not_built_of (of_synth set budget cert h s) e = absurd (synth_not set budget cert ending.NotBuilt s refl e)
-  not_built_of (of_exec set job h s) e = by_exec.exec_not set job r f ending.NotBuilt refl s.runs e
-  not_built_of (of_lower set h s) e = by_lower.lower_not set r f ending.NotBuilt refl s.lowers e
-  not_built_of (of_question set asked h s) e = by_asking.question_not set asked r f ending.NotBuilt refl s.asks e
-  not_built_of (of_check set h s) e = by_check.check_not set r f ending.NotBuilt refl s.checks e
-  not_built_of (of_help h s) e = absurd (shown_not help_text ending.HelpShown s ending.NotBuilt (λ q. cc) (λ q. cc) (λ q. cc) e)
-  not_built_of (of_version h s) e = absurd (shown_not version_text ending.VersionShown s ending.NotBuilt (λ q. cc) (λ q. cc) (λ q. cc) e)
-  not_built_of (of_memory s) e = let q = sym s.is ∙ e in cc
-
   write_fault_of : Kind → r ≡ ending.WriteFault → Rose f.write_faults_old f.write_faults_new
   write_fault_of (of_none n s) e = let q = sym s.is ∙ e in cc
-  write_fault_of (of_unbuilt u s) e = let q = sym s.is ∙ e in cc
+  write_fault_of (of_self n h s) e = self_rose n s e
   write_fault_of (of_synth set budget cert h s) e = s.write_fault e
   write_fault_of (of_exec set job h s) e = by_exec.write_fault_by set job r f s.runs e
   write_fault_of (of_lower set h s) e = by_lower.write_fault_by set r f s.lowers e
@@ -444,7 +466,7 @@ module _ (words : List (List ℕ)) (r : Ending) (f : Effect) where
 
   prefix_of : Kind → r ≡ ending.WriteFault → IfSome f.left_old Cut
   prefix_of (of_none n s) e = let q = sym s.is ∙ e in cc
-  prefix_of (of_unbuilt u s) e = let q = sym s.is ∙ e in cc
+  prefix_of (of_self n h s) e = every f.left_old Cut (λ text. let w = self_cut n s e in record { out = w.out; is = output.summary (record { n = n; is = h; holds = w.is }); appends = w.appends })
   prefix_of (of_synth set budget cert h s) e = mapped f.left_old (λ text. WritesPart (IsResult set budget cert text) f.held_old f.held_new) Cut (λ text w. record { out = w.out; is = output.result (record { set = set; budget = budget; cert = cert; is = h; holds = w.is }); appends = w.appends }) (s.prefix e)
   prefix_of (of_exec set job h s) e = mapped f.left_old (λ text. WritesPart (IsRunOutput set job text) f.held_old f.held_new) Cut (λ text w. record { out = w.out; is = output.run (record { set = set; job = job; is = h; holds = w.is }); appends = w.appends }) (by_exec.told_by set job r f (λ text. WritesPart (IsRunOutput set job text) f.held_old f.held_new) (λ text w. by_exec.prefix_by set job r f e text w) s.runs)
   prefix_of (of_lower set h s) e = by_lower.told_as set r f ending.WriteFault Cut (λ text told. record { out = told.1.out; is = output.plain (record { set = set; is = h; holds = told.1.is }); appends = told.1.appends }) e s.lowers
@@ -456,7 +478,7 @@ module _ (words : List (List ℕ)) (r : Ending) (f : Effect) where
 
   kept_of : Kind → IsTrue (writes_nothing r) → f.held_new ≡ f.held_old
   kept_of (of_none n s) k = s.nothing.unwritten
-  kept_of (of_unbuilt u s) k = s.nothing.unwritten
+  kept_of (of_self n h s) k = self_kept n s k
   kept_of (of_synth set budget cert h s) k = s.kept k
   kept_of (of_exec set job h s) k = by_exec.kept_by set job r f s.runs k
   kept_of (of_lower set h s) k = by_lower.kept_by set r f s.lowers k
@@ -477,7 +499,7 @@ module _ (words : List (List ℕ)) (r : Ending) (f : Effect) where
 
   few_of : Kind → Few
   few_of (of_none n s) = few_none s.nothing.unread.left
-  few_of (of_unbuilt u s) = few_none s.nothing.unread.left
+  few_of (of_self n h s) = few_none s.unread.left
   few_of (of_synth set budget cert h s) = few_text s.few
   few_of (of_exec set job h s) = few_text s.few
   few_of (of_lower set h s) = few_text s.few
@@ -489,7 +511,7 @@ module _ (words : List (List ℕ)) (r : Ending) (f : Effect) where
 
   unread_of : Kind → ((set : Set) → ReadsSource words set → ⊥) → f.left_new ≡ f.left_old
   unread_of (of_none n s) reads = s.nothing.unread.left
-  unread_of (of_unbuilt u s) reads = s.nothing.unread.left
+  unread_of (of_self n h s) reads = s.unread.left
   unread_of (of_synth set budget cert h s) reads = absurd (reads set (inl (inl (takes_synth (record { budget = budget; cert = cert; is = h })))))
   unread_of (of_exec set job h s) reads = absurd (reads set (inl (inl (takes_job job h))))
   unread_of (of_lower set h s) reads = absurd (reads set (inl (inr h)))
@@ -504,15 +526,9 @@ module _ (words : List (List ℕ)) (r : Ending) (f : Effect) where
   one : (l m : Line) → IsLine words l → IsLine words m → l ≡ m
   one l m = lines_are_one words l m
 
-  not_unbuilt : {A : Type 0} (l : Line) → is_unbuilt l ≡ false → IsLine words l → IsUnbuiltLine words → A
-  not_unbuilt l b h u = absurd (false≢true (sym b ∙ ap is_unbuilt (one l u.line h u.is) ∙ u.unbuilt))
-
-  unbuilt_not : {A : Type 0} (l : Line) → is_unbuilt l ≡ false → IsUnbuiltLine words → IsLine words l → A
-  unbuilt_not l b u h = not_unbuilt l b h u
-
   ends_no_line_of : Kind → IsNoLine words → EndsNoLine r
   ends_no_line_of (of_none n s) spells = subst EndsNoLine (sym s.is) refl
-  ends_no_line_of (of_unbuilt u s) spells = absurd (spells u.line u.is)
+  ends_no_line_of (of_self n h s) spells = absurd (spells (line.Itself n) h)
   ends_no_line_of (of_synth set budget cert h s) spells = absurd (spells (line.Synth set budget cert) h)
   ends_no_line_of (of_exec set job h s) spells = absurd (spells (line_of set job) h)
   ends_no_line_of (of_lower set h s) spells = absurd (spells (line.Lower set) h)
@@ -522,25 +538,13 @@ module _ (words : List (List ℕ)) (r : Ending) (f : Effect) where
   ends_no_line_of (of_version h s) spells = absurd (spells line.Version h)
   ends_no_line_of (of_memory s) spells = subst EndsNoLine (sym s.is) tt
 
-  ends_unbuilt_line_of : Kind → IsUnbuiltLine words → EndsUnbuiltLine r
-  ends_unbuilt_line_of (of_none n s) u = absurd (n u.line u.is)
-  ends_unbuilt_line_of (of_unbuilt v s) u = subst EndsUnbuiltLine (sym s.is) refl
-  ends_unbuilt_line_of (of_synth set budget cert h s) u = unbuilt_not (line.Synth set budget cert) refl u h
-  ends_unbuilt_line_of (of_exec set job h s) u = unbuilt_not (line_of set job) (job_is_built set job) u h
-  ends_unbuilt_line_of (of_lower set h s) u = unbuilt_not (line.Lower set) refl u h
-  ends_unbuilt_line_of (of_question set asked h s) u = unbuilt_not (line_asking set asked) (asking_is_built set asked) u h
-  ends_unbuilt_line_of (of_check set h s) u = unbuilt_not (line.Check set) refl u h
-  ends_unbuilt_line_of (of_help h s) u = unbuilt_not line.Help refl u h
-  ends_unbuilt_line_of (of_version h s) u = unbuilt_not line.Version refl u h
-  ends_unbuilt_line_of (of_memory s) u = subst EndsUnbuiltLine (sym s.is) tt
-
   -- the endings of a text that is shown
   shown_ends : (text : List ℕ) (shown : Ending) (P : Ending → Type 0) → IsShown text shown r f → P shown → (Rose f.write_faults_old f.write_faults_new → P ending.WriteFault) → P ending.Memory → P r
   shown_ends text shown P s a b c = elim s.written [ delivered is w ↦ subst P (sym is) a | cut is w ↦ subst P (sym is) (b w.rose) | no_room is same ↦ subst P (sym is) c ]
 
   ends_help_of : Kind → IsLine words line.Help → EndsHelp r f.write_faults_old f.write_faults_new
   ends_help_of (of_none n s) h = absurd (n line.Help h)
-  ends_help_of (of_unbuilt u s) h = not_unbuilt line.Help refl h u
+  ends_help_of (of_self n g s) h = let q = one (line.Itself n) line.Help g h in cc
   ends_help_of (of_synth set budget cert g s) h = let q = one (line.Synth set budget cert) line.Help g h in cc
   ends_help_of (of_exec set job g s) h = not_of_job line.Help set job refl (one line.Help (line_of set job) h g)
   ends_help_of (of_lower set g s) h = let q = one (line.Lower set) line.Help g h in cc
@@ -552,7 +556,7 @@ module _ (words : List (List ℕ)) (r : Ending) (f : Effect) where
 
   ends_version_of : Kind → IsLine words line.Version → EndsVersion r f.write_faults_old f.write_faults_new
   ends_version_of (of_none n s) h = absurd (n line.Version h)
-  ends_version_of (of_unbuilt u s) h = not_unbuilt line.Version refl h u
+  ends_version_of (of_self n g s) h = let q = one (line.Itself n) line.Version g h in cc
   ends_version_of (of_synth set budget cert g s) h = let q = one (line.Synth set budget cert) line.Version g h in cc
   ends_version_of (of_exec set job g s) h = not_of_job line.Version set job refl (one line.Version (line_of set job) h g)
   ends_version_of (of_lower set g s) h = let q = one (line.Lower set) line.Version g h in cc
@@ -564,7 +568,7 @@ module _ (words : List (List ℕ)) (r : Ending) (f : Effect) where
 
   prefix_help_of : Kind → IsLine words line.Help → r ≡ ending.WriteFault → AppendsPrefix help_text f.held_old f.held_new
   prefix_help_of (of_none n s) h e = absurd (n line.Help h)
-  prefix_help_of (of_unbuilt u s) h e = not_unbuilt line.Help refl h u
+  prefix_help_of (of_self n g s) h e = let q = one (line.Itself n) line.Help g h in cc
   prefix_help_of (of_synth set budget cert g s) h e = let q = one (line.Synth set budget cert) line.Help g h in cc
   prefix_help_of (of_exec set job g s) h e = not_of_job line.Help set job refl (one line.Help (line_of set job) h g)
   prefix_help_of (of_lower set g s) h e = let q = one (line.Lower set) line.Help g h in cc
@@ -576,7 +580,7 @@ module _ (words : List (List ℕ)) (r : Ending) (f : Effect) where
 
   prefix_version_of : Kind → IsLine words line.Version → r ≡ ending.WriteFault → AppendsPrefix version_text f.held_old f.held_new
   prefix_version_of (of_none n s) h e = absurd (n line.Version h)
-  prefix_version_of (of_unbuilt u s) h e = not_unbuilt line.Version refl h u
+  prefix_version_of (of_self n g s) h e = let q = one (line.Itself n) line.Version g h in cc
   prefix_version_of (of_synth set budget cert g s) h e = let q = one (line.Synth set budget cert) line.Version g h in cc
   prefix_version_of (of_exec set job g s) h e = not_of_job line.Version set job refl (one line.Version (line_of set job) h g)
   prefix_version_of (of_lower set g s) h e = let q = one (line.Lower set) line.Version g h in cc
@@ -589,7 +593,7 @@ module _ (words : List (List ℕ)) (r : Ending) (f : Effect) where
   -- what follows for a line `synth` from its own call, or from want of memory
   for_synth : (P : Set → Budget → Bool → Type 0) → ((set : Set) (budget : Budget) (cert : Bool) → Synthesises set budget cert r f → P set budget cert) → ((set : Set) (budget : Budget) (cert : Bool) → r ≡ ending.Memory → P set budget cert) → Kind → (set : Set) (budget : Budget) (cert : Bool) → IsSearch words set budget cert → P set budget cert
   for_synth P a m (of_none n s) set budget cert h = absurd (n (line.Synth set budget cert) h)
-  for_synth P a m (of_unbuilt u s) set budget cert h = not_unbuilt (line.Synth set budget cert) refl h u
+  for_synth P a m (of_self n g s) set budget cert h = let q = one (line.Itself n) (line.Synth set budget cert) g h in cc
   for_synth P a m (of_synth t other its g s) set budget cert h =
       let q = one (line.Synth t other its) (line.Synth set budget cert) g h in
       let sets : t ≡ set = cc in
@@ -607,7 +611,7 @@ module _ (words : List (List ℕ)) (r : Ending) (f : Effect) where
   -- what follows for a line that runs a function from its own call, or from want of memory
   for_exec : (P : Set → Job → Type 0) → ((set : Set) (job : Job) → Executes set job r f → P set job) → ((set : Set) (job : Job) → r ≡ ending.Memory → P set job) → Kind → (set : Set) (job : Job) → IsJob words set job → P set job
   for_exec P a m (of_none n s) set job h = absurd (n (line_of set job) h)
-  for_exec P a m (of_unbuilt u s) set job h = not_unbuilt (line_of set job) (job_is_built set job) h u
+  for_exec P a m (of_self n g s) set job h = not_of_job (line.Itself n) set job refl (one (line.Itself n) (line_of set job) g h)
   for_exec P a m (of_synth t budget cert g s) set job h = not_of_job (line.Synth t budget cert) set job refl (one (line.Synth t budget cert) (line_of set job) g h)
   for_exec P a m (of_exec t other g s) set job h =
       let same = one_job t set other job (one (line_of t other) (line_of set job) g h) in
@@ -622,7 +626,7 @@ module _ (words : List (List ℕ)) (r : Ending) (f : Effect) where
   -- what follows for a line `lower` from its own call, or from want of memory
   for_lower : (P : Set → Type 0) → ((set : Set) → Lowers set r f → P set) → ((set : Set) → r ≡ ending.Memory → P set) → Kind → (set : Set) → IsLine words (line.Lower set) → P set
   for_lower P a m (of_none n s) set h = absurd (n (line.Lower set) h)
-  for_lower P a m (of_unbuilt u s) set h = not_unbuilt (line.Lower set) refl h u
+  for_lower P a m (of_self n g s) set h = let q = one (line.Itself n) (line.Lower set) g h in cc
   for_lower P a m (of_synth t budget cert g s) set h = let q = one (line.Synth t budget cert) (line.Lower set) g h in cc
   for_lower P a m (of_exec t job g s) set h = not_of_job (line.Lower set) t job refl (one (line.Lower set) (line_of t job) h g)
   for_lower P a m (of_lower t g s) set h =
@@ -638,7 +642,7 @@ module _ (words : List (List ℕ)) (r : Ending) (f : Effect) where
   -- what follows for a line `all` or `why` from its own call, or from want of memory
   for_asking : (P : Set → Question → Type 0) → ((set : Set) (asked : Question) → Asks set asked r f → P set asked) → ((set : Set) (asked : Question) → r ≡ ending.Memory → P set asked) → Kind → (set : Set) (asked : Question) → IsLine words (line_asking set asked) → P set asked
   for_asking P a m (of_none n s) set asked h = absurd (n (line_asking set asked) h)
-  for_asking P a m (of_unbuilt u s) set asked h = not_unbuilt (line_asking set asked) (asking_is_built set asked) h u
+  for_asking P a m (of_self n g s) set asked h = not_asking (line.Itself n) set asked refl (one (line.Itself n) (line_asking set asked) g h)
   for_asking P a m (of_synth t budget cert g s) set asked h = not_asking (line.Synth t budget cert) set asked refl (one (line.Synth t budget cert) (line_asking set asked) g h)
   for_asking P a m (of_exec t job g s) set asked h = job_or_question t job set asked (one (line_of t job) (line_asking set asked) g h)
   for_asking P a m (of_lower t g s) set asked h = not_asking (line.Lower t) set asked refl (one (line.Lower t) (line_asking set asked) g h)
@@ -653,7 +657,7 @@ module _ (words : List (List ℕ)) (r : Ending) (f : Effect) where
   -- what follows for a line `check` from its own call, or from want of memory
   for_check : (P : Set → Type 0) → ((set : Set) → Checks set r f → P set) → ((set : Set) → r ≡ ending.Memory → P set) → Kind → (set : Set) → IsLine words (line.Check set) → P set
   for_check P a m (of_none n s) set h = absurd (n (line.Check set) h)
-  for_check P a m (of_unbuilt u s) set h = not_unbuilt (line.Check set) refl h u
+  for_check P a m (of_self n g s) set h = let q = one (line.Itself n) (line.Check set) g h in cc
   for_check P a m (of_synth t budget cert g s) set h = let q = one (line.Synth t budget cert) (line.Check set) g h in cc
   for_check P a m (of_exec t job g s) set h = not_of_job (line.Check set) t job refl (one (line.Check set) (line_of t job) h g)
   for_check P a m (of_lower t g s) set h = let q = one (line.Lower t) (line.Check set) g h in cc
@@ -665,6 +669,37 @@ module _ (words : List (List ℕ)) (r : Ending) (f : Effect) where
   for_check P a m (of_help g s) set h = let q = one line.Help (line.Check set) g h in cc
   for_check P a m (of_version g s) set h = let q = one line.Version (line.Check set) g h in cc
   for_check P a m (of_memory s) set h = m set s.is
+
+  -- what follows for a line `self` from its own call, or from want of memory
+  for_self : (P : ℕ → Type 0) → ((n : ℕ) → Summarises n r f → P n) → ((n : ℕ) → r ≡ ending.Memory → P n) → Kind → (n : ℕ) → IsLine words (line.Itself n) → P n
+  for_self P a m (of_none x s) n h = absurd (x (line.Itself n) h)
+  for_self P a m (of_self k g s) n h =
+      let q = one (line.Itself k) (line.Itself n) g h in
+      let same : k ≡ n = cc in
+      subst P same (a k s)
+  for_self P a m (of_synth t budget cert g s) n h = let q = one (line.Synth t budget cert) (line.Itself n) g h in cc
+  for_self P a m (of_exec t job g s) n h = not_of_job (line.Itself n) t job refl (one (line.Itself n) (line_of t job) h g)
+  for_self P a m (of_lower t g s) n h = let q = one (line.Lower t) (line.Itself n) g h in cc
+  for_self P a m (of_question t asked g s) n h = not_asking (line.Itself n) t asked refl (one (line.Itself n) (line_asking t asked) h g)
+  for_self P a m (of_check t g s) n h = let q = one (line.Check t) (line.Itself n) g h in cc
+  for_self P a m (of_help g s) n h = let q = one line.Help (line.Itself n) g h in cc
+  for_self P a m (of_version g s) n h = let q = one line.Version (line.Itself n) g h in cc
+  for_self P a m (of_memory s) n h = m n s.is
+
+  abbrev Completion : Type 0
+  Completion = ForSearch words (λ set budget cert. IfSome f.left_old (λ text. Writes (IsCompletion set cert text) f.held_old f.held_new)) ⊎ ForSelf words (λ n. Writes (IsSummary n) f.held_old f.held_new)
+
+  completed_of : Kind → r ≡ ending.Completed → Completion
+  completed_of (of_none n s) e = let q = sym s.is ∙ e in cc
+  completed_of (of_self n h s) e = inr (record { n = n; is = h; holds = self_written n s e })
+  completed_of (of_synth set budget cert h s) e = inl (record { set = set; budget = budget; cert = cert; is = h; holds = s.completed e })
+  completed_of (of_exec set job h s) e = by_exec.exec_not set job r f ending.Completed refl s.runs e
+  completed_of (of_lower set h s) e = by_lower.lower_not set r f ending.Completed refl s.lowers e
+  completed_of (of_question set asked h s) e = by_asking.question_not set asked r f ending.Completed refl s.asks e
+  completed_of (of_check set h s) e = by_check.check_not set r f ending.Completed refl s.checks e
+  completed_of (of_help h s) e = absurd (shown_not help_text ending.HelpShown s ending.Completed (λ q. cc) (λ q. cc) (λ q. cc) e)
+  completed_of (of_version h s) e = absurd (shown_not version_text ending.VersionShown s ending.Completed (λ q. cc) (λ q. cc) (λ q. cc) e)
+  completed_of (of_memory s) e = let q = sym s.is ∙ e in cc
 
   abbrev is_check_alone : Ending → Bool
   is_check_alone ending.Accepted = true
@@ -678,7 +713,7 @@ module _ (words : List (List ℕ)) (r : Ending) (f : Effect) where
   -- its endings come for no other line
   check_of : (x : Ending) → is_check_alone x ≡ true → is_of_synth x ≡ false → by_exec.is_of_exec x ≡ false → by_lower.is_of_lower x ≡ false → by_asking.is_of_question x ≡ false → Kind → r ≡ x → ForCheck words (λ set. Checks set r f)
   check_of x a b c d o (of_none n s) e = absurd (check_alone_not ending.NotALine x a refl (sym s.is ∙ e))
-  check_of x a b c d o (of_unbuilt u s) e = absurd (check_alone_not ending.NotBuilt x a refl (sym s.is ∙ e))
+  check_of x a b c d o (of_self n h s) e = absurd (self_not n s x (check_alone_not ending.Completed x a refl) (check_alone_not ending.WriteFault x a refl) (check_alone_not ending.Memory x a refl) e)
   check_of x a b c d o (of_synth set budget cert h s) e = absurd (false≢true (sym b ∙ ap is_of_synth (sym e) ∙ s.ends))
   check_of x a b c d o (of_exec set job h s) e = by_exec.exec_not set job r f x c s.runs e
   check_of x a b c d o (of_lower set h s) e = by_lower.lower_not set r f x d s.lowers e
@@ -697,17 +732,23 @@ module _ {words : List (List ℕ)} {r : Ending} {f : Effect} (a : Answers words 
   pub not_a_line : r ≡ ending.NotALine → IsNoLine words
   not_a_line = not_a_line_of words r f the
 
-  pub completed : r ≡ ending.Completed → ForSearch words (λ set budget cert. IfSome f.left_old (λ text. Writes (IsCompletion set cert text) f.held_old f.held_new))
-  completed e = let s = synth_of words r f ending.Completed refl refl refl the e in record { set = s.set; budget = s.budget; cert = s.cert; is = s.is; holds = (s.holds).completed e }
+  pub completed : r ≡ ending.Completed → ForSearch words (λ set budget cert. IfSome f.left_old (λ text. Writes (IsCompletion set cert text) f.held_old f.held_new)) ⊎ ForSelf words (λ n. Writes (IsSummary n) f.held_old f.held_new)
+  completed = completed_of words r f the
+
+  pub ends_self : (n : ℕ) → IsLine words (line.Itself n) → EndsSelf r f.write_faults_old f.write_faults_new
+  ends_self = for_self words r f (λ n. EndsSelf r f.write_faults_old f.write_faults_new) (λ n s. self_ends words r f n (λ x. EndsSelf x f.write_faults_old f.write_faults_new) s refl (λ rose. rose) tt) (λ n m. subst (λ x. EndsSelf x f.write_faults_old f.write_faults_new) (sym m) tt) the
+
+  pub prefix_self : (n : ℕ) → IsLine words (line.Itself n) → r ≡ ending.WriteFault → WritesPart (IsSummary n) f.held_old f.held_new
+  prefix_self = for_self words r f (λ n. r ≡ ending.WriteFault → WritesPart (IsSummary n) f.held_old f.held_new) (λ n s e. self_cut words r f n s e) (λ n m e. let q = sym m ∙ e in cc) the
 
   pub none : r ≡ ending.NoCompletion → ForSearch words (λ set budget cert. IfSome f.left_old (λ text. Writes (IsNone set cert text) f.held_old f.held_new))
-  none e = let s = synth_of words r f ending.NoCompletion refl refl refl the e in record { set = s.set; budget = s.budget; cert = s.cert; is = s.is; holds = (s.holds).none e }
+  none e = let s = synth_of words r f ending.NoCompletion refl refl refl (λ q. cc) the e in record { set = s.set; budget = s.budget; cert = s.cert; is = s.is; holds = (s.holds).none e }
 
   pub spent_rounds : (pairs : List Pair) (best : Option Choice) → r ≡ ending.SpentRounds pairs best → ForSearch words (λ set budget cert. AreSpent budget.rounds pairs × IfSome f.left_old (λ text. Writes (IsSpentRounds set budget text pairs best) f.held_old f.held_new))
-  spent_rounds pairs best e = let s = synth_of words r f (ending.SpentRounds pairs best) refl refl refl the e in record { set = s.set; budget = s.budget; cert = s.cert; is = s.is; holds = (s.holds).rounds pairs best e }
+  spent_rounds pairs best e = let s = synth_of words r f (ending.SpentRounds pairs best) refl refl refl (λ q. cc) the e in record { set = s.set; budget = s.budget; cert = s.cert; is = s.is; holds = (s.holds).rounds pairs best e }
 
   pub spent_conflicts : (pairs : List Pair) (q : Query) (formula : Encoded) (log : List (List Lit)) (best : Option Choice) → r ≡ ending.SpentConflicts pairs q formula log best → ForSearch words (λ set budget cert. AreLearnt budget.conflicts log × IfSome f.left_old (λ text. Writes (IsSpentConflicts set budget cert text pairs q formula log best) f.held_old f.held_new))
-  spent_conflicts pairs q formula log best e = let s = synth_of words r f (ending.SpentConflicts pairs q formula log best) refl refl refl the e in record { set = s.set; budget = s.budget; cert = s.cert; is = s.is; holds = (s.holds).conflicts pairs q formula log best e }
+  spent_conflicts pairs q formula log best e = let s = synth_of words r f (ending.SpentConflicts pairs q formula log best) refl refl refl (λ q. cc) the e in record { set = s.set; budget = s.budget; cert = s.cert; is = s.is; holds = (s.holds).conflicts pairs q formula log best e }
 
   pub help : r ≡ ending.HelpShown → IsLine words line.Help × Appends help_text f.held_old f.held_new
   help = help_of words r f the
@@ -850,9 +891,6 @@ module _ {words : List (List ℕ)} {r : Ending} {f : Effect} (a : Answers words 
       (λ set asked s. by_asking.told_as set asked r f (ending.TooLarge reason) (λ text. IsTooLarge set text reason) (λ text h. h) e s.asks)
       (λ set s. by_check.told_as set r f (ending.TooLarge reason) (λ input. IsFaultOfCheck set input (check.Sketch (sketch.TooLarge reason))) (λ input h. h) e s.checks) the e)
 
-  pub not_built : r ≡ ending.NotBuilt → IsUnbuiltLine words
-  not_built = not_built_of words r f the
-
   pub too_long : r ≡ ending.TooLong → IfSome f.left_old (λ text. most_bytes < length text)
   too_long e =
       for_each words r f (told_of ending.TooLong refl (λ set text. most_bytes < length text) (λ set text. most_bytes < length text) (λ set text. most_bytes < length text)
@@ -894,9 +932,6 @@ module _ {words : List (List ℕ)} {r : Ending} {f : Effect} (a : Answers words 
 
   pub ends_no_line : IsNoLine words → EndsNoLine r
   ends_no_line = ends_no_line_of words r f the
-
-  pub ends_unbuilt_line : IsUnbuiltLine words → EndsUnbuiltLine r
-  ends_unbuilt_line = ends_unbuilt_line_of words r f the
 
   pub ends_help : IsLine words line.Help → EndsHelp r f.write_faults_old f.write_faults_new
   ends_help = ends_help_of words r f the
@@ -957,7 +992,6 @@ module _ {words : List (List ℕ)} {r : Ending} {f : Effect} (a : Answers words 
   allowed set budget cert s (ending.NotCertificate why) e = tt
   allowed set budget cert s ending.VersionShown e = tt
   allowed set budget cert s ending.NotALine e = tt
-  allowed set budget cert s ending.NotBuilt e = tt
   allowed set budget cert s ending.ExecDone e = tt
   allowed set budget cert s (ending.ExecFailed span) e = tt
   allowed set budget cert s (ending.ExecSkipped span) e = tt

@@ -31,7 +31,6 @@ module _ (budget : Budget) where
   is_synth (ending.NotCertificate why) h = absurd h
   is_synth ending.VersionShown h = absurd h
   is_synth ending.NotALine h = absurd h
-  is_synth ending.NotBuilt h = absurd h
   is_synth ending.ExecDone h = absurd h
   is_synth (ending.ExecFailed span) h = absurd h
   is_synth (ending.ExecSkipped span) h = absurd h
@@ -62,7 +61,6 @@ module _ (budget : Budget) where
   writes (ending.NotCertificate why) h = absurd h
   writes ending.VersionShown h = absurd h
   writes ending.NotALine h = absurd h
-  writes ending.NotBuilt h = absurd h
   writes ending.ExecDone h = absurd h
   writes (ending.ExecFailed span) h = absurd h
   writes (ending.ExecSkipped span) h = absurd h
@@ -95,7 +93,6 @@ module _ (budget : Budget) where
     taken (ending.NotCertificate why) h = absurd h
     taken ending.VersionShown h = absurd h
     taken ending.NotALine h = absurd h
-    taken ending.NotBuilt h = absurd h
     taken ending.ExecDone h = absurd h
     taken (ending.ExecFailed span) h = absurd h
     taken (ending.ExecSkipped span) h = absurd h
@@ -126,7 +123,6 @@ module _ (budget : Budget) where
     tells (ending.NotCertificate why) h t = absurd h
     tells ending.VersionShown h t = absurd h
     tells ending.NotALine h t = absurd h
-    tells ending.NotBuilt h t = absurd h
     tells ending.ExecDone h t = absurd h
     tells (ending.ExecFailed span) h t = absurd h
     tells (ending.ExecSkipped span) h t = absurd h

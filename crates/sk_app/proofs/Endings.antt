@@ -13,7 +13,7 @@ use Rattle.sk_cert.specs.declared.fault.CertFault.{CertFault}
 use Rattle.sk_check_laws.specs.declared.reason.Reason.{Reason}
 use Rattle.sk_check_text.specs.declared.fault.CheckFault.{CheckFault}
 use Rattle.sk_app.specs.declared.ending.Ending.{Ending}
-use Rattle.sk_app.specs.declared.ending.Ending.TheVariants.{HelpShown, VersionShown, Lowered, Listed, Explained, Met, Rejected, NotALine, TooLarge, NotLowered, NotTagged, NotCertificate, TooLong, NotBuilt}
+use Rattle.sk_app.specs.declared.ending.Ending.TheVariants.{Completed, HelpShown, VersionShown, Lowered, Listed, Explained, Met, Rejected, NotALine, TooLarge, NotLowered, NotTagged, NotCertificate, TooLong}
 use Rattle.sk_app.specs.Questions.{Reply, ending_with}
 use Rattle.sk_app.specs.Ends.{Ends, IsOfBuilt, IsOfFault, IsOfUntyped, IsOfRefused, IsOfRefusedInput, IsOfVerdict, IsOfAccepted, ending_of, stopped}
 
@@ -35,8 +35,8 @@ EndsLong result source_old source_new = Ends (λ e. e ≡ TooLong) (Rose source_
 abbrev pub EndsNoLine : Ending → Type 0
 EndsNoLine result = Ends (λ e. e ≡ NotALine) ⊥ ⊥ result
 
-abbrev pub EndsUnbuiltLine : Ending → Type 0
-EndsUnbuiltLine result = Ends (λ e. e ≡ NotBuilt) ⊥ ⊥ result
+abbrev pub EndsSelf : Ending → ℕ → ℕ → Type 0
+EndsSelf result sink_old sink_new = Ends (λ e. e ≡ Completed) ⊥ (Rose sink_old sink_new) result
 
 abbrev pub EndsHelp : Ending → ℕ → ℕ → Type 0
 EndsHelp result sink_old sink_new = Ends (λ e. e ≡ HelpShown) ⊥ (Rose sink_old sink_new) result

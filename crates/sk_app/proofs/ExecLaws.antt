@@ -53,7 +53,6 @@ is_of_exec (ending.SpentConflicts pairs q f log best) = false
 is_of_exec ending.NotALine = false
 is_of_exec ending.HelpShown = false
 is_of_exec ending.VersionShown = false
-is_of_exec ending.NotBuilt = false
 is_of_exec ending.Lowered = false
 is_of_exec (ending.NotLowered reason) = false
 is_of_exec (ending.NotTagged span) = false

@@ -87,7 +87,6 @@ sort (ending.NotRun reason) b = absurd (false≢true b)
 sort (ending.NotFilled reason) b = absurd (false≢true b)
 sort (ending.NotLowered reason) b = absurd (false≢true b)
 sort (ending.NotTagged span) b = absurd (false≢true b)
-sort ending.NotBuilt b = absurd (false≢true b)
 
 of_zero : (x : Ending) → IsTrue (is_of_synth x) → status_of x ≡ 0 → x ≡ ending.Completed
 of_zero x b e = elim (sort x b) [
@@ -182,7 +181,6 @@ module _ {words : List (List ℕ)} {r : Ending} {f : Effect} (a : Answers words 
   by_ending set budget cert (ending.NotFilled reason) e s = absurd (false≢true (ap is_of_synth (sym e) ∙ s.ends))
   by_ending set budget cert (ending.NotLowered reason) e s = absurd (false≢true (ap is_of_synth (sym e) ∙ s.ends))
   by_ending set budget cert (ending.NotTagged span) e s = absurd (false≢true (ap is_of_synth (sym e) ∙ s.ends))
-  by_ending set budget cert ending.NotBuilt e s = absurd (false≢true (ap is_of_synth (sym e) ∙ s.ends))
 
   otherwise : (set : Set) (budget : Budget) (cert : Bool) → IsSearch words set budget cert → Sorted set budget
   otherwise set budget cert h = elim (of_search a set budget cert h) [ inl s ↦ by_ending set budget cert r refl s | inr m ↦ inr (inr (why.no_memory m)) ]

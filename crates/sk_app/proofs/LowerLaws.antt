@@ -114,7 +114,6 @@ module _ (set : Set) (r : Ending) (f : Effect) where
   told_is_of_lower text (ending.TooLarge reason) h = absurd h
   told_is_of_lower text (ending.NotRun reason) h = absurd h
   told_is_of_lower text (ending.NotFilled reason) h = absurd h
-  told_is_of_lower text ending.NotBuilt h = absurd h
 
   is_of_line : LowersSource set r f → is_of_lower r ≡ true
   is_of_line (failed e rose same) = ap is_of_lower e

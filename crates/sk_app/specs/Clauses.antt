@@ -31,7 +31,7 @@ use Rattle.sk_trace_text.specs.declared.fault.TraceFault.{TraceFault}
 use Rattle.sk_trace_text.specs.declared.fault.TraceFault.TheVariants as reason
 use Rattle.sk_trace_text.specs.Traced.{IsNotTraced}
 use Rattle.sk_app.specs.declared.direct.Job.{Job}
-use Rattle.sk_app.specs.declared.ending.Ending.TheVariants.{Completed, NoCompletion, SpentRounds, SpentConflicts, HelpShown, VersionShown, ExecDone, ExecFailed, ExecSkipped, Lowered, Listed, Explained, Met, Accepted, Rejected, NotALine, NotText, NotTyped, TooLarge, NotRun, NotFilled, NotLowered, NotTagged, NotCertificate, ReadFault, WriteFault, TooLong, NotBuilt}
+use Rattle.sk_app.specs.declared.ending.Ending.TheVariants.{Completed, NoCompletion, SpentRounds, SpentConflicts, HelpShown, VersionShown, ExecDone, ExecFailed, ExecSkipped, Lowered, Listed, Explained, Met, Accepted, Rejected, NotALine, NotText, NotTyped, TooLarge, NotRun, NotFilled, NotLowered, NotTagged, NotCertificate, ReadFault, WriteFault, TooLong}
 use Rattle.sk_min_laws.specs.Best.{Meeting}
 use Rattle.sk_built_laws.specs.Built.{IsBuilt}
 use Rattle.sk_all_text.specs.AllTexts.{IsListing}
@@ -47,8 +47,9 @@ use Rattle.sk_check_text.specs.declared.fault.CheckFault.{CheckFault}
 use Rattle.sk_check_text.specs.declared.fault.CheckFault.TheVariants as check
 use Rattle.sk_check_text.specs.Checking.{TakesSketch, IsAccepted, IsRejectedFor, IsSomeCertificate, IsFaultOfCheck}
 use Rattle.sk_check_text.specs.Checking as checking
+use Rattle.sk_app.specs.Summary.{IsSummary}
 use Rattle.sk_app.specs.Checks.{most_input, IsTooLongInput, told_reason}
-use Rattle.sk_app.specs.Lines.{IsNoLine, IsSearch, ForSearch, IsJob, ForJob, ForTrace, ForLower, ForAll, ForWhy, TakesText, SizesText, ForText, ReadsText, ForCheck, ReadsSource, IsUnbuiltLine}
+use Rattle.sk_app.specs.Lines.{IsNoLine, IsSearch, ForSearch, IsJob, ForJob, ForTrace, ForLower, ForAll, ForWhy, TakesText, SizesText, ForText, ReadsText, ForCheck, ReadsSource, ForSelf}
 use Rattle.sk_app.specs.Jobs.{IsStopped, IsRunOfJob}
 use Rattle.sk_app.specs.Questions.{IsExplained, IsMet}
 use Rattle.sk_app.specs.Ends.{WritesPart, writes_nothing, Ends, IsOfBuilt, IsOfFault, IsOfUntyped, IsOfRefused, IsOfRefusedInput, IsOfVerdict, IsOfAccepted, ending_of, stopped}
@@ -64,14 +65,6 @@ TellsNoLine c = c.ending ≡ NotALine → IsNoLine c.words
 -- Words that are no line end so.
 abbrev pub NoLineEnds : Call → Type 0
 NoLineEnds c = IsNoLine c.words → Ends (λ e. e ≡ NotALine) ⊥ ⊥ c.ending
-
--- The line is one for which the program does nothing: `self`.
-abbrev pub TellsUnbuilt : Call → Type 0
-TellsUnbuilt c = c.ending ≡ NotBuilt → IsUnbuiltLine c.words
-
--- Such a line ends so.
-abbrev pub UnbuiltEnds : Call → Type 0
-UnbuiltEnds c = IsUnbuiltLine c.words → Ends (λ e. e ≡ NotBuilt) ⊥ ⊥ c.ending
 
 -- The line is `--help`, and the sink got the help.
 abbrev pub TellsHelp : Call → Type 0
@@ -91,9 +84,10 @@ VersionEnds c = IsLine c.words line.Version → Ends (λ e. e ≡ VersionShown) 
 
 -- A line `synth`
 
--- The sink got the result text of a filling that meets its obligations and costs least, with a certificate where the line asks for one.
+-- The sink got the result text of a filling that meets its obligations and costs least, with a certificate where the line asks for one;
+-- or, for a line `self`, the summary of such a filling.
 abbrev pub TellsCompletion : Call → Type 0
-TellsCompletion c = c.ending ≡ Completed → ForSearch c.words (λ set budget cert. OfText c (λ text. Gets c (IsCompletion set cert text)))
+TellsCompletion c = c.ending ≡ Completed → ForSearch c.words (λ set budget cert. OfText c (λ text. Gets c (IsCompletion set cert text))) ⊎ ForSelf c.words (λ n. Gets c (IsSummary n))
 
 -- No filling meets them. The sink got a line that says so, with a certificate where the line asks for one.
 abbrev pub TellsNone : Call → Type 0
@@ -111,6 +105,11 @@ TellsConflicts c = (pairs : List Pair) (q : Query) (formula : Encoded) (log : Li
 -- A text that is taken ends in one of these ways.
 abbrev pub BuiltEnds : Call → Type 0
 BuiltEnds c = (set : Set) (budget : Budget) (cert : Bool) → IsSearch c.words set budget cert → OfText c (λ text. (bounds : Bounds) (e : Expanded) → IsBuilt set text bounds e → Ends (IsOfBuilt budget) (SourceFailed c) (SinkFailed c) c.ending)
+
+-- A line `self` ends as completed. Its sketch is taken and has a completion; no text shows otherwise, and one that did would count as
+-- want of memory.
+abbrev pub SelfEnds : Call → Type 0
+SelfEnds c = (n : ℕ) → IsLine c.words (line.Itself n) → Ends (λ e. e ≡ Completed) ⊥ (SinkFailed c) c.ending
 
 -- Texts that are refused
 
@@ -310,6 +309,10 @@ CutsOutput c = c.ending ≡ WriteFault → OfText c (λ text. WritesPart (IsOutp
 -- For `--help` that is a prefix of the help.
 abbrev pub CutsHelp : Call → Type 0
 CutsHelp c = IsLine c.words line.Help → c.ending ≡ WriteFault → AppendsPrefix help_text c.effect.held_old c.effect.held_new
+
+-- For a line `self` that is a prefix of a summary.
+abbrev pub CutsSummary : Call → Type 0
+CutsSummary c = (n : ℕ) → IsLine c.words (line.Itself n) → c.ending ≡ WriteFault → WritesPart (IsSummary n) c.effect.held_old c.effect.held_new
 
 -- For `--version` that is a prefix of the version.
 abbrev pub CutsVersion : Call → Type 0

@@ -40,15 +40,16 @@ use Rattle.sk_check_text.specs.declared.fault.CheckFault.TheVariants as check
 use Rattle.sk_check_text.specs.declared.checking.Checked.TheVariants as checked
 use Rattle.sk_check_text.specs.Checking.{IsFaultOfCheck, IsChecked}
 use Rattle.sk_check_text.specs.Checking as checking
+use Rattle.sk_app.specs.Summary.{IsSummary}
 use Rattle.sk_app.specs.Checks.{most_input, told_reason, IsVerdictText}
 use Rattle.sk_app.specs.declared.ending.Ending.{Ending}
-use Rattle.sk_app.specs.declared.ending.Ending.TheVariants.{Completed, NoCompletion, SpentRounds, SpentConflicts, HelpShown, VersionShown, NotALine, NotText, NotTyped, TooLarge, NotRun, NotFilled, ReadFault, WriteFault, TooLong, Memory, NotBuilt, ExecDone, ExecFailed, ExecSkipped, Lowered, NotLowered, NotTagged, Listed, Explained, Met, Accepted, Rejected, NotCertificate}
+use Rattle.sk_app.specs.declared.ending.Ending.TheVariants.{Completed, NoCompletion, SpentRounds, SpentConflicts, HelpShown, VersionShown, NotALine, NotText, NotTyped, TooLarge, NotRun, NotFilled, ReadFault, WriteFault, TooLong, Memory, ExecDone, ExecFailed, ExecSkipped, Lowered, NotLowered, NotTagged, Listed, Explained, Met, Accepted, Rejected, NotCertificate}
 use Rattle.sk_app_reading.specs.Streams.{IsWhole, IsLong, TakesFew}
 use Rattle.sk_app.specs.ResultText.{IsCompletion, IsNone}
 use Rattle.sk_app.specs.Spent.{AreLearnt, IsSpentRounds, IsSpentConflicts}
 use Rattle.sk_app.specs.Results.{IsResult}
 use Rattle.sk_app.specs.Help.{help_text, version_text}
-use Rattle.sk_app.specs.Lines.{IsNoLine, ForSearch, ForJob, ForLower, ForAll, ForWhy, ForCheck}
+use Rattle.sk_app.specs.Lines.{IsNoLine, ForSearch, ForJob, ForLower, ForAll, ForWhy, ForCheck, ForSelf}
 use Rattle.sk_app.specs.Call.{Effect}
 use Rattle.sk_app.specs.Ends.{IsDelivered, Writes, WritesPart, writes_nothing, IsToldOf, ending_of, stopped}
 
@@ -75,7 +76,6 @@ pub record IsShown (text : List ℕ) (shown result : Ending) (f : Effect) : Type
 -- the endings of a line `synth`
 abbrev pub is_of_synth : Ending → Bool
 is_of_synth NotALine = false
-is_of_synth NotBuilt = false
 is_of_synth HelpShown = false
 is_of_synth VersionShown = false
 is_of_synth ExecDone = false
@@ -213,6 +213,16 @@ pub record Checks (set : Set) (result : Ending) (f : Effect) : Type 0 where
   pub checks : ChecksSource set result f
   pub few : TakesFew most_input f.left_old f.left_new
 
+-- what is written of the sketch that a line `self` makes: a summary; or memory was wanting, and nothing was
+pub data IsSummarised (n : ℕ) (result : Ending) (faults_old faults_new : ℕ) (old new : Option (List ℕ)) : Type 0 where
+  summarised : (out : List ℕ) → IsSummary n out → IsDelivered result Completed out faults_old faults_new old new → IsSummarised n result faults_old faults_new old new
+  unsummarised : result ≡ Memory → new ≡ old → IsSummarised n result faults_old faults_new old new
+
+-- a call for a line `self` with this number, which reads nothing
+pub record Summarises (n : ℕ) (result : Ending) (f : Effect) : Type 0 where
+  pub unread : ReadsNothing f
+  pub written : IsSummarised n result f.write_faults_old f.write_faults_new f.held_old f.held_new
+
 -- what a call does for a line
 abbrev pub Serves : Line → Ending → Effect → Type 0
 Serves (line.Synth set budget cert) result f = Synthesises set budget cert result f
@@ -222,7 +232,7 @@ Serves (line.Lower set) result f = Lowers set result f
 Serves (line.All set most) result f = Asks set (question.Which most) result f
 Serves (line.Why set) result f = Asks set question.Why result f
 Serves (line.Check set) result f = Checks set result f
-Serves (line.Itself n) result f = IsRefused NotBuilt result f
+Serves (line.Itself n) result f = Summarises n result f
 Serves line.Help result f = IsShown help_text HelpShown result f
 Serves line.Version result f = IsShown version_text VersionShown result f
 
@@ -241,5 +251,6 @@ pub data IsOutput (words : List (List ℕ)) (text out : List ℕ) : Type 0 where
   reasons : ForWhy words (λ set. IsExplained set text out) → IsOutput words text out
   meeting : ForWhy words (λ set. IsMet set text out) → IsOutput words text out
   verdict : ForCheck words (λ set. IsVerdictText set text out) → IsOutput words text out
+  summary : ForSelf words (λ n. IsSummary n out) → IsOutput words text out
   help : IsLine words line.Help → out ≡ help_text → IsOutput words text out
   version : IsLine words line.Version → out ≡ version_text → IsOutput words text out

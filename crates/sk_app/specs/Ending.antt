@@ -23,7 +23,7 @@ use Rattle.sk_holes.specs.declared.fault.FillFault.TheVariants as hole
 use Rattle.sk_cert.specs.declared.fault.CertFault.{CertFault}
 use Rattle.sk_cert.specs.declared.fault.CertFault.TheVariants as cert
 use Rattle.sk_app.specs.declared.ending.Ending.{Ending}
-use Rattle.sk_app.specs.declared.ending.Ending.TheVariants.{Completed, NoCompletion, SpentRounds, SpentConflicts, HelpShown, VersionShown, ExecDone, ExecFailed, ExecSkipped, Lowered, Listed, Explained, Met, Accepted, Rejected, NotALine, NotText, NotTyped, TooLarge, NotRun, NotFilled, NotLowered, NotTagged, NotCertificate, ReadFault, WriteFault, TooLong, Memory, NotBuilt}
+use Rattle.sk_app.specs.declared.ending.Ending.TheVariants.{Completed, NoCompletion, SpentRounds, SpentConflicts, HelpShown, VersionShown, ExecDone, ExecFailed, ExecSkipped, Lowered, Listed, Explained, Met, Accepted, Rejected, NotALine, NotText, NotTyped, TooLarge, NotRun, NotFilled, NotLowered, NotTagged, NotCertificate, ReadFault, WriteFault, TooLong, Memory}
 
 -- The refusal for a fault of a text. Want of memory, which `run` answers as `Memory`, is no fault of it.
 abbrev pub text_refusal : TextFault → Refusal
@@ -133,7 +133,6 @@ status_of ReadFault = 14
 status_of WriteFault = 15
 status_of TooLong = 16
 status_of Memory = 17
-status_of NotBuilt = 20
 
 abbrev pub message_of : Ending → List ℕ
 message_of Completed = []
@@ -164,4 +163,3 @@ message_of ReadFault = codes "read fault"
 message_of WriteFault = codes "write fault"
 message_of TooLong = codes "too long"
 message_of Memory = codes "no memory"
-message_of NotBuilt = codes "not built"

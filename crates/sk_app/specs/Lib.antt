@@ -12,6 +12,7 @@ pub mod Lines
 pub mod Jobs
 pub mod Questions
 pub mod Checks
+pub mod Summary
 pub mod Call
 pub mod Effects
 pub mod Clauses

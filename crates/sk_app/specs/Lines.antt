@@ -1,5 +1,5 @@
 -- What the program does with the line that words spell.
-use Rattle.std.specs.Prelude.{ℕ, ◌⊎◌, Bool, true, false, IsTrue, List, Option}
+use Rattle.std.specs.Prelude.{ℕ, ◌⊎◌, Bool, List, Option}
 use Rattle.sk_base.specs.declared.bounds.Budget.{Budget}
 use Rattle.sk_opts.specs.declared.line.Set.{Set}
 use Rattle.sk_opts.specs.declared.line.Line.{Line}
@@ -86,6 +86,12 @@ pub record ForCheck (words : List (List ℕ)) (Holds : Set → Type 0) : Type 0 
   pub is : IsLine words (line.Check set)
   pub holds : Holds set
 
+-- The words are a line `self`, and this holds of its number.
+pub record ForSelf (words : List (List ℕ)) (Holds : ℕ → Type 0) : Type 0 where
+  pub n : ℕ
+  pub is : IsLine words (line.Itself n)
+  pub holds : Holds n
+
 -- the line that asks this about completions
 abbrev pub line_asking : Set → Question → Line
 line_asking set (question.Which most) = line.All set most
@@ -118,22 +124,3 @@ ReadsText words set = TakesText words set ⊎ IsLine words (line.Lower set)
 -- The words are a line that reads its source, with these options: one that reads a text, or `check`, which reads a sketch and a certificate.
 abbrev pub ReadsSource : List (List ℕ) → Set → Type 0
 ReadsSource words set = ReadsText words set ⊎ IsLine words (line.Check set)
-
--- whether the program does nothing for a line: it is `self`
-abbrev pub is_unbuilt : Line → Bool
-is_unbuilt (line.Synth set budget cert) = false
-is_unbuilt (line.Exec set name values) = false
-is_unbuilt (line.Trace set name values holes) = false
-is_unbuilt (line.Lower set) = false
-is_unbuilt (line.All set most) = false
-is_unbuilt (line.Why set) = false
-is_unbuilt (line.Check set) = false
-is_unbuilt (line.Itself n) = true
-is_unbuilt line.Help = false
-is_unbuilt line.Version = false
-
--- the words are such a line
-pub record IsUnbuiltLine (words : List (List ℕ)) : Type 0 where
-  pub line : Line
-  pub is : IsLine words line
-  pub unbuilt : IsTrue (is_unbuilt line)

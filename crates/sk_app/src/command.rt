@@ -21,12 +21,13 @@ ghost use Rattle.sk_app.specs.Effects.{is_of_synth, TellsSpan, Serves, Answers};
 ghost use Rattle.sk_app.specs.Call.{effect, call};
 ghost use Rattle.sk_app.specs.Headline.{Headline};
 ghost use Rattle.sk_app.specs.Listings.{Listings};
-ghost use Rattle.sk_app.specs.Clauses.{TellsNoLine, NoLineEnds, TellsUnbuilt, UnbuiltEnds, TellsHelp, HelpEnds, TellsVersion, VersionEnds, TellsCompletion, TellsNone, TellsRounds, TellsConflicts, BuiltEnds, TellsNotText, PlacesNotText, FaultyEnds, TellsNotTyped, PlacesNotTyped, UntypedEnds, TellsTooLarge, LargeEnds, CopiesEnds, TellsTooLong, LongEnds, TellsDone, TellsFailed, TellsSkipped, RunEnds, TellsNotRun, TellsNotFilled, NotRunEnds, TellsLowered, KeepsTypes, LoweredEnds, TellsNotLowered, NotLoweredEnds, TellsNotTagged, NotTaggedEnds, RefusedEnds, TellsListed, ListedEnds, TellsExplained, ExplainedEnds, TellsMet, MetEnds, TellsAccepted, CheckedEnds, AcceptedEnds, TellsRejected, RejectedEnds, TellsNotCertificate, NotCertificateEnds, TellsLongInput, LongInputEnds, RefusedInputEnds, TellsReadFault, TellsWriteFault, CutsOutput, CutsHelp, CutsVersion, KeepsSink, ReadsFew, LeavesSource};
+ghost use Rattle.sk_app.specs.Clauses.{TellsNoLine, NoLineEnds, TellsHelp, HelpEnds, TellsVersion, VersionEnds, TellsCompletion, TellsNone, TellsRounds, TellsConflicts, BuiltEnds, SelfEnds, TellsNotText, PlacesNotText, FaultyEnds, TellsNotTyped, PlacesNotTyped, UntypedEnds, TellsTooLarge, LargeEnds, CopiesEnds, TellsTooLong, LongEnds, TellsDone, TellsFailed, TellsSkipped, RunEnds, TellsNotRun, TellsNotFilled, NotRunEnds, TellsLowered, KeepsTypes, LoweredEnds, TellsNotLowered, NotLoweredEnds, TellsNotTagged, NotTaggedEnds, RefusedEnds, TellsListed, ListedEnds, TellsExplained, ExplainedEnds, TellsMet, MetEnds, TellsAccepted, CheckedEnds, AcceptedEnds, TellsRejected, RejectedEnds, TellsNotCertificate, NotCertificateEnds, TellsLongInput, LongInputEnds, RefusedInputEnds, TellsReadFault, TellsWriteFault, CutsOutput, CutsHelp, CutsSummary, CutsVersion, KeepsSink, ReadsFew, LeavesSource};
 
 use crate::check::check_source;
 use crate::direct::{Job, Way, run_source};
 use crate::ending::Ending;
 use crate::help::{help, version};
+use crate::itself::summarise;
 use crate::listing::{Question, ask_source};
 use crate::lower::lower_source;
 use crate::output::deliver;
@@ -122,7 +123,7 @@ fn serve<S: Source, K: Sink>(alloc: Global, line: Line, source: &mut S, sink: &m
         }
         Line::Why { set } => ask_source(alloc, &set, Question::Why, source, sink),
         Line::Check { set } => check_source(alloc, &set, source, sink),
-        Line::Itself { .. } => Ending::NotBuilt,
+        Line::Itself { n } => summarise(alloc, n, sink),
         Line::Help => show_help(alloc, sink),
         Line::Version => deliver(sink, version(), Ending::VersionShown),
     }
@@ -149,7 +150,7 @@ fn answer<S: Source, K: Sink>(
 /// `trace` fills it with numbers, runs a function of the filling, and writes its steps too; a line `lower` writes the plain
 /// sketch of a text with algebraic types; a line `all` lists completions of a sketch, and a line `why` writes inputs that explain why
 /// it has none; a line `check` says whether a sketch and a certificate behind it belong together; `--help` and `--version` write their
-/// texts. A line `self` ends with `NotBuilt`.
+/// texts; a line `self` completes a sketch that the program makes itself, and writes a summary.
 ///
 /// What is said of the text holds where the source tells what is left, and what is said of what the sink
 /// holds where the sink tells it. Want of memory may come at any step.
@@ -169,19 +170,18 @@ pub fn run<S: Source, K: Sink>(
     // Words.
     ensures not_a_line { TellsNoLine (call S.Source K.Sink words.now result source sink) }
     ensures ends_no_line { NoLineEnds (call S.Source K.Sink words.now result source sink) }
-    ensures not_built { TellsUnbuilt (call S.Source K.Sink words.now result source sink) }
-    ensures ends_unbuilt_line { UnbuiltEnds (call S.Source K.Sink words.now result source sink) }
     ensures help { TellsHelp (call S.Source K.Sink words.now result source sink) }
     ensures ends_help { HelpEnds (call S.Source K.Sink words.now result source sink) }
     ensures version { TellsVersion (call S.Source K.Sink words.now result source sink) }
     ensures ends_version { VersionEnds (call S.Source K.Sink words.now result source sink) }
 
-    // A line `synth`.
+    // A line `synth` or `self`.
     ensures completed { TellsCompletion (call S.Source K.Sink words.now result source sink) }
     ensures none { TellsNone (call S.Source K.Sink words.now result source sink) }
     ensures spent_rounds { TellsRounds (call S.Source K.Sink words.now result source sink) }
     ensures spent_conflicts { TellsConflicts (call S.Source K.Sink words.now result source sink) }
     ensures ends_built { BuiltEnds (call S.Source K.Sink words.now result source sink) }
+    ensures ends_self { SelfEnds (call S.Source K.Sink words.now result source sink) }
 
     // Texts that are refused.
     ensures not_text { TellsNotText (call S.Source K.Sink words.now result source sink) }
@@ -239,6 +239,7 @@ pub fn run<S: Source, K: Sink>(
     ensures read_fault { TellsReadFault (call S.Source K.Sink words.now result source sink) }
     ensures write_fault { TellsWriteFault (call S.Source K.Sink words.now result source sink) }
     ensures prefix { CutsOutput (call S.Source K.Sink words.now result source sink) }
+    ensures prefix_self { CutsSummary (call S.Source K.Sink words.now result source sink) }
     ensures prefix_help { CutsHelp (call S.Source K.Sink words.now result source sink) }
     ensures prefix_version { CutsVersion (call S.Source K.Sink words.now result source sink) }
     ensures kept { KeepsSink (call S.Source K.Sink words.now result source sink) }

@@ -26,7 +26,7 @@ use std::alloc::{AllocError, Global};
 /// How `run` ends.
 #[derive(Debug, Drop)]
 pub enum Ending {
-    /// The sink got the completed sketch.
+    /// The sink got the completed sketch; for a line `self` the summary of its sketch.
     Completed,
     /// No filling meets the harness on every input in range. The sink got a line that says so.
     NoCompletion,
@@ -99,8 +99,6 @@ pub enum Ending {
     TooLong,
     /// Memory was wanting.
     Memory,
-    /// The line is one for which the program does nothing: `self`.
-    NotBuilt,
 }
 
 /// The status with which the program ends. It takes no memory.
@@ -138,7 +136,6 @@ pub fn status(ending: &Ending) -> u8
         Ending::NotFilled(fault) => fill_status(*fault),
         Ending::NotLowered(reason) => adt_status(*reason),
         Ending::NotTagged { span: _ } => 23,
-        Ending::NotBuilt => 20,
     }
 }
 
@@ -177,7 +174,6 @@ pub fn message(alloc: Global, ending: &Ending) -> Result<Name, AllocError>
         Ending::WriteFault => said(alloc, b"write fault"),
         Ending::TooLong => said(alloc, b"too long"),
         Ending::Memory => said(alloc, b"no memory"),
-        Ending::NotBuilt => said(alloc, b"not built"),
     }
 }
 

@@ -8,6 +8,7 @@ mod completion;
 mod direct;
 mod ending;
 mod help;
+mod itself;
 mod limits;
 mod listing;
 mod lower;

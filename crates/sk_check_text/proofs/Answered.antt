@@ -22,7 +22,7 @@ use Rattle.sk_front.specs.Front.{IsFaultOfSizes}
 use Rattle.sk_front.specs.Front as front
 use Rattle.sk_built_laws.specs.Built.{ForBuilt}
 use Rattle.sk_built_laws.proofs.Refusals as refusals
-use Rattle.sk_check_text.specs.declared.checking.Checked.{Checked}
+use Rattle.sk_check_text.specs.declared.checking.Checked.{A = Checked}
 use Rattle.sk_check_text.specs.declared.checking.Checked.TheVariants as checked
 use Rattle.sk_check_text.specs.declared.fault.CheckFault.{CheckFault}
 use Rattle.sk_check_text.specs.declared.fault.CheckFault.TheVariants as fault
@@ -115,7 +115,7 @@ module _ (set : Set) (input : List ℕ) where
   -- what holds of its parts holds of these
   moved : (Holds : List ℕ → List ℕ → Type 0) (s b : List ℕ) → Splits input s b → OfParts input Holds → Holds s b
   moved Holds s b splits x =
-      let same = splits_once input x.sketch s x.behind b x.splits splits in
+      let same = splits_once input x.sketch x.behind s b x.splits splits in
       subst (λ t. Holds t b) same.0 (subst (λ u. Holds x.sketch u) same.1 x.holds)
 
   short_of : (text : List ℕ) (Holds : Bounds → Expanded → Type 0) → ForBuilt set text Holds → length text ≤ most_bytes
@@ -136,7 +136,7 @@ module _ (set : Set) (input : List ℕ) where
       absurd (short_or_long is.sketch is.holds.short (moved (λ s b. most_bytes < length s) is.sketch is.behind is.splits cause))
   only_checked (Err (fault.Sketch f)) found is (fault.Sketch told) cause =
       let c = moved (λ s b. (length s ≤ most_bytes) × front.IsCause (IsFaultOfSizes set s) told) is.sketch is.behind is.splits cause in
-      refusals.refused set is.sketch {Checked} (λ a bounds e. ⊤) (Err f) tt is.holds.cause told c.1
+      refusals.refused set is.sketch {A = Checked} (λ a bounds e. ⊤) (Err f) tt is.holds.cause told c.1
 
   -- where the sketch is taken, what is answered follows from what holds of its expansion
   taken : (Holds : List ℕ → Bounds → Expanded → Type 0) (That : Checked → Type 0) → ((a : Checked) (text : List ℕ) (bounds : Bounds) (e : Expanded) → IsSaid a text bounds e → Holds text bounds e → That a) → TakesSketch set input Holds → (r : Result Checked CheckFault) → IfOk r (IsChecked set input) → IfErr r (IsFaultOfCheck set input) → MatchResult r That IsMemory
@@ -151,7 +151,7 @@ module _ (set : Set) (input : List ℕ) where
       short_or_long is.sketch (short_of is.sketch (Holds is.behind) y) is.holds
   taken Holds That that takes (Err (fault.Sketch f)) found is =
       let y : ForBuilt set is.sketch (Holds is.behind) = moved (λ s b. ForBuilt set s (Holds b)) is.sketch is.behind is.splits takes in
-      refusals.taken set is.sketch {Checked} (λ a. IsSaid a is.behind) That y.bounds y.e y.only.built (λ a x. that a is.behind y.bounds y.e x y.holds) (Err f) tt is.holds.cause
+      refusals.taken set is.sketch {A = Checked} (λ a. IsSaid a is.behind) That y.bounds y.e y.only.built (λ a x. that a is.behind y.bounds y.e x y.holds) (Err f) tt is.holds.cause
 
   module _ (r : Result Checked CheckFault) (found : IfOk r (IsChecked set input)) (is : IfErr r (IsFaultOfCheck set input)) where
     pub verdict_taken : TakesSketch set input IsSomeCertificate → MatchResult r IsVerdict IsMemory

@@ -36,7 +36,9 @@ completes e bounds (Some a) value pairs k = let b = k.0 in record { range = b.me
 pub none_below : (e : Expanded) (bounds : Bounds) (choice : Option Choice) (value : ℕ) (pairs : List Pair) → IsKnown e bounds choice value pairs → NonePassesBelow e bounds choice value (inputs_of pairs)
 none_below e bounds None value pairs k = λ limit is b wanted. k.1 b (subst (λ (l : Option ℕ). IsWanted e bounds (inputs_of pairs) l b) is wanted)
 none_below e bounds (Some a) zero pairs k = λ limit is b wanted. absurd (let none : 0 < 0 = is.0 in omega (arith, none))
-none_below e bounds (Some a) (suc w) pairs k = λ limit is b wanted. k.1 b (subst (λ (l : Option ℕ). IsWanted e bounds (inputs_of pairs) l b) is.1 wanted)
+none_below e bounds (Some a) (suc w) pairs k = λ limit is b wanted.
+    let less : suc w - 1 ≡ w = omega arith in
+    k.1 b (subst (λ (l : Option ℕ). IsWanted e bounds (inputs_of pairs) l b) (is.1 ∙ ap Some less) wanted)
 
 module _ (e : Expanded) (bounds : Bounds) (askable : IsAskable e bounds) (pairs : List Pair) (honest : Honest e bounds pairs) where
   are : All (IsInput e.prog bounds) (inputs_of pairs)
@@ -69,7 +71,7 @@ module _ (e : Expanded) (bounds : Bounds) (askable : IsAskable e bounds) (pairs 
   limited : (value : ℕ) (a : Choice) → IsBest e bounds a value → NoneBelow e bounds (inputs_of pairs) value → (q : Query) → IsPut e bounds (Some a) value (inputs_of pairs) q → IsLimited e bounds pairs a q
   limited value a best below (query.Bad b limit) put = absurd put
   limited value a best below (query.BadAt b o limit) put = inl (sym (same_Some a b put.0), put.2 ∙ sym (greatest_is value a best below))
-  limited value a best below (query.Wanted listed None) put = absurd (none-some (put.1).1)
+  limited value a best below (query.Wanted listed None) put = absurd (none-some (value - 1) (put.1).1)
   limited value a best below (query.Wanted listed (Some limit)) put =
       let is = greatest_is value a best below in
       let some : 0 < value = (put.1).0 in
@@ -86,7 +88,7 @@ module _ (e : Expanded) (bounds : Bounds) (askable : IsAskable e bounds) (pairs 
 
   known_of : (choice : Option Choice) (value : ℕ) → IsKnown e bounds choice value pairs → (q : Query) → IsPut e bounds choice value (inputs_of pairs) q → IsKnownOf e bounds pairs q choice
   known_of None value k (query.Bad b limit) put = absurd put
-  known_of None value k (query.BadAt b o limit) put = absurd (none-some put.0)
+  known_of None value k (query.BadAt b o limit) put = absurd (none-some b put.0)
   known_of None value k (query.Wanted listed limit) put = put.1
   known_of (Some a) value k q put = (k.0.meeting, limited value a k.0 k.1 q put, costs_least value a k.0 k.1)
 

@@ -1,4 +1,4 @@
-pub mod Listing
+pub mod Inputs
 pub mod Known
 pub mod Parts
 pub mod Whole

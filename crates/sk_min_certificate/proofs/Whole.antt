@@ -39,7 +39,7 @@ small_sites (s ∷ ss) n =
 -- without a choice the value is 0
 free : (e : Expanded) (bounds : Bounds) (choice : Option Choice) (value : ℕ) (pairs : List Pair) → IsKnown e bounds choice value pairs → choice ≡ None → value ≡ 0
 free e bounds None value pairs k is = k.0
-free e bounds (Some a) value pairs k is = absurd (none-some (sym is))
+free e bounds (Some a) value pairs k is = absurd (none-some a (sym is))
 
 -- its text is the layout of the filling
 layout_is : (e : Expanded) (bounds : Bounds) (c : Certificate) (choice : Option Choice) (text : List ℕ) → text ≡ text_of e choice → is_layout e bounds c choice text

@@ -1,6 +1,6 @@
 //! Certificates of answers.
 
-ghost use Rattle.std.specs.Prelude.{◌≡◌, ◌≤◌, ⊥, length, None, Some, IfOk};
+ghost use Rattle.std.specs.Prelude.{◌≡◌, ◌≤◌, length, None, Some, IfOk};
 ghost use Rattle.std.specs.Option.{option_copied};
 ghost use Rattle.sk_model.specs.declared.expanded.Choice.{Choice};
 ghost use Rattle.sk_oblig_queries.specs.Queries.{IsWanted};

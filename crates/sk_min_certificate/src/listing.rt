@@ -13,7 +13,7 @@ use sk_model::{Expanded, Input, Pair};
 use std::alloc::{AllocError, Global};
 
 /// The inputs of pairs.
-#[tactic(auto, using(crate::proofs::Listing::input_steps))]
+#[tactic(auto, using(crate::proofs::Inputs::input_steps))]
 pub(crate) fn inputs_of(alloc: Global, pairs: &[Pair]) -> Result<List<Input>, AllocError>
     ensures { IfOk result (λ inputs. inputs ≡ inputs_of pairs.now) }
 {

@@ -1,7 +1,7 @@
 use Rattle.std.proofs.Common.{◌≡◌, subst}
 use Rattle.sk_min.specs.Least.{IsAnswer}
 use Rattle.sk_app.specs.SpentText.{spent_result, OfRounds}
-use Rattle.sk_app.proofs.CompleteLaws.{best_found, rounds_found, conflicts_found}
+use Rattle.sk_app.proofs.CompleteLaws.{best_found, rounds_found, by_search, conflicts_found}
 use Rattle.sk_app.proofs.complete.search.Goals as goal
 
 pub returns-in-Best-clause-found : goal.returns-in-Best-clause-found
@@ -20,4 +20,4 @@ pub returns-clause-found : goal.returns-clause-found
 returns-clause-found c set text ready =
     let m = c.in-Conflicts in
     let answer = subst (IsAnswer c.args.expanded.now c.args.bounds.now c.args.budget.now) m.is c.in_ok-choice.ensures.answer in
-    conflicts_found set text c.args.bounds.now c.args.expanded.now ready c.args.budget.now m.pairs m.query m.formula m.log m.best c.in_ok-out-in-Conflicts.out.items answer.0 answer.1 answer.2 answer.3 c.in_ok-out-in-Conflicts.ensures
+    conflicts_found set text c.args.bounds.now c.args.expanded.now ready c.args.cert c.args.budget.now m.pairs m.query m.formula m.log m.best c.in_ok-out-in-Conflicts.out.items answer.0 answer.1 (by_search set text c.args.bounds.now c.args.expanded.now ready c.args.cert m.query m.best answer.2 answer.3) c.in_ok-out-in-Conflicts.ensures
