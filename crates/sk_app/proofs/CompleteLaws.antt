@@ -33,6 +33,7 @@ use Rattle.sk_min.specs.Least as least
 use Rattle.sk_cert.specs.declared.certificate.Certificate.{Certificate}
 use Rattle.sk_cert.specs.Certificates.{result_lines, certificate_lines, IsCertificate}
 use Rattle.sk_check_laws.specs.Parts.{HasLayout, is_layout}
+use Rattle.sk_check_laws.specs.Right.{is_right}
 use Rattle.sk_min_certificate.specs.Certifications.{FillingsFit, IsCertified}
 use Rattle.sk_opts.specs.declared.line.Set.{Set}
 use Rattle.sk_front_laws.proofs.Whole.{texts_keep, texts_fit}
@@ -68,17 +69,13 @@ number_words (n ∷ ns) = ap (λ r. 32 ∷ (decimal n ++ r)) (number_words ns)
 lines_same : (k c n v b d h s : List ℕ) → ((k ++ c ++ n) ++ (k ++ v ++ (b ++ d) ++ n)) ++ (k ++ h ++ s ++ n) ≡ (k ++ c ++ n ++ k ++ v ++ b) ++ d ++ (n ++ k ++ h) ++ s ++ n
 lines_same k c n v b d h s = simp append_assoc refl
 
-first_words : codes "//@ completion\n//@ value " ≡ codes "//@ " ++ codes "completion" ++ codes "\n" ++ codes "//@ " ++ codes "value" ++ codes " "
-first_words = refl
-
-last_words : codes "\n//@ holes" ≡ codes "\n" ++ codes "//@ " ++ codes "holes"
-last_words = refl
-
 -- the lines of a completion are the same in a certificate
 same_lines : (a : Choice) (value : ℕ) → result_lines (Some a) value ≡ completion_lines a value
 same_lines a value =
-    rw (append-nil (codes "//@ " ++ codes "completion"), append-nil (codes " " ++ decimal value), number_words a.values, first_words, last_words)
-    (lines_same (codes "//@ ") (codes "completion") (codes "\n") (codes "value") (codes " ") (decimal value) (codes "holes") (spaced a.values))
+    let b : (codes " " ++ decimal value) ++ [] ≡ codes " " ++ decimal value = append-nil (codes " " ++ decimal value) in
+    let w = number_words a.values in
+    let first : result_lines (Some a) value ≡ ((codes "//@ " ++ codes "completion" ++ codes "\n") ++ (codes "//@ " ++ codes "value" ++ (codes " " ++ decimal value) ++ codes "\n")) ++ (codes "//@ " ++ codes "holes" ++ spaced a.values ++ codes "\n") = λ i. ((codes "//@ " ++ codes "completion" ++ codes "\n") ++ (codes "//@ " ++ codes "value" ++ b i ++ codes "\n")) ++ (codes "//@ " ++ codes "holes" ++ w i ++ codes "\n") in
+    first ∙ lines_same (codes "//@ ") (codes "completion") (codes "\n") (codes "value") (codes " ") (decimal value) (codes "holes") (spaced a.values)
 
 begins_so : (e : Expanded) (bounds : Bounds) (choice : Choice) (value : ℕ) (c : Certificate) → c.choice ≡ Some choice → c.value ≡ value → HasLayout e bounds c → (c.text ++ result_lines c.choice c.value) ≡ completed_text (record { choice = choice; filled = fill e choice; value = value })
 begins_so e bounds choice value c is same text =
@@ -160,12 +157,12 @@ module _ (set : Set) where
         let c : Completion = record { choice = choice; filled = fill e choice; value = value } in
         completion_of true c out (least_of bounds e c refl best) (record { shows = shows; is = behind (Some choice) value (completed_text c) out shows.certificate shows.is (begins_so e bounds choice value shows.certificate shows.its_choice shows.its_value shows.certifies.layout) })
 
-    pub none_certified : (inputs : List Input) (out : List ℕ) → least.IsNone e bounds inputs → IsCertified e bounds None 0 out → IsNone set true text out
-    none_certified inputs out none shows = record {
+    pub none_certified : (out : List ℕ) → IsCertified e bounds None 0 out → IsNone set true text out
+    none_certified out shows = record {
       bounds = bounds;
       e = e;
       only = ready.only;
-      none = λ b range meets. none.meets b (record { range = range; meets = meets });
+      none = λ b range meets. subst (λ x. is_right e bounds x shows.certificate.value) shows.its_choice shows.right b (record { range = range; meets = meets });
       is = record { shows = shows; is = behind None 0 none_text out shows.certificate shows.is (begins_none e bounds shows.certificate shows.its_choice shows.its_value shows.certifies.layout) };
     }
 

@@ -1,5 +1,5 @@
 -- What holds of an input is what is answered, unless memory runs out.
-use Rattle.std.proofs.Common.{◌≡◌, ℕ, ◌+◌, ◌≤◌, ◌<◌, Bool, cond, eqb, List, ◌++◌, length, refl, sym, ap, subst, ◌∙◌, arith}
+use Rattle.std.proofs.Common.{◌≡◌, ℕ, ◌+◌, ◌≤◌, ◌<◌, cond, eqb, List, ◌++◌, length, refl, sym, ap, subst, ◌∙◌, arith}
 use Rattle.std.specs.Prelude.{⊤, Result, Ok, Err, IfOk, IfErr, MatchResult}
 use Rattle.std.proofs.lemmas.List.{append_cancel_left}
 use Rattle.sk_base.specs.declared.bounds.Bounds.{Bounds}
@@ -16,13 +16,12 @@ use Rattle.sk_check_laws.specs.Parts.{Certifies}
 use Rattle.sk_check_laws.specs.Rejected.{IsRejected, part_number}
 use Rattle.sk_check_laws.proofs.Excluding.{rejected_once, rejected_is_not_certified}
 use Rattle.sk_opts.specs.declared.line.Set.{Set}
-use Rattle.sk_front.specs.declared.fault.SketchFault.{SketchFault}
 use Rattle.sk_front.specs.Texts.{most_bytes}
 use Rattle.sk_front.specs.Front.{IsFaultOfSizes}
 use Rattle.sk_front.specs.Front as front
 use Rattle.sk_built_laws.specs.Built.{ForBuilt}
 use Rattle.sk_built_laws.proofs.Refusals as refusals
-use Rattle.sk_check_text.specs.declared.checking.Checked.{A = Checked}
+use Rattle.sk_check_text.specs.declared.checking.Checked.{Checked}
 use Rattle.sk_check_text.specs.declared.checking.Checked.TheVariants as checked
 use Rattle.sk_check_text.specs.declared.fault.CheckFault.{CheckFault}
 use Rattle.sk_check_text.specs.declared.fault.CheckFault.TheVariants as fault

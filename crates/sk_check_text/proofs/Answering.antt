@@ -26,7 +26,6 @@ use Rattle.sk_front.proofs.TextLaws.{byte_within}
 use Rattle.sk_built_laws.specs.Built.{ForBuilt}
 use Rattle.sk_built_laws.proofs.Taken as built
 use Rattle.sk_check_text.specs.declared.checking.Checked.{Checked}
-use Rattle.sk_check_text.specs.declared.checking.Checked.TheVariants as checked
 use Rattle.sk_check_text.specs.declared.fault.CheckFault.TheVariants as fault
 use Rattle.sk_check_text.specs.Splitting.{Splits}
 use Rattle.sk_check_text.specs.Checking.{IsAccepted, IsRejectedFor, IsSaid, IsChecked, IsFaultOfCheck, IsPlacedIn, IsPlacedFault}

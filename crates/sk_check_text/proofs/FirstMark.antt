@@ -1,12 +1,12 @@
 -- The first line between the parts of an input is what the reading byte by byte finds.
-use Rattle.std.proofs.Common.{◌≡◌, ℕ, zero, suc, ◌+◌, ◌≤◌, ◌⊎◌, inl, inr, Bool, true, false, cond, eqb, List, [], ◌∷◌, ◌++◌, length, take, drop, Option, Some, None, refl, sym, ap, ap₂, subst, ◌∙◌, arith, codes}
+use Rattle.std.proofs.Common.{◌≡◌, ℕ, suc, ◌+◌, ◌≤◌, ◌⊎◌, inl, inr, Bool, true, false, cond, eqb, List, [], ◌∷◌, ◌++◌, length, take, drop, Some, None, refl, sym, ap, ap₂, subst, ◌∙◌, arith, codes}
 use Rattle.std.specs.Str.{bytes_eq}
 use Rattle.std.proofs.lemmas.Bool.{eqb-true}
-use Rattle.std.proofs.lemmas.List.{take-append-drop, append-nil}
+use Rattle.std.proofs.lemmas.List.{take-append-drop}
 use Rattle.std.proofs.Math.Seq.{take-append_seam}
 use Rattle.std.proofs.lemmas.Slice.Eq.{bytes_eq-Decides}
 use Rattle.sk_cert.specs.Departing.{AreLines}
-use Rattle.sk_check_text.specs.Splitting.{mark, BeginsWithMark, HasMark, IsAtMark, HasNoMark, Splits}
+use Rattle.sk_check_text.specs.Splitting.{mark, BeginsWithMark, HasMark, Splits}
 use Rattle.sk_check_text.specs.Steps.{behind_feed, behind_mark, mark_at, found_or, first_mark}
 use Rattle.sk_check_text.specs.Laws.{SplitsOnce, EachSplits}
 

@@ -1,5 +1,5 @@
 -- What a line `check` says of its input: whether what stands behind the mark is a right certificate of the sketch before it.
-use Rattle.std.specs.Prelude.{ℕ, ⊤, ◌≡◌, ◌≤◌, ◌<◌, List, length}
+use Rattle.std.specs.Prelude.{ℕ, ⊤, ◌≤◌, ◌<◌, List, length}
 use Rattle.sk_base.specs.declared.bounds.Bounds.{Bounds}
 use Rattle.sk_model.specs.declared.expanded.Expanded.{Expanded}
 use Rattle.sk_cert.specs.declared.certificate.Certificate.{Certificate}

@@ -1,6 +1,6 @@
 -- How the line between the parts of an input is found, byte by byte. No contract of a public call cites this; that it finds the first
 -- such line is proved.
-use Rattle.std.specs.Prelude.{ℕ, ◌+◌, ◌==◌, Bool, List, [], ◌∷◌, length, take, drop, Option, Some, None, if◌then◌else◌}
+use Rattle.std.specs.Prelude.{ℕ, ◌+◌, ◌==◌, Bool, List, [], ◌∷◌, take, drop, Option, Some, None, if◌then◌else◌}
 use Rattle.std.specs.Str.{bytes_eq}
 use Rattle.sk_check_text.specs.Splitting.{mark}
 
