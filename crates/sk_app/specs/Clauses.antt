@@ -273,12 +273,12 @@ abbrev pub RejectedEnds : Call → Type 0
 RejectedEnds c = (set : Set) → IsLine c.words (line.Check set) → OfText c (λ input. length input ≤ most_input → (why : Reason) → part_number why < 6 → TakesSketch set input (IsRejectedFor why) → Ends (λ e. e ≡ Rejected why) (SourceFailed c) (SinkFailed c) c.ending)
 
 -- What stands behind the sketch is no certificate: this is the first line that departs from the form of one.
-abbrev pub TellsNotCertificate : Call → Type 0
-TellsNotCertificate c = (told : CertFault) → c.ending ≡ NotCertificate told → ForCheck c.words (λ set. OfText c (λ input. TakesSketch set input (checking.IsNone told)))
+abbrev pub TellsNoForm : Call → Type 0
+TellsNoForm c = (told : CertFault) → c.ending ≡ NotCertificate told → ForCheck c.words (λ set. OfText c (λ input. TakesSketch set input (checking.IsNone told)))
 
 -- A sketch with such a text behind it ends so.
-abbrev pub NotCertificateEnds : Call → Type 0
-NotCertificateEnds c = (set : Set) → IsLine c.words (line.Check set) → OfText c (λ input. length input ≤ most_input → (told : CertFault) → TakesSketch set input (checking.IsNone told) → Ends (λ e. e ≡ NotCertificate told) (SourceFailed c) ⊥ c.ending)
+abbrev pub NoFormEnds : Call → Type 0
+NoFormEnds c = (set : Set) → IsLine c.words (line.Check set) → OfText c (λ input. length input ≤ most_input → (told : CertFault) → TakesSketch set input (checking.IsNone told) → Ends (λ e. e ≡ NotCertificate told) (SourceFailed c) ⊥ c.ending)
 
 -- The source gives more bytes than an input may have, or the sketch of the input has more than a sketch may have.
 abbrev pub TellsLongInput : Call → Type 0
@@ -289,8 +289,8 @@ abbrev pub LongInputEnds : Call → Type 0
 LongInputEnds c = (set : Set) → IsLine c.words (line.Check set) → OfText c (λ input. IsTooLongInput input → Ends (λ e. e ≡ TooLong) (SourceFailed c) ⊥ c.ending)
 
 -- An input whose sketch is not taken ends with the cause.
-abbrev pub RefusedInputEnds : Call → Type 0
-RefusedInputEnds c = (set : Set) → IsLine c.words (line.Check set) → OfText c (λ input. length input ≤ most_input → (told : CheckFault) → checking.IsCause set input told → Ends (IsOfRefusedInput told) (SourceFailed c) ⊥ c.ending)
+abbrev pub UntakenEnds : Call → Type 0
+UntakenEnds c = (set : Set) → IsLine c.words (line.Check set) → OfText c (λ input. length input ≤ most_input → (told : CheckFault) → checking.IsCause set input told → Ends (IsOfRefusedInput told) (SourceFailed c) ⊥ c.ending)
 
 -- The streams
 

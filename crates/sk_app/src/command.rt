@@ -21,7 +21,7 @@ ghost use Rattle.sk_app.specs.Effects.{is_of_synth, TellsSpan, Serves, Answers};
 ghost use Rattle.sk_app.specs.Call.{effect, call};
 ghost use Rattle.sk_app.specs.Headline.{Headline};
 ghost use Rattle.sk_app.specs.Listings.{Listings};
-ghost use Rattle.sk_app.specs.Clauses.{TellsNoLine, NoLineEnds, TellsHelp, HelpEnds, TellsVersion, VersionEnds, TellsCompletion, TellsNone, TellsRounds, TellsConflicts, BuiltEnds, SelfEnds, TellsNotText, PlacesNotText, FaultyEnds, TellsNotTyped, PlacesNotTyped, UntypedEnds, TellsTooLarge, LargeEnds, CopiesEnds, TellsTooLong, LongEnds, TellsDone, TellsFailed, TellsSkipped, RunEnds, TellsNotRun, TellsNotFilled, NotRunEnds, TellsLowered, KeepsTypes, LoweredEnds, TellsNotLowered, NotLoweredEnds, TellsNotTagged, NotTaggedEnds, RefusedEnds, TellsListed, ListedEnds, TellsExplained, ExplainedEnds, TellsMet, MetEnds, TellsAccepted, CheckedEnds, AcceptedEnds, TellsRejected, RejectedEnds, TellsNotCertificate, NotCertificateEnds, TellsLongInput, LongInputEnds, RefusedInputEnds, TellsReadFault, TellsWriteFault, CutsOutput, CutsHelp, CutsSummary, CutsVersion, KeepsSink, ReadsFew, LeavesSource};
+ghost use Rattle.sk_app.specs.Clauses.{TellsNoLine, NoLineEnds, TellsHelp, HelpEnds, TellsVersion, VersionEnds, TellsCompletion, TellsNone, TellsRounds, TellsConflicts, BuiltEnds, SelfEnds, TellsNotText, PlacesNotText, FaultyEnds, TellsNotTyped, PlacesNotTyped, UntypedEnds, TellsTooLarge, LargeEnds, CopiesEnds, TellsTooLong, LongEnds, TellsDone, TellsFailed, TellsSkipped, RunEnds, TellsNotRun, TellsNotFilled, NotRunEnds, TellsLowered, KeepsTypes, LoweredEnds, TellsNotLowered, NotLoweredEnds, TellsNotTagged, NotTaggedEnds, RefusedEnds, TellsListed, ListedEnds, TellsExplained, ExplainedEnds, TellsMet, MetEnds, TellsAccepted, CheckedEnds, AcceptedEnds, TellsRejected, RejectedEnds, TellsNoForm, NoFormEnds, TellsLongInput, LongInputEnds, UntakenEnds, TellsReadFault, TellsWriteFault, CutsOutput, CutsHelp, CutsSummary, CutsVersion, KeepsSink, ReadsFew, LeavesSource};
 
 use crate::check::check_source;
 use crate::direct::{Job, Way, run_source};
@@ -229,11 +229,11 @@ pub fn run<S: Source, K: Sink>(
     ensures ends_accepted { AcceptedEnds (call S.Source K.Sink words.now result source sink) }
     ensures rejected { TellsRejected (call S.Source K.Sink words.now result source sink) }
     ensures ends_rejected { RejectedEnds (call S.Source K.Sink words.now result source sink) }
-    ensures not_certificate { TellsNotCertificate (call S.Source K.Sink words.now result source sink) }
-    ensures ends_not_certificate { NotCertificateEnds (call S.Source K.Sink words.now result source sink) }
+    ensures not_certificate { TellsNoForm (call S.Source K.Sink words.now result source sink) }
+    ensures ends_not_certificate { NoFormEnds (call S.Source K.Sink words.now result source sink) }
     ensures long_input { TellsLongInput (call S.Source K.Sink words.now result source sink) }
     ensures ends_long_input { LongInputEnds (call S.Source K.Sink words.now result source sink) }
-    ensures ends_refused_input { RefusedInputEnds (call S.Source K.Sink words.now result source sink) }
+    ensures ends_refused_input { UntakenEnds (call S.Source K.Sink words.now result source sink) }
 
     // The streams.
     ensures read_fault { TellsReadFault (call S.Source K.Sink words.now result source sink) }

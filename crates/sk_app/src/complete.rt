@@ -77,7 +77,15 @@ fn certified_best(
     ensures possible { IfOk result (IsPossible budget.now) }
 {
     let most = budget.conflicts;
-    match best_certification(alloc, expanded, bounds, &choice, value, pairs.as_slice(), most)? {
+    match best_certification(
+        alloc,
+        expanded,
+        bounds,
+        &choice,
+        value,
+        pairs.as_slice(),
+        most,
+    )? {
         Certification::Text { out } => {
             let ending = Ending::Completed;
             Ok(Found::Ended { out, ending })

@@ -13,7 +13,9 @@ pub fn tell_rejected(told: &mut Told, reason: &Reason) -> Result<(), AllocError>
             told.note(&[b"it wants one value for each hole, each below the size of its hole"])
         }
         Reason::Inputs => {
-            told.title(&[b"rejected: an input that it lists is none of the sketch, or stands twice"])?;
+            told.title(&[
+                b"rejected: an input that it lists is none of the sketch, or stands twice",
+            ])?;
             told.note(&[b"a line //@ input has the number of an obligation and its arguments"])
         }
         Reason::Upper => {
@@ -45,12 +47,22 @@ pub fn tell_not_certificate(
     match fault {
         CertFault::NoForm { line } => {
             let number = spelt(alloc, line)?;
-            told.title(&[b"line ", number.as_slice(), b" departs from the form of a certificate"])?;
-            told.note(&[b"lines are counted behind the line //%%, where what synth --cert wrote stands"])
+            told.title(&[
+                b"line ",
+                number.as_slice(),
+                b" departs from the form of a certificate",
+            ])?;
+            told.note(&[
+                b"lines are counted behind the line //%%, where what synth --cert wrote stands",
+            ])
         }
         CertFault::Version { line } => {
             let number = spelt(alloc, line)?;
-            told.title(&[b"line ", number.as_slice(), b" is of a version that is not known"])?;
+            told.title(&[
+                b"line ",
+                number.as_slice(),
+                b" is of a version that is not known",
+            ])?;
             told.note(&[b"versions 1 and 2 are known"])
         }
         CertFault::Memory => Ok(()),

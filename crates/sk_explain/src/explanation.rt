@@ -145,7 +145,9 @@ fn tell_memory(told: &mut Told) -> Result<(), AllocError> {
 }
 
 fn tell_too_long(told: &mut Told) -> Result<(), AllocError> {
-    told.title(&[b"the sketch has more than 1048576 bytes, or the input of check more than 67108864"])
+    told.title(&[
+        b"the sketch has more than 1048576 bytes, or the input of check more than 67108864",
+    ])
 }
 
 // Tells of an ending that is no search.

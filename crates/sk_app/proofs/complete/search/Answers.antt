@@ -9,7 +9,7 @@ pub returns-in_ok-out-in-Best-clause-found : goal.returns-in_ok-out-in-Best-clau
 returns-in_ok-out-in-Best-clause-found c set text ready =
     let answer = subst (IsAnswer c.args.expanded.now c.args.bounds.now c.args.budget.now) c.in-Best.is c.in_ok-choice.ensures.answer in
     let out = c.in_ok-out-in-Best.out.items in
-    subst (λ cert. IsCompletion set cert text out) (sym c.if-cert-in-Best.false)
+    subst (λ cert. IsCompletion set cert text out) (sym c.if-cert.false)
     (best_found set text c.args.bounds.now c.args.expanded.now ready c.in-Best.choice c.in-Best.value out answer.1 c.in_ok-out-in-Best.ensures)
 
 pub returns-in_ok-out-in-Rounds-clause-found : goal.returns-in_ok-out-in-Rounds-clause-found
