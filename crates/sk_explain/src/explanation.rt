@@ -11,7 +11,7 @@ use sk_explain_causes::{
     tell_not_lowered, tell_not_run, tell_not_tagged, tell_size, tell_skipped, tell_spent,
     tell_text, tell_type,
 };
-use sk_explain_notes::{Note, Told, tell_words};
+use sk_explain_notes::{Command, Note, Told, tell_words};
 use sk_explain_places::{Spot, push_excerpt, push_place, spot_of};
 use sk_lexer::LexFault;
 use sk_parser::ParseFault;
@@ -201,6 +201,21 @@ fn is_search(ending: &Ending) -> bool {
     }
 }
 
+// Whether the words are a line `self`, which reads no text.
+fn reads_nothing(words: &[String]) -> bool {
+    match words.split_first() {
+        Some((first, _)) => is_self(first.as_bytes()),
+        None => false,
+    }
+}
+
+fn is_self(word: &[u8]) -> bool {
+    match Command::of(word) {
+        Some(Command::Itself) => true,
+        _ => false,
+    }
+}
+
 // What there is to tell, without its place.
 fn told_of(
     alloc: Global,
@@ -209,7 +224,7 @@ fn told_of(
     ending: &Ending,
 ) -> Result<Told, AllocError> {
     let mut told = Told::new(alloc);
-    if is_search(ending) {
+    if is_search(ending) && !reads_nothing(words) {
         tell_search(alloc, &mut told, text, ending)?;
     } else {
         tell_refusal(alloc, &mut told, words, text, ending)?;
