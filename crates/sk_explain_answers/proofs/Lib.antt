@@ -1,0 +1,5 @@
+pub mod PieceLemmas
+pub mod RowLemmas
+pub mod DifferenceLemmas
+pub mod Fillable
+pub mod Telling
