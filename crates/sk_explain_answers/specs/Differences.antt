@@ -51,14 +51,14 @@ told_values values = values_text (take most_told values) ++ rest_text (length va
 abbrev pub site_line : ℕ → List ℕ → List (List ℕ) → List ℕ
 site_line number part values = map plain (codes "number ") ++ decimal number ++ said (codes ", " ∷ part ∷ codes ": " ∷ []) ++ told_values values ++ 10 ∷ []
 
--- A site is told by its line.
-abbrev pub IsSiteTold : List (List (List ℕ)) → ℕ → List ℕ → List ℕ → Type 0
-IsSiteTold rows number old new = (part : List ℕ) × (new ≡ old ++ site_line number part (values_of (number - 1) rows))
+-- A site with these values is told by its line.
+abbrev pub IsSiteTold : ℕ → List (List ℕ) → List ℕ → List ℕ → Type 0
+IsSiteTold number values old new = (part : List ℕ) × (new ≡ old ++ site_line number part values)
 
--- each, one after another
+-- the sites with these numbers, one after another, with the values that rows have for them
 abbrev pub AreSitesTold : List (List (List ℕ)) → List ℕ → List ℕ → List ℕ → Type 0
 AreSitesTold rows [] old new = new ≡ old
-AreSitesTold rows (n ∷ ns) old new = (mid : List ℕ) × IsSiteTold rows n old mid × AreSitesTold rows ns mid new
+AreSitesTold rows (n ∷ ns) old new = (mid : List ℕ) × IsSiteTold n (values_of (n - 1) rows) old mid × AreSitesTold rows ns mid new
 
 -- Of so many sites those are told in which rows differ, the first 20 of them, and how many more there are.
 pub record TellsSites (sites : ℕ) (rows : List (List (List ℕ))) (old new : List ℕ) : Type 0 where
@@ -66,13 +66,17 @@ pub record TellsSites (sites : ℕ) (rows : List (List (List ℕ))) (old new : L
   pub told : AreSitesTold rows (take most_told (differing rows sites)) old mid
   pub more : new ≡ mid ++ more_text (length (differing rows sites))
 
--- The text has an expansion, in whose sites the completions of the answer differ.
-pub record TellsAnswer (text answer : List ℕ) (old new : Told) : Type 0 where
+-- The text has an expansion, in whose sites rows differ.
+pub record TellsAnswer (text : List ℕ) (rows : List (List (List ℕ))) (old new : Told) : Type 0 where
   pub x : Expansion
   pub known : IsKnown text x
   pub title : new.title.bytes.items ≡ old.title.bytes.items ++ one (codes "the listed completions differ in these numbers of //@ holes:")
-  pub sites : TellsSites (length x.expanded.sites) (rows_of (codes "holes") answer) old.notes.bytes.items new.notes.bytes.items
+  pub sites : TellsSites (length x.expanded.sites) rows old.notes.bytes.items new.notes.bytes.items
 
--- nothing is told of less than two completions, nor of a text without an expansion
+-- nothing is told of less than two rows, nor of a text without an expansion
+abbrev pub TellsList : List ℕ → List (List (List ℕ)) → Told → Told → Type 0
+TellsList text rows old new = (new ≡ old) ⊎ TellsAnswer text rows old new
+
+-- of those of an answer
 abbrev pub TellsDifferences : List ℕ → List ℕ → Told → Told → Type 0
-TellsDifferences text answer old new = (new ≡ old) ⊎ TellsAnswer text answer old new
+TellsDifferences text answer old new = TellsList text (rows_of (codes "holes") answer) old new

@@ -1,6 +1,7 @@
 -- What is told of inputs that explain why there is no completion.
 use Rattle.std.specs.Prelude.{ℕ, ◌≡◌, ◌⊎◌, List, [], ◌∷◌, ◌++◌, Option, Some, None, map, take, length, codes}
 use Rattle.sk_prog.specs.declared.prog.Prog.{Prog}
+use Rattle.sk_model.specs.declared.expanded.Obligation.{Obligation}
 use Rattle.sk_model.specs.declared.expanded.Site.{Site}
 use Rattle.sk_model.specs.Obligations.{obligations}
 use Rattle.sk_front.specs.declared.expansion.Expansion.{Expansion}
@@ -21,11 +22,11 @@ abbrev pub AreTold : List (Option (List ℕ)) → List ℕ → List ℕ → Type
 AreTold [] old new = new ≡ old
 AreTold (c ∷ cs) old new = (mid : List ℕ) × IsTold c old mid × AreTold cs mid new
 
--- The inputs of an answer for a program are told, the first 20 of them, and how many more there are.
-pub record TellsRows (prog : Prog) (answer old new : List ℕ) : Type 0 where
+-- The inputs that lines tell are told for a program with these obligations, the first 20 of them, and how many more there are.
+pub record TellsRows (prog : Prog) (os : List Obligation) (rows : List (List (List ℕ))) (old new : List ℕ) : Type 0 where
   pub mid : List ℕ
-  pub told : AreTold (map (call_of prog (obligations prog)) (take most_told (rows_of (codes "input") answer))) old mid
-  pub more : new ≡ mid ++ more_text (length (rows_of (codes "input") answer))
+  pub told : AreTold (map (call_of prog os) (take most_told rows)) old mid
+  pub more : new ≡ mid ++ more_text (length rows)
 
 -- the title, by the open parts of the program
 abbrev pub inputs_title : List Site → List ℕ
@@ -37,7 +38,7 @@ pub record TellsAnswer (text answer : List ℕ) (old new : Told) : Type 0 where
   pub x : Expansion
   pub known : IsKnown text x
   pub title : new.title.bytes.items ≡ old.title.bytes.items ++ one (inputs_title x.expanded.sites)
-  pub rows : TellsRows x.expanded.prog answer old.notes.bytes.items new.notes.bytes.items
+  pub rows : TellsRows x.expanded.prog (obligations x.expanded.prog) (rows_of (codes "input") answer) old.notes.bytes.items new.notes.bytes.items
 
 -- nothing is told of a text without an expansion
 abbrev pub TellsInputs : List ℕ → List ℕ → Told → Told → Type 0

@@ -1,5 +1,5 @@
 //! Inputs as calls: the function of an obligation, with the values of its parameters.
-ghost use Rattle.std.specs.Prelude.{◌≡◌, ◌++◌, decimal, option_map, OnOk};
+ghost use Rattle.std.specs.Prelude.{◌≡◌, ◌++◌, [], decimal, option_map, OnOk};
 ghost use Rattle.std.specs.Str.{bytes_eq};
 ghost use Rattle.sk_model.specs.Inputs.{fun_of};
 ghost use Rattle.sk_explain_answers.specs.Calls.{call_text, obligation_from, params_text, taker};

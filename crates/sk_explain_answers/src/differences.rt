@@ -1,8 +1,9 @@
 //! In which numbers listed completions differ.
-ghost use Rattle.std.specs.Prelude.{◌≡◌, ◌++◌, length, map, slice_get, Some, IfOk, OnOk};
+ghost use Rattle.std.specs.Prelude.{◌≡◌, ◌++◌, ◌-◌, length, map, slice_get, Some, IfOk, OnOk};
 ghost use Rattle.std.specs.List.{flat_map};
+ghost use Rattle.sk_explain_answers.specs.Fillings.{IsKnown};
 ghost use Rattle.sk_explain_answers.specs.Rows.{words_of};
-ghost use Rattle.sk_explain_answers.specs.Differences.{AreSitesTold, IsSiteTold, TellsDifferences, TellsSites, behind_comma, differing, has, number_if, site_line, told_values, values_of, values_text, with_value};
+ghost use Rattle.sk_explain_answers.specs.Differences.{AreSitesTold, IsSiteTold, TellsDifferences, TellsList, TellsSites, behind_comma, differing, has, number_if, site_line, told_values, values_of, values_text, with_value};
 
 use crate::fillings::expansion;
 use crate::more::{first_told, push_more, push_rest};
@@ -10,6 +11,7 @@ use crate::places::part_text;
 use crate::rows::{Row, rows_of};
 use sk_base::{List, Name};
 use sk_explain_notes::{Note, Told};
+use sk_front::Expansion;
 use sk_model::Site;
 use std::alloc::{AllocError, Global};
 
@@ -141,8 +143,24 @@ fn push_site(note: &mut Note, number: usize, part: &Name, values: &[Name]) -> Re
     Ok(())
 }
 
-// Tells of the site with a number which values rows have for it, and where it stands in a text.
+// Tells of the site with a number that it has these values, and where it stands in a text.
 #[tactic(auto, using(crate::proofs::Telling::site_told))]
+fn tell_values(
+    alloc: Global,
+    note: &mut Note,
+    text: &[u8],
+    site: Option<&Site>,
+    number: usize,
+    values: &[Name],
+) -> Result<(), AllocError>
+    ensures { OnOk result (IsSiteTold number values.now note.old.bytes.items note.new.bytes.items) }
+{
+    let part = part_text(alloc, text, site)?;
+    push_site(note, number, &part, values)?;
+    Ok(())
+}
+
+// Tells of the site with a number which values rows have for it.
 fn tell_site(
     alloc: Global,
     note: &mut Note,
@@ -151,13 +169,18 @@ fn tell_site(
     rows: &[Row],
     number: usize,
 ) -> Result<(), AllocError>
-    ensures { OnOk result (IsSiteTold (map words_of rows.now) number note.old.bytes.items note.new.bytes.items) }
+    ensures { OnOk result (IsSiteTold number (values_of (number - 1) (map words_of rows.now)) note.old.bytes.items note.new.bytes.items) }
 {
     let site = number.saturating_sub(1);
     let values = values_of(alloc, rows, site)?;
-    let part = part_text(alloc, text, sites.get(site))?;
-    push_site(note, number, &part, values.as_slice())?;
-    Ok(())
+    tell_values(
+        alloc,
+        note,
+        text,
+        sites.get(site),
+        number,
+        values.as_slice(),
+    )
 }
 
 // The same of sites, one after another.
@@ -198,9 +221,46 @@ fn tell_rows(
     Ok(())
 }
 
+// The same for an expansion, with a title.
+#[tactic(auto, using(crate::proofs::Telling::list_told))]
+fn tell_known(
+    alloc: Global,
+    told: &mut Told,
+    expansion: &Expansion,
+    text: &[u8],
+    rows: &[Row],
+) -> Result<(), AllocError>
+    requires { IsKnown text.now expansion.now }
+    ensures { OnOk result (TellsList text.now (map words_of rows.now) told.old told.new) }
+{
+    told.title(&[b"the listed completions differ in these numbers of //@ holes:"])?;
+    let sites = expansion.expanded.sites.as_slice();
+    tell_rows(alloc, &mut told.notes, text, sites, rows)?;
+    Ok(())
+}
+
+// Tells in which sites rows differ, where there are two or more.
+#[tactic(auto, using(crate::proofs::Telling::no_list_told))]
+fn tell_list(
+    alloc: Global,
+    told: &mut Told,
+    words: &[String],
+    text: &[u8],
+    rows: &[Row],
+) -> Result<(), AllocError>
+    ensures { OnOk result (TellsList text.now (map words_of rows.now) told.old told.new) }
+{
+    if rows.len() < 2 {
+        return Ok(());
+    }
+    match expansion(alloc, words, text)? {
+        Some(it) => tell_known(alloc, told, &it, text, rows),
+        None => Ok(()),
+    }
+}
+
 /// Tells of the answer of a line `all`, where it lists two completions or more: in which numbers these differ, where their open parts
 /// stand in the text, and which values they have. At most 20 numbers are told, and how many more there are, and so of the values.
-#[tactic(auto, using(crate::proofs::Telling::list_told))]
 pub fn tell_differences(
     alloc: Global,
     told: &mut Told,
@@ -211,16 +271,5 @@ pub fn tell_differences(
     ensures { OnOk result (TellsDifferences text.now answer.now told.old told.new) }
 {
     let rows = rows_of(alloc, b"holes", answer)?;
-    if rows.len() < 2 {
-        return Ok(());
-    }
-    match expansion(alloc, words, text)? {
-        Some(it) => {
-            told.title(&[b"the listed completions differ in these numbers of //@ holes:"])?;
-            let sites = it.expanded.sites.as_slice();
-            tell_rows(alloc, &mut told.notes, text, sites, rows.as_slice())?;
-            Ok(())
-        }
-        None => Ok(()),
-    }
+    tell_list(alloc, told, words, text, rows.as_slice())
 }

@@ -1,11 +1,12 @@
 //! Inputs that explain why there is no completion, and what a filling does on them.
-ghost use Rattle.std.specs.Prelude.{◌≡◌, ◌++◌, ◌∷◌, [], map, option_map, OnOk};
+ghost use Rattle.std.specs.Prelude.{◌≡◌, ◌++◌, ◌∷◌, [], codes, map, option_map, OnOk};
+ghost use Rattle.sk_model.specs.Obligations.{obligations};
 ghost use Rattle.sk_opts.specs.Ranges.{AreInRanges};
 ghost use Rattle.sk_explain_notes.specs.Notes.{plain};
 ghost use Rattle.sk_explain_answers.specs.Calls.{call_of, call_text, taker};
-ghost use Rattle.sk_explain_answers.specs.Fillings.{IsFillable};
+ghost use Rattle.sk_explain_answers.specs.Fillings.{IsFillable, IsKnown};
 ghost use Rattle.sk_explain_answers.specs.Inputs.{AreTold, IsTold, TellsInputs, TellsRows, inputs_title};
-ghost use Rattle.sk_explain_answers.specs.Rows.{words_of};
+ghost use Rattle.sk_explain_answers.specs.Rows.{rows_of, words_of};
 
 use crate::calls::{obligation_of, push_call, taker};
 use crate::fates::fate_of;
@@ -19,35 +20,43 @@ use sk_explain_notes::{Note, Told};
 use sk_front::Expansion;
 use sk_model::{Obligation, Site};
 use sk_oblig_queries::obligations;
-use sk_prog::{Fun, Prog};
+use sk_prog::{Fun, Prog, Value};
 use std::alloc::{AllocError, Global};
 
-// A text, and its filling with zeros, where there was memory for that.
-#[derive(Clone, Copy)]
-struct Filled<'a> {
-    text: &'a [u8],
-    prog: Option<&'a Prog>,
+// What a filling does on arguments; nothing where there is no memory for its run.
+fn done_with(
+    alloc: Global,
+    bounds: &Bounds,
+    text: &[u8],
+    filled: &Prog,
+    obligation: Obligation,
+    args: &[Value],
+) -> Result<Name, AllocError>
+    requires { AreInRanges bounds.now }
+{
+    match fate_of(alloc, filled, bounds, obligation, args) {
+        Ok(fate) => fate_text(alloc, text, filled, obligation, &fate),
+        Err(_) => Name::from_slice(alloc, b""),
+    }
 }
 
-// What the filling does on the values of an input; nothing where there is no filling, or no memory for its run.
+// What a filling does on the values of an input; nothing where there is no filling.
 fn done_on(
     alloc: Global,
     bounds: &Bounds,
-    filled: Filled<'_>,
+    text: &[u8],
+    filled: Option<&Prog>,
     fun: &Fun,
     obligation: Obligation,
     values: &[Name],
 ) -> Result<Name, AllocError>
     requires { AreInRanges bounds.now }
 {
-    let Some(prog) = filled.prog else {
+    let Some(filled) = filled else {
         return Name::from_slice(alloc, b"");
     };
-    let Ok(args) = read_arguments(alloc, bounds, fun, values) else {
-        return Name::from_slice(alloc, b"");
-    };
-    match fate_of(alloc, prog, bounds, obligation, args.as_slice()) {
-        Ok(fate) => fate_text(alloc, filled.text, prog, obligation, &fate),
+    match read_arguments(alloc, bounds, fun, values) {
+        Ok(args) => done_with(alloc, bounds, text, filled, obligation, args.as_slice()),
         Err(_) => Name::from_slice(alloc, b""),
     }
 }
@@ -68,7 +77,8 @@ fn tell_obligation(
     alloc: Global,
     note: &mut Note,
     bounds: &Bounds,
-    filled: Filled<'_>,
+    text: &[u8],
+    filled: Option<&Prog>,
     prog: &Prog,
     obligation: Obligation,
     values: &[Name],
@@ -78,7 +88,7 @@ fn tell_obligation(
 {
     match taker(prog, obligation) {
         Some(fun) => {
-            let done = done_on(alloc, bounds, filled, fun, obligation, values)?;
+            let done = done_on(alloc, bounds, text, filled, fun, obligation, values)?;
             push_input(note, fun, values, &done)?;
             Ok(())
         }
@@ -91,7 +101,8 @@ fn tell_row(
     alloc: Global,
     note: &mut Note,
     bounds: &Bounds,
-    filled: Filled<'_>,
+    text: &[u8],
+    filled: Option<&Prog>,
     prog: &Prog,
     obligations: &[Obligation],
     words: &[Name],
@@ -104,7 +115,7 @@ fn tell_row(
     };
     match obligation_of(obligations, word) {
         Some(obligation) => {
-            tell_obligation(alloc, note, bounds, filled, prog, obligation, values)?;
+            tell_obligation(alloc, note, bounds, text, filled, prog, obligation, values)?;
             Ok(())
         }
         None => Ok(()),
@@ -117,7 +128,8 @@ fn tell_rows(
     alloc: Global,
     note: &mut Note,
     bounds: &Bounds,
-    filled: Filled<'_>,
+    text: &[u8],
+    filled: Option<&Prog>,
     prog: &Prog,
     obligations: &[Obligation],
     rows: &[Row],
@@ -128,38 +140,76 @@ fn tell_rows(
     let [row, others @ ..] = rows else {
         return Ok(());
     };
-    tell_row(alloc, note, bounds, filled, prog, obligations, row.words())?;
-    tell_rows(alloc, note, bounds, filled, prog, obligations, others)?;
+    tell_row(
+        alloc,
+        note,
+        bounds,
+        text,
+        filled,
+        prog,
+        obligations,
+        row.words(),
+    )?;
+    tell_rows(alloc, note, bounds, text, filled, prog, obligations, others)?;
     Ok(())
 }
 
-// Tells the inputs of an answer for a program, and how many more there are.
+// Tells the inputs of the first 20 lines, and how many more there are.
 #[tactic(auto, using(crate::proofs::Telling::rows_told))]
+fn tell_first(
+    alloc: Global,
+    note: &mut Note,
+    bounds: &Bounds,
+    text: &[u8],
+    filled: Option<&Prog>,
+    prog: &Prog,
+    obligations: &[Obligation],
+    rows: &[Row],
+) -> Result<(), AllocError>
+    requires { AreInRanges bounds.now }
+    ensures { OnOk result (TellsRows prog.now obligations.now (map words_of rows.now) note.old.bytes.items note.new.bytes.items) }
+{
+    let first = first_told(rows);
+    tell_rows(alloc, note, bounds, text, filled, prog, obligations, first)?;
+    push_more(note, rows.len())?;
+    Ok(())
+}
+
+// Tells the inputs of an answer, and how many more there are.
+fn tell_answer(
+    alloc: Global,
+    note: &mut Note,
+    bounds: &Bounds,
+    text: &[u8],
+    filled: Option<&Prog>,
+    prog: &Prog,
+    obligations: &[Obligation],
+    answer: &[u8],
+) -> Result<(), AllocError>
+    requires { AreInRanges bounds.now }
+    ensures { OnOk result (TellsRows prog.now obligations.now (rows_of (codes "input") answer.now) note.old.bytes.items note.new.bytes.items) }
+{
+    let rows = rows_of(alloc, b"input", answer)?;
+    let listed = rows.as_slice();
+    tell_first(alloc, note, bounds, text, filled, prog, obligations, listed)
+}
+
+// Tells the inputs of an answer for a program.
 fn tell_prog(
     alloc: Global,
     note: &mut Note,
     bounds: &Bounds,
-    filled: Filled<'_>,
+    text: &[u8],
+    filled: Option<&Prog>,
     prog: &Prog,
     answer: &[u8],
 ) -> Result<(), AllocError>
     requires { AreInRanges bounds.now }
-    ensures { OnOk result (TellsRows prog.now answer.now note.old.bytes.items note.new.bytes.items) }
+    ensures { OnOk result (TellsRows prog.now (obligations prog.now) (rows_of (codes "input") answer.now) note.old.bytes.items note.new.bytes.items) }
 {
     let obligations = obligations(alloc, prog)?;
-    let rows = rows_of(alloc, b"input", answer)?;
-    let told = first_told(rows.as_slice());
-    tell_rows(
-        alloc,
-        note,
-        bounds,
-        filled,
-        prog,
-        obligations.as_slice(),
-        told,
-    )?;
-    push_more(note, rows.len())?;
-    Ok(())
+    let listed = obligations.as_slice();
+    tell_answer(alloc, note, bounds, text, filled, prog, listed, answer)
 }
 
 // The title, by the open parts of the program.
@@ -182,29 +232,37 @@ fn tell_expansion(
 ) -> Result<(), AllocError>
     requires ranges { AreInRanges expansion.now.bounds }
     requires fillable { IsFillable expansion.now.expanded }
-    ensures { OnOk result (TellsRows expansion.now.expanded.prog answer.now note.old.bytes.items note.new.bytes.items) }
+    ensures { OnOk result (TellsRows expansion.now.expanded.prog (obligations expansion.now.expanded.prog) (rows_of (codes "input") answer.now) note.old.bytes.items note.new.bytes.items) }
 {
+    let bounds = &expansion.bounds;
     let prog = &expansion.expanded.prog;
     match filling(alloc, &expansion.expanded) {
-        Some(zeros) => {
-            let filled = Filled {
-                text,
-                prog: Some(&zeros),
-            };
-            tell_prog(alloc, note, &expansion.bounds, filled, prog, answer)?;
-            Ok(())
-        }
-        None => {
-            let filled = Filled { text, prog: None };
-            tell_prog(alloc, note, &expansion.bounds, filled, prog, answer)?;
-            Ok(())
-        }
+        Some(filled) => tell_prog(alloc, note, bounds, text, Some(&filled), prog, answer),
+        None => tell_prog(alloc, note, bounds, text, None, prog, answer),
     }
+}
+
+// The same, with a title.
+#[tactic(auto, using(crate::proofs::Fillable::known_fillable, crate::proofs::Fillable::known_ranges, crate::proofs::Telling::answer_told))]
+fn tell_known(
+    alloc: Global,
+    told: &mut Told,
+    expansion: &Expansion,
+    text: &[u8],
+    answer: &[u8],
+) -> Result<(), AllocError>
+    requires { IsKnown text.now expansion.now }
+    ensures { OnOk result (TellsInputs text.now answer.now told.old told.new) }
+{
+    let title = inputs_title(expansion.expanded.sites.as_slice());
+    told.title(&[title])?;
+    tell_expansion(alloc, &mut told.notes, expansion, text, answer)?;
+    Ok(())
 }
 
 /// Tells of the answer of a line `why` that has inputs: each of them with the names of its parameters, and what the filling with
 /// zeros does on it. At most 20 are told, and how many more there are.
-#[tactic(auto, using(crate::proofs::Fillable::known_fillable, crate::proofs::Fillable::known_ranges, crate::proofs::Telling::answer_told))]
+#[tactic(auto, using(crate::proofs::Telling::nothing_told))]
 pub fn tell_inputs(
     alloc: Global,
     told: &mut Told,
@@ -215,11 +273,7 @@ pub fn tell_inputs(
     ensures { OnOk result (TellsInputs text.now answer.now told.old told.new) }
 {
     match expansion(alloc, words, text)? {
-        Some(it) => {
-            told.title(&[inputs_title(it.expanded.sites.as_slice())])?;
-            tell_expansion(alloc, &mut told.notes, &it, text, answer)?;
-            Ok(())
-        }
+        Some(it) => tell_known(alloc, told, &it, text, answer),
         None => Ok(()),
     }
 }
