@@ -1,5 +1,6 @@
-pub mod PieceLemmas
-pub mod RowLemmas
+pub mod CallLemmas
 pub mod DifferenceLemmas
 pub mod Fillable
+pub mod PieceLemmas
+pub mod RowLemmas
 pub mod Telling

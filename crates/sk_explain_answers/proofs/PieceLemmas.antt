@@ -1,5 +1,5 @@
 -- What stands between signs.
-use Rattle.std.proofs.Common.{◌≡◌, suc, ◌≤◌, ◌==◌, ℕ, Bool, true, false, List, [], ◌∷◌, length, take, drop, Option, Some, None, refl, ap, arith}
+use Rattle.std.proofs.Common.{◌≡◌, suc, ◌≤◌, ◌==◌, ℕ, Bool, true, false, List, [], ◌∷◌, ◌++◌, length, take, drop, Option, Some, None, refl, sym, ap, ◌∙◌, append_assoc, arith}
 use Rattle.sk_explain_answers.specs.Pieces.{longer_first, front_of, back_of, pieces}
 
 -- what stands behind the first byte, where there is one
@@ -51,3 +51,13 @@ first_piece sign (b ∷ bs) = split (first_piece sign bs) (b == sign) refl
         → pieces sign (b ∷ bs) ≡ front_of sign (b ∷ bs) ∷ pieces_behind sign (back_of sign (b ∷ bs))
     split rest true e = rw e refl
     split rest false e = rw e (ap (longer_first b) rest)
+
+-- the first piece of what is left stands behind the others
+pub piece_pushed : (sign : ℕ) (list longer all : List (List ℕ)) (rest piece : List ℕ) (behind : Option (List ℕ)) → piece ≡ front_of sign rest → behind ≡ back_of sign rest → longer ≡ list ++ piece ∷ [] → list ++ pieces sign rest ≡ all → longer ++ pieces_behind sign behind ≡ all
+piece_pushed sign list longer all rest piece behind front back long so =
+    ap (λ (xs : List (List ℕ)). xs ++ pieces_behind sign behind) long
+    ∙ append_assoc list (piece ∷ []) (pieces_behind sign behind)
+    ∙ ap (λ (p : List ℕ). list ++ (p ∷ pieces_behind sign behind)) front
+    ∙ ap (λ (b : Option (List ℕ)). list ++ (front_of sign rest ∷ pieces_behind sign b)) back
+    ∙ ap (λ (ps : List (List ℕ)). list ++ ps) (sym (first_piece sign rest))
+    ∙ so

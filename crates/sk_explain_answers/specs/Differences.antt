@@ -1,5 +1,5 @@
 -- In which numbers listed completions differ.
-use Rattle.std.specs.Prelude.{ℕ, zero, suc, ◌≡◌, ◌⊎◌, ◌-◌, ◌<◌, nat_lt, Bool, List, [], ◌∷◌, ◌++◌, Option, Some, None, map, take, length, slice_get, decimal, codes, if◌then◌else◌}
+use Rattle.std.specs.Prelude.{ℕ, zero, suc, ◌≡◌, ◌⊎◌, ◌-◌, nat_lt, Bool, List, [], ◌∷◌, ◌++◌, Option, Some, None, map, take, length, slice_get, decimal, codes, if◌then◌else◌}
 use Rattle.std.specs.List.{flat_map, list_any}
 use Rattle.std.specs.Str.{bytes_eq}
 use Rattle.sk_front.specs.declared.expansion.Expansion.{Expansion}

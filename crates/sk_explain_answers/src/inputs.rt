@@ -243,7 +243,7 @@ fn tell_expansion(
 }
 
 // The same, with a title.
-#[tactic(auto, using(crate::proofs::Fillable::known_fillable, crate::proofs::Fillable::known_ranges, crate::proofs::Telling::answer_told))]
+#[tactic(auto, using(crate::proofs::Fillable::known_ranges, crate::proofs::Telling::answer_told))]
 fn tell_known(
     alloc: Global,
     told: &mut Told,

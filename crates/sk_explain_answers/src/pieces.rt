@@ -45,7 +45,6 @@ fn push_piece(alloc: Global, list: &mut List<Name>, piece: &[u8]) -> Result<(), 
 }
 
 /// What stands between signs.
-#[tactic(auto, using(crate::proofs::PieceLemmas::first_piece))]
 pub fn pieces(alloc: Global, sign: u8, bytes: &[u8]) -> Result<List<Name>, AllocError>
     ensures { IfOk result (λ list. list ≡ pieces sign bytes.now) }
 {
