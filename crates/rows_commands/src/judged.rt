@@ -58,7 +58,7 @@ fn status_of(message: &[u8]) -> u8 {
         (b"too long", 16),
         (b"no memory", 17),
         (b"exec ", 18),
-        (b"not built", 20),
+        (b"certificate ", 19),
         (b"adt ", 21),
         (b"fill ", 22),
         (b"tag", 23),

@@ -1,7 +1,9 @@
 -- What was found of a text, put together.
-use Rattle.std.proofs.Common.{◌≡◌, ℕ, ◌<◌, ◌≤◌, ◌^◌, List, ◌++◌, Option, Some, None, refl, sym, subst, arith}
+use Rattle.std.proofs.Common.{◌≡◌, ℕ, ◌<◌, ◌≤◌, ◌^◌, Bool, true, false, List, [], ◌∷◌, ◌++◌, map, codes, Option, Some, None, refl, sym, ap, subst, ◌∙◌, arith}
 use Rattle.std.specs.Prelude.{IsTrue, IfSome}
-use Rattle.std.proofs.lemmas.List.{append_assoc}
+use Rattle.std.specs.Fmt.{decimal}
+use Rattle.std.specs.List.{flat_map}
+use Rattle.std.proofs.lemmas.List.{append_assoc, append-nil}
 use Rattle.sk_base.specs.declared.bounds.Bounds.{Bounds}
 use Rattle.sk_base.specs.declared.bounds.Budget.{Budget}
 use Rattle.sk_prog.specs.Fits.{prog_fits}
@@ -28,14 +30,21 @@ use Rattle.sk_loop_laws.specs.Shown.{AreSpent, Learnt, IsOfSearch}
 use Rattle.sk_min_laws.specs.Best.{IsBest, Meeting}
 use Rattle.sk_min.specs.Least.{IsKnown, IsKnownOf, IsFreeSpent}
 use Rattle.sk_min.specs.Least as least
+use Rattle.sk_cert.specs.declared.certificate.Certificate.{Certificate}
+use Rattle.sk_cert.specs.Certificates.{result_lines, certificate_lines, IsCertificate}
+use Rattle.sk_check_laws.specs.Parts.{HasLayout, is_layout}
+use Rattle.sk_check_laws.specs.Right.{is_right}
+use Rattle.sk_min_certificate.specs.Certifications.{FillingsFit, IsCertified}
 use Rattle.sk_opts.specs.declared.line.Set.{Set}
 use Rattle.sk_front_laws.proofs.Whole.{texts_keep, texts_fit}
 use Rattle.sk_built_laws.specs.Built.{IsReady}
 use Rattle.sk_app.specs.declared.completion.Completion.{Completion}
+use Rattle.sk_app_texts.specs.SelfTexts.{self_text}
 use Rattle.sk_app.specs.Completing.{IsLeast}
-use Rattle.sk_app.specs.ResultText.{completed_text, none_text, IsCompletion, IsNone}
+use Rattle.sk_app.specs.Summary.{IsSummaryOf}
+use Rattle.sk_app.specs.ResultText.{spaced, completion_lines, completed_text, none_text, IsWithCertificate, IsCompletion, IsNone}
 use Rattle.sk_app.specs.SpentText.{spent_result, OfRounds, OfConflicts}
-use Rattle.sk_app.specs.Spent.{IsMeeting, IsSpentRounds, IsSpentConflicts}
+use Rattle.sk_app.specs.Spent.{IsMeeting, IsSpentRounds, IsSpentBy, IsSpentConflicts}
 
 -- Completions
 
@@ -50,6 +59,35 @@ least_of bounds e c is best = record {
   };
   least = λ b range meets v costs. best.least b (record { range = range; meets = meets }) v costs;
 }
+
+-- Texts of certificates
+
+number_words : (ns : List ℕ) → flat_map (λ w. codes " " ++ w) (map decimal ns) ≡ spaced ns
+number_words [] = refl
+number_words (n ∷ ns) = ap (λ r. 32 ∷ (decimal n ++ r)) (number_words ns)
+
+lines_same : (k c n v b d h s : List ℕ) → ((k ++ c ++ n) ++ (k ++ v ++ (b ++ d) ++ n)) ++ (k ++ h ++ s ++ n) ≡ (k ++ c ++ n ++ k ++ v ++ b) ++ d ++ (n ++ k ++ h) ++ s ++ n
+lines_same k c n v b d h s = simp append_assoc refl
+
+-- the lines of a completion are the same in a certificate
+same_lines : (a : Choice) (value : ℕ) → result_lines (Some a) value ≡ completion_lines a value
+same_lines a value =
+    let b : (codes " " ++ decimal value) ++ [] ≡ codes " " ++ decimal value = append-nil (codes " " ++ decimal value) in
+    let w = number_words a.values in
+    let first : result_lines (Some a) value ≡ ((codes "//@ " ++ codes "completion" ++ codes "\n") ++ (codes "//@ " ++ codes "value" ++ (codes " " ++ decimal value) ++ codes "\n")) ++ (codes "//@ " ++ codes "holes" ++ spaced a.values ++ codes "\n") = λ i. ((codes "//@ " ++ codes "completion" ++ codes "\n") ++ (codes "//@ " ++ codes "value" ++ b i ++ codes "\n")) ++ (codes "//@ " ++ codes "holes" ++ w i ++ codes "\n") in
+    first ∙ lines_same (codes "//@ ") (codes "completion") (codes "\n") (codes "value") (codes " ") (decimal value) (codes "holes") (spaced a.values)
+
+begins_so : (e : Expanded) (bounds : Bounds) (choice : Choice) (value : ℕ) (c : Certificate) → c.choice ≡ Some choice → c.value ≡ value → HasLayout e bounds c → (c.text ++ result_lines c.choice c.value) ≡ completed_text (record { choice = choice; filled = fill e choice; value = value })
+begins_so e bounds choice value c is same text =
+    let t : c.text ≡ layout (fill e choice) = subst (λ x. is_layout e bounds c x c.text) is text in
+    let l : result_lines c.choice c.value ≡ result_lines (Some choice) value = λ i. result_lines (is i) (same i) in
+    let lines : result_lines c.choice c.value ≡ completion_lines choice value = l ∙ same_lines choice value in
+    λ i. t i ++ lines i
+
+begins_none : (e : Expanded) (bounds : Bounds) (c : Certificate) → c.choice ≡ None → c.value ≡ 0 → HasLayout e bounds c → (c.text ++ result_lines c.choice c.value) ≡ none_text
+begins_none e bounds c is same text =
+    let t : c.text ≡ [] = subst (λ x. is_layout e bounds c x c.text) is text in
+    λ i. t i ++ result_lines (is i) (same i)
 
 -- Expansions that are ready to be searched
 
@@ -81,11 +119,14 @@ module _ (set : Set) where
         (fillings_keep bounds b.prog a wide keeps program_fits few_nodes)
         range
 
+    pub fillings_fit : FillingsFit e
+    fillings_fit a range = (filled a range).1
+
     shown : (a : Choice) → InRange e a → Shows (layout (fill e a)) bounds (fill e a)
     shown a range = let f = filled a range in programs_shown bounds (fill e a) bits_high f.0 f.1
 
-    completion_of : (c : Completion) (out : List ℕ) → IsLeast bounds e c → out ≡ completed_text c → IsCompletion set text out
-    completion_of c out least is = record {
+    completion_of : (cert : Bool) (c : Completion) (out : List ℕ) → IsLeast bounds e c → IsWithCertificate cert e bounds (Some c.choice) c.value (completed_text c) out → IsCompletion set cert text out
+    completion_of cert c out least is = record {
       bounds = bounds;
       e = e;
       c = c;
@@ -97,13 +138,33 @@ module _ (set : Set) where
 
     -- What is found of it
 
-    pub best_found : (choice : Choice) (value : ℕ) (out : List ℕ) → IsBest e bounds choice value → out ≡ completed_text (record { choice = choice; filled = fill e choice; value = value }) → IsCompletion set text out
+    pub best_found : (choice : Choice) (value : ℕ) (out : List ℕ) → IsBest e bounds choice value → out ≡ completed_text (record { choice = choice; filled = fill e choice; value = value }) → IsCompletion set false text out
     best_found choice value out best is =
         let c : Completion = record { choice = choice; filled = fill e choice; value = value } in
-        completion_of c out (least_of bounds e c refl best) is
+        completion_of false c out (least_of bounds e c refl best) is
 
-    pub none_found : (inputs : List Input) (out : List ℕ) → least.IsNone e bounds inputs → out ≡ none_text → IsNone set text out
+    pub none_found : (inputs : List Input) (out : List ℕ) → least.IsNone e bounds inputs → out ≡ none_text → IsNone set false text out
     none_found inputs out none is = record { bounds = bounds; e = e; only = ready.only; none = λ b range meets. none.meets b (record { range = range; meets = meets }); is = is }
+
+    -- With certificates
+
+    -- the text begins with what is written without one
+    behind : (choice : Option Choice) (value : ℕ) (front out : List ℕ) → (c : Certificate) → IsCertificate out c → (c.text ++ result_lines c.choice c.value) ≡ front → out ≡ front ++ certificate_lines c
+    behind choice value front out c is same = is.is ∙ ap (λ t. t ++ certificate_lines c) same
+
+    pub certified_found : (choice : Choice) (value : ℕ) (out : List ℕ) → IsBest e bounds choice value → IsCertified e bounds (Some choice) value out → IsCompletion set true text out
+    certified_found choice value out best shows =
+        let c : Completion = record { choice = choice; filled = fill e choice; value = value } in
+        completion_of true c out (least_of bounds e c refl best) (record { shows = shows; is = behind (Some choice) value (completed_text c) out shows.certificate shows.is (begins_so e bounds choice value shows.certificate shows.its_choice shows.its_value shows.certifies.layout) })
+
+    pub none_certified : (out : List ℕ) → IsCertified e bounds None 0 out → IsNone set true text out
+    none_certified out shows = record {
+      bounds = bounds;
+      e = e;
+      only = ready.only;
+      none = λ b range meets. subst (λ x. is_right e bounds x shows.certificate.value) shows.its_choice shows.right b (record { range = range; meets = meets });
+      is = record { shows = shows; is = behind None 0 none_text out shows.certificate shows.is (begins_none e bounds shows.certificate shows.its_choice shows.its_value shows.certifies.layout) };
+    }
 
     meeting : (a : Choice) → Meeting e bounds a → IsMeeting bounds e a
     meeting a m = record { in_range = m.range; meets = m.meets; shows = shown a m.range }
@@ -128,15 +189,19 @@ module _ (set : Set) where
       is = is;
     }
 
-    pub conflicts_found : (budget : Budget) (pairs : List Pair) (q : Query) (f : Encoded) (log : List (List Lit)) (best : Option Choice) (out : List ℕ) → Learnt e bounds budget.conflicts pairs q f log → IsKnownOf e bounds pairs q best → IsFreeSpent e best → IsOfSearch q → out ≡ spent_result e best (OfConflicts budget.conflicts) → IsSpentConflicts set budget text pairs q f log best out
-    conflicts_found budget pairs q f log best out learnt known free of_search is = record {
+    -- what a search says of a budget that it spent is more than what is said where a proof may have spent it
+    pub by_search : (cert : Bool) (q : Query) (best : Option Choice) → IsFreeSpent e best → IsOfSearch q → IsSpentBy cert e q best
+    by_search false q best free search = (free, search)
+    by_search true q best free search = tt
+
+    pub conflicts_found : (cert : Bool) (budget : Budget) (pairs : List Pair) (q : Query) (f : Encoded) (log : List (List Lit)) (best : Option Choice) (out : List ℕ) → Learnt e bounds budget.conflicts pairs q f log → IsKnownOf e bounds pairs q best → IsSpentBy cert e q best → out ≡ spent_result e best (OfConflicts budget.conflicts) → IsSpentConflicts set budget cert text pairs q f log best out
+    conflicts_found cert budget pairs q f log best out learnt known by is = record {
       bounds = bounds;
       e = e;
       only = ready.only;
       learnt = learnt;
       known = known;
-      free = free;
-      of_search = of_search;
+      by = by;
       meets = known_of_meets pairs q best known;
       is = is;
     }
@@ -144,3 +209,9 @@ module _ (set : Set) where
 -- the parts of the lines of a completion, one behind the other
 pub lines_join : (o a d b s c : List ℕ) → ((((o ++ a) ++ d) ++ b) ++ s) ++ c ≡ o ++ ((((a ++ d) ++ b) ++ s) ++ c)
 lines_join o a d b s c = simp append_assoc refl
+
+-- the summary of a choice that is best
+pub summary_found : (bounds : Bounds) (e : Expanded) (n : ℕ) (choice : Choice) (value : ℕ) (out : List ℕ) → IsBest e bounds choice value → out ≡ self_text n bounds e value → IsSummaryOf n bounds e out
+summary_found bounds e n choice value out best is =
+    let c : Completion = record { choice = choice; filled = fill e choice; value = value } in
+    record { c = c; least = least_of bounds e c refl best; is = is }

@@ -1,5 +1,5 @@
 -- What is said of a line `synth` whose result text is written, cut off, or has no room.
-use Rattle.std.proofs.Common.{ℕ, List, Option, Some, None, false, ◌≡◌, refl, sym, subst, ap, ◌∙◌}
+use Rattle.std.proofs.Common.{ℕ, Bool, List, Option, Some, None, false, ◌≡◌, refl, sym, subst, ap, ◌∙◌}
 use Rattle.std.specs.Prelude.{IsTrue, IfSome}
 use Rattle.std.specs.declared.alloc.Global.{Global}
 use Rattle.std.specs.declared.vec.Vec.{Vec}
@@ -26,9 +26,11 @@ module _ (budget : Budget) where
   is_synth (ending.SpentRounds pairs best) h = refl
   is_synth (ending.SpentConflicts pairs q f log best) h = refl
   is_synth ending.HelpShown h = absurd h
+  is_synth ending.Accepted h = absurd h
+  is_synth (ending.Rejected why) h = absurd h
+  is_synth (ending.NotCertificate why) h = absurd h
   is_synth ending.VersionShown h = absurd h
   is_synth ending.NotALine h = absurd h
-  is_synth ending.NotBuilt h = absurd h
   is_synth ending.ExecDone h = absurd h
   is_synth (ending.ExecFailed span) h = absurd h
   is_synth (ending.ExecSkipped span) h = absurd h
@@ -54,9 +56,11 @@ module _ (budget : Budget) where
   writes (ending.SpentRounds pairs best) h = refl
   writes (ending.SpentConflicts pairs q f log best) h = refl
   writes ending.HelpShown h = absurd h
+  writes ending.Accepted h = absurd h
+  writes (ending.Rejected why) h = absurd h
+  writes (ending.NotCertificate why) h = absurd h
   writes ending.VersionShown h = absurd h
   writes ending.NotALine h = absurd h
-  writes ending.NotBuilt h = absurd h
   writes ending.ExecDone h = absurd h
   writes (ending.ExecFailed span) h = absurd h
   writes (ending.ExecSkipped span) h = absurd h
@@ -77,16 +81,18 @@ module _ (budget : Budget) where
   writes ending.Memory h = absurd h
 
   -- a text with one is taken, and that is all that it tells
-  module _ (set : Set) (text out : List ℕ) (a b c d : ℕ) where
-    taken : (x : Ending) → IsResultOf set budget text x out → IsTaken set text
+  module _ (set : Set) (cert : Bool) (text out : List ℕ) (a b c d : ℕ) where
+    taken : (x : Ending) → IsResultOf set budget cert text x out → IsTaken set text
     taken ending.Completed h = record { bounds = h.bounds; e = h.e; built = h.only.built }
     taken ending.NoCompletion h = record { bounds = h.bounds; e = h.e; built = h.only.built }
     taken (ending.SpentRounds pairs best) h = record { bounds = h.bounds; e = h.e; built = h.only.built }
     taken (ending.SpentConflicts pairs q f log best) h = record { bounds = h.bounds; e = h.e; built = h.only.built }
     taken ending.HelpShown h = absurd h
+    taken ending.Accepted h = absurd h
+    taken (ending.Rejected why) h = absurd h
+    taken (ending.NotCertificate why) h = absurd h
     taken ending.VersionShown h = absurd h
     taken ending.NotALine h = absurd h
-    taken ending.NotBuilt h = absurd h
     taken ending.ExecDone h = absurd h
     taken (ending.ExecFailed span) h = absurd h
     taken (ending.ExecSkipped span) h = absurd h
@@ -112,9 +118,11 @@ module _ (budget : Budget) where
     tells (ending.SpentRounds pairs best) h t = t
     tells (ending.SpentConflicts pairs q f log best) h t = t
     tells ending.HelpShown h t = absurd h
+    tells ending.Accepted h t = absurd h
+    tells (ending.Rejected why) h t = absurd h
+    tells (ending.NotCertificate why) h t = absurd h
     tells ending.VersionShown h t = absurd h
     tells ending.NotALine h t = absurd h
-    tells ending.NotBuilt h t = absurd h
     tells ending.ExecDone h t = absurd h
     tells (ending.ExecFailed span) h t = absurd h
     tells (ending.ExecSkipped span) h t = absurd h
@@ -171,30 +179,30 @@ module _ (budget : Budget) (r done : Ending) (bytes : List ℕ) (c d : ℕ) (old
     | no_room is same ↦ same
   ]
 
-  module _ (set : Set) (out : Vec ℕ Global) (same : bytes ≡ out.items) where
+  module _ (set : Set) (cert : Bool) (out : Vec ℕ Global) (same : bytes ≡ out.items) where
     -- what is written
-    pub written_by : (left : Option (List ℕ)) → IfSome left (Finds set budget (found.Ended out done)) → (x : Ending) → (ending.WriteFault ≡ x → ⊥) → (ending.Memory ≡ x → ⊥) → r ≡ x → IfSome left (λ text. Writes (IsResultOf set budget text x) old new)
+    pub written_by : (left : Option (List ℕ)) → IfSome left (Finds set budget cert (found.Ended out done)) → (x : Ending) → (ending.WriteFault ≡ x → ⊥) → (ending.Memory ≡ x → ⊥) → r ≡ x → IfSome left (λ text. Writes (IsResultOf set budget cert text x) old new)
     written_by None h x wf mem e = tt
     written_by (Some text) h x wf mem e = elim by [
-      | delivered is w ↦ record { out = bytes; is = subst (λ y. IsResultOf set budget text y bytes) (sym is ∙ e) (subst (IsResultOf set budget text done) (sym same) h.found); appends = w.appends }
+      | delivered is w ↦ record { out = bytes; is = subst (λ y. IsResultOf set budget cert text y bytes) (sym is ∙ e) (subst (IsResultOf set budget cert text done) (sym same) h.found); appends = w.appends }
       | cut is w ↦ absurd (wf (sym is ∙ e))
       | no_room is room ↦ absurd (mem (sym is ∙ e))
     ]
 
-    pub prefix_by : (left : Option (List ℕ)) → IfSome left (Finds set budget (found.Ended out done)) → r ≡ ending.WriteFault → IfSome left (λ text. WritesPart (IsResult set budget text) old new)
+    pub prefix_by : (left : Option (List ℕ)) → IfSome left (Finds set budget cert (found.Ended out done)) → r ≡ ending.WriteFault → IfSome left (λ text. WritesPart (IsResult set budget cert text) old new)
     prefix_by None h e = tt
     prefix_by (Some text) h e = elim by [
       | delivered is w ↦ absurd (subst (HasResult budget) (sym is ∙ e) has)
-      | cut is w ↦ record { out = bytes; is = record { ending = done; is = subst (IsResultOf set budget text done) (sym same) h.found }; appends = w.appends }
+      | cut is w ↦ record { out = bytes; is = record { ending = done; is = subst (IsResultOf set budget cert text done) (sym same) h.found }; appends = w.appends }
       | no_room is room ↦ (let q = sym is ∙ e in cc)
     ]
 
-    pub told_by : (left : Option (List ℕ)) (a b : ℕ) → IfSome left (Finds set budget (found.Ended out done)) → IfSome left (λ text. IsToldOf set text r a b c d)
+    pub told_by : (left : Option (List ℕ)) (a b : ℕ) → IfSome left (Finds set budget cert (found.Ended out done)) → IfSome left (λ text. IsToldOf set text r a b c d)
     told_by None a b h = tt
     told_by (Some text) a b h =
-        let t = taken budget set text out.items a b c d done h.found in
+        let t = taken budget set cert text out.items a b c d done h.found in
         elim by [
-          | delivered is w ↦ subst (λ x. IsToldOf set text x a b c d) (sym is) (tells budget set text out.items a b c d done has t)
+          | delivered is w ↦ subst (λ x. IsToldOf set text x a b c d) (sym is) (tells budget set cert text out.items a b c d done has t)
           | cut is w ↦ subst (λ x. IsToldOf set text x a b c d) (sym is) (w.rose, t)
           | no_room is room ↦ subst (λ x. IsToldOf set text x a b c d) (sym is) tt
         ]

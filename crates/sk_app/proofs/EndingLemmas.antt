@@ -1,5 +1,5 @@
 -- What the endings of a line `synth` tell of its text.
-use Rattle.std.proofs.Common.{ℕ, List, Option, Some, None, ◌≤◌, ◌≡◌, length, sym, subst, ap, ◌∙◌}
+use Rattle.std.proofs.Common.{ℕ, Bool, List, Option, Some, None, ◌≤◌, ◌≡◌, length, sym, subst, ap, ◌∙◌}
 use Rattle.std.specs.Prelude.{IfSome}
 use Rattle.sk_base.specs.Stream.{Rose}
 use Rattle.sk_base.specs.declared.bounds.Budget.{Budget}
@@ -22,33 +22,33 @@ use Rattle.sk_app.specs.declared.prepare.Prepared.TheVariants as prepared
 use Rattle.sk_app.specs.declared.ending.Ending.{Ending}
 use Rattle.sk_app.specs.declared.ending.Ending.TheVariants as ending
 use Rattle.sk_app.specs.Prepared.{Finds, IsPossible, IsPrepared}
-use Rattle.sk_app.specs.Streams.{IsWhole}
+use Rattle.sk_app_reading.specs.Streams.{IsWhole}
 use Rattle.sk_app.specs.Ends.{IsDelivered, delivered, cut, no_room, IsToldOf, ending_of, stopped}
 use Rattle.sk_app.specs.Effects.{refusal}
 
-module _ (set : Set) (budget : Budget) where
+module _ (set : Set) (budget : Budget) (cert : Bool) where
   -- what was found of the text is what the ending tells of it
 
-  pub told_not_text : (left : Option (List ℕ)) (fault : TextFault) → IfSome left (Finds set budget (found.NotText fault)) → IfSome left (λ text. (length text ≤ most_bytes) × IsTextFault fault text)
+  pub told_not_text : (left : Option (List ℕ)) (fault : TextFault) → IfSome left (Finds set budget cert (found.NotText fault)) → IfSome left (λ text. (length text ≤ most_bytes) × IsTextFault fault text)
   told_not_text None fault h = tt
   told_not_text (Some text) fault h = (h.short, h.found)
 
-  pub told_not_typed : (left : Option (List ℕ)) (fault : TypeFault) → IfSome left (Finds set budget (found.NotTyped fault)) → IfSome left (λ text. (length text ≤ most_bytes) × IsUntyped set text)
+  pub told_not_typed : (left : Option (List ℕ)) (fault : TypeFault) → IfSome left (Finds set budget cert (found.NotTyped fault)) → IfSome left (λ text. (length text ≤ most_bytes) × IsUntyped set text)
   told_not_typed None fault h = tt
   told_not_typed (Some text) fault h = (h.short, h.found.0)
 
-  pub placed_not_typed : (left : Option (List ℕ)) (a b : TypeFault) → IfSome left (Finds set budget (found.NotTyped a)) → ending.NotTyped a ≡ ending.NotTyped b → IfSome left (λ text. HasSpan text b.span)
+  pub placed_not_typed : (left : Option (List ℕ)) (a b : TypeFault) → IfSome left (Finds set budget cert (found.NotTyped a)) → ending.NotTyped a ≡ ending.NotTyped b → IfSome left (λ text. HasSpan text b.span)
   placed_not_typed None a b h e = tt
   placed_not_typed (Some text) a b h e = let same : a ≡ b = cc in subst (λ x. HasSpan text x.span) same h.found.1
 
-  pub told_too_large : (left : Option (List ℕ)) (reason : SizeFault) → IfSome left (Finds set budget (found.TooLarge reason)) → IfSome left (λ text. IsTooLarge set text reason)
+  pub told_too_large : (left : Option (List ℕ)) (reason : SizeFault) → IfSome left (Finds set budget cert (found.TooLarge reason)) → IfSome left (λ text. IsTooLarge set text reason)
   told_too_large None reason h = tt
   told_too_large (Some text) reason h = h.found
 
-module _ (set : Set) (budget : Budget) (a b : ℕ) where
+module _ (set : Set) (budget : Budget) (cert : Bool) (a b : ℕ) where
   -- what was found of a text that was read
-  pub found_of : (p : Prepared) (f g : Found) (left : Option (List ℕ)) → p ≡ prepared.Found f → f ≡ g → IsPrepared set budget p a b left → IsPossible budget g × IfSome left (Finds set budget g)
-  found_of p f g left is same h = subst (λ x. IsPrepared set budget x a b left) (is ∙ ap prepared.Found same) h
+  pub found_of : (p : Prepared) (f g : Found) (left : Option (List ℕ)) → p ≡ prepared.Found f → f ≡ g → IsPrepared set budget cert p a b left → IsPossible budget g × IfSome left (Finds set budget cert g)
+  found_of p f g left is same h = subst (λ x. IsPrepared set budget cert x a b left) (is ∙ ap prepared.Found same) h
 
 module _ (set : Set) (a b c d : ℕ) where
   abbrev Told : Ending → List ℕ → Type 0
@@ -87,6 +87,6 @@ refused_place text (fault.NotText a) r f h is e = let q = sym is ∙ e in cc
 refused_place text (fault.TooLarge a) r f h is e = let q = sym is ∙ e in cc
 refused_place text fault.Memory r f h is e = let q = sym is ∙ e in cc
 
-pub whole_place : (left : Option (List ℕ)) (text : List ℕ) (f : TypeFault) → IsWhole text left → HasSpan text f.span → IfSome left (λ t. HasSpan t f.span)
+pub whole_place : (left : Option (List ℕ)) (text : List ℕ) (f : TypeFault) → IsWhole most_bytes text left → HasSpan text f.span → IfSome left (λ t. HasSpan t f.span)
 whole_place None text f w h = tt
 whole_place (Some t) text f w h = subst (λ x. HasSpan x f.span) (sym w.whole) h

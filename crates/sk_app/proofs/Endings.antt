@@ -9,10 +9,13 @@ use Rattle.sk_front.specs.declared.fault.SketchFault.{SketchFault}
 use Rattle.sk_adt.specs.declared.algebraic.AdtFault.{AdtFault}
 use Rattle.sk_expand_sizes.specs.declared.fault.SizeFault.{SizeFault}
 use Rattle.sk_trace_text.specs.declared.fault.TraceFault.{TraceFault}
+use Rattle.sk_cert.specs.declared.fault.CertFault.{CertFault}
+use Rattle.sk_check_laws.specs.declared.reason.Reason.{Reason}
+use Rattle.sk_check_text.specs.declared.fault.CheckFault.{CheckFault}
 use Rattle.sk_app.specs.declared.ending.Ending.{Ending}
-use Rattle.sk_app.specs.declared.ending.Ending.TheVariants.{HelpShown, VersionShown, Lowered, Listed, Explained, Met, NotALine, TooLarge, NotLowered, NotTagged, TooLong, NotBuilt}
+use Rattle.sk_app.specs.declared.ending.Ending.TheVariants.{Completed, HelpShown, VersionShown, Lowered, Listed, Explained, Met, Rejected, NotALine, TooLarge, NotLowered, NotTagged, NotCertificate, TooLong}
 use Rattle.sk_app.specs.Questions.{Reply, ending_with}
-use Rattle.sk_app.specs.Ends.{Ends, IsOfBuilt, IsOfFault, IsOfUntyped, IsOfRefused, ending_of, stopped}
+use Rattle.sk_app.specs.Ends.{Ends, IsOfBuilt, IsOfFault, IsOfUntyped, IsOfRefused, IsOfRefusedInput, IsOfVerdict, IsOfAccepted, ending_of, stopped}
 
 abbrev pub EndsBuilt : Budget → Ending → ℕ → ℕ → ℕ → ℕ → Type 0
 EndsBuilt budget result source_old source_new sink_old sink_new = Ends (IsOfBuilt budget) (Rose source_old source_new) (Rose sink_old sink_new) result
@@ -32,8 +35,8 @@ EndsLong result source_old source_new = Ends (λ e. e ≡ TooLong) (Rose source_
 abbrev pub EndsNoLine : Ending → Type 0
 EndsNoLine result = Ends (λ e. e ≡ NotALine) ⊥ ⊥ result
 
-abbrev pub EndsUnbuiltLine : Ending → Type 0
-EndsUnbuiltLine result = Ends (λ e. e ≡ NotBuilt) ⊥ ⊥ result
+abbrev pub EndsSelf : Ending → ℕ → ℕ → Type 0
+EndsSelf result sink_old sink_new = Ends (λ e. e ≡ Completed) ⊥ (Rose sink_old sink_new) result
 
 abbrev pub EndsHelp : Ending → ℕ → ℕ → Type 0
 EndsHelp result sink_old sink_new = Ends (λ e. e ≡ HelpShown) ⊥ (Rose sink_old sink_new) result
@@ -70,3 +73,18 @@ EndsNotTagged span result source_old source_new = Ends (λ e. e ≡ NotTagged sp
 
 abbrev pub EndsRefused : SketchFault → Ending → ℕ → ℕ → Type 0
 EndsRefused told result source_old source_new = Ends (IsOfRefused told) (Rose source_old source_new) ⊥ result
+
+abbrev pub EndsChecked : Ending → ℕ → ℕ → ℕ → ℕ → Type 0
+EndsChecked result source_old source_new sink_old sink_new = Ends IsOfVerdict (Rose source_old source_new) (Rose sink_old sink_new) result
+
+abbrev pub EndsAccepted : Ending → ℕ → ℕ → ℕ → ℕ → Type 0
+EndsAccepted result source_old source_new sink_old sink_new = Ends IsOfAccepted (Rose source_old source_new) (Rose sink_old sink_new) result
+
+abbrev pub EndsRejected : Reason → Ending → ℕ → ℕ → ℕ → ℕ → Type 0
+EndsRejected why result source_old source_new sink_old sink_new = Ends (λ e. e ≡ Rejected why) (Rose source_old source_new) (Rose sink_old sink_new) result
+
+abbrev pub EndsNotCertificate : CertFault → Ending → ℕ → ℕ → Type 0
+EndsNotCertificate told result source_old source_new = Ends (λ e. e ≡ NotCertificate told) (Rose source_old source_new) ⊥ result
+
+abbrev pub EndsRefusedInput : CheckFault → Ending → ℕ → ℕ → Type 0
+EndsRefusedInput told result source_old source_new = Ends (IsOfRefusedInput told) (Rose source_old source_new) ⊥ result

@@ -53,13 +53,15 @@ is_of_exec (ending.SpentConflicts pairs q f log best) = false
 is_of_exec ending.NotALine = false
 is_of_exec ending.HelpShown = false
 is_of_exec ending.VersionShown = false
-is_of_exec ending.NotBuilt = false
 is_of_exec ending.Lowered = false
 is_of_exec (ending.NotLowered reason) = false
 is_of_exec (ending.NotTagged span) = false
 is_of_exec ending.Listed = false
 is_of_exec ending.Explained = false
 is_of_exec ending.Met = false
+is_of_exec ending.Accepted = false
+is_of_exec (ending.Rejected why) = false
+is_of_exec (ending.NotCertificate why) = false
 is_of_exec _ = true
 
 run_is : (o : Outcome) → is_run (ending_of o) ≡ true
@@ -219,10 +221,10 @@ module _ (set : Set) (job : Job) (r : Ending) (f : Effect) where
   -- Of the text that the source had left
 
   abbrev pub Came : List ℕ → Type 0
-  Came = CameTo Runs r f
+  Came = CameTo most_bytes Runs r f
 
   pub told_by : (P : List ℕ → Type 0) → ((text : List ℕ) → Came text → P text) → RunsSource set job r f → IfSome f.left_old P
-  told_by = told_of Runs r f
+  told_by = told_of most_bytes Runs r f
 
   -- Clauses that follow from the ending
 

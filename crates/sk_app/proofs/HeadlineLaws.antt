@@ -1,9 +1,13 @@
 -- The headline, from what a call does for a line `synth`.
-use Rattle.std.proofs.Common.{◌≡◌, ℕ, ◌<◌, ◌⊎◌, inl, inr, List, ◌++◌, length, Some, None, lit<, refl, sym, ap, subst, ◌∙◌, arith}
+use Rattle.std.proofs.Common.{◌≡◌, ℕ, ◌<◌, ◌⊎◌, inl, inr, Bool, List, ◌++◌, length, Option, Some, None, lit<, refl, sym, ap, subst, ◌∙◌, arith}
 use Rattle.std.specs.Prelude.{IsTrue, IfSome}
 use Rattle.std.proofs.lemmas.Bool.{false≢true}
 use Rattle.sk_base.specs.declared.bounds.Budget.{Budget}
 use Rattle.sk_opts.specs.declared.line.Set.{Set}
+use Rattle.sk_base.specs.declared.bounds.Bounds.{Bounds}
+use Rattle.sk_model.specs.declared.expanded.Choice.{Choice}
+use Rattle.sk_model.specs.declared.expanded.Expanded.{Expanded}
+use Rattle.sk_model.specs.Fill.{fill}
 use Rattle.sk_model.specs.Meets.{Meets, IsGreatestCost}
 use Rattle.sk_print.specs.Layout.{layout}
 use Rattle.sk_print.specs.Shows.{Shows}
@@ -20,7 +24,7 @@ use Rattle.sk_app.specs.declared.ending.Ending.{Ending}
 use Rattle.sk_app.specs.declared.ending.Ending.TheVariants as ending
 use Rattle.sk_app.specs.Ending.{text_refusal, status_of}
 use Rattle.sk_app.specs.Ends.{Writes}
-use Rattle.sk_app.specs.ResultText.{IsCompletion, IsNone, completion_lines}
+use Rattle.sk_app.specs.ResultText.{IsCompletion, IsNone, IsWithCertificate, completed_text, completion_lines}
 use Rattle.sk_app.specs.Results.{IsSpent}
 use Rattle.sk_app.specs.Lines.{IsSearch}
 use Rattle.sk_app.specs.Effects.{is_of_synth, Synthesises, Answers}
@@ -67,6 +71,9 @@ sort ending.WriteFault b = above (lit< tt)
 sort ending.TooLong b = above (lit< tt)
 sort ending.Memory b = above (lit< tt)
 sort ending.HelpShown b = absurd (false≢true b)
+sort ending.Accepted b = absurd (false≢true b)
+sort (ending.Rejected why) b = absurd (false≢true b)
+sort (ending.NotCertificate why) b = absurd (false≢true b)
 sort ending.VersionShown b = absurd (false≢true b)
 sort ending.ExecDone b = absurd (false≢true b)
 sort (ending.ExecFailed span) b = absurd (false≢true b)
@@ -80,7 +87,6 @@ sort (ending.NotRun reason) b = absurd (false≢true b)
 sort (ending.NotFilled reason) b = absurd (false≢true b)
 sort (ending.NotLowered reason) b = absurd (false≢true b)
 sort (ending.NotTagged span) b = absurd (false≢true b)
-sort ending.NotBuilt b = absurd (false≢true b)
 
 of_zero : (x : Ending) → IsTrue (is_of_synth x) → status_of x ≡ 0 → x ≡ ending.Completed
 of_zero x b e = elim (sort x b) [
@@ -98,8 +104,12 @@ of_one x b e = elim (sort x b) [
 
 -- Result texts
 
-solution : (set : Set) (text out : List ℕ) → IsCompletion set text out → ForSketch set IsSolution text out
-solution set text out w =
+-- a text that stands for another is written with the same certificate
+with_certificate : (cert : Bool) (e : Expanded) (bounds : Bounds) (choice : Option Choice) (value : ℕ) (a b out : List ℕ) → a ≡ b → IsWithCertificate cert e bounds choice value a out → IsWithCertificate cert e bounds choice value b out
+with_certificate cert e bounds choice value a b out same h = subst (λ t. IsWithCertificate cert e bounds choice value t out) same h
+
+solution : (set : Set) (cert : Bool) (text out : List ℕ) → IsCompletion set cert text out → ForSketch set (IsSolution cert) text out
+solution set cert text out w =
     let is = w.least.completes.is_filling in
     record {
       bounds = w.bounds;
@@ -108,7 +118,7 @@ solution set text out w =
       holds = record {
         a = w.c.choice;
         value = w.c.value;
-        text = w.is ∙ ap (λ p. layout p ++ completion_lines w.c.choice w.c.value) is;
+        text = with_certificate cert w.e w.bounds (Some w.c.choice) w.c.value (completed_text w.c) (layout (fill w.e w.c.choice) ++ completion_lines w.c.choice w.c.value) out (ap (λ p. layout p ++ completion_lines w.c.choice w.c.value) is) w.is;
         shows = subst (λ p. Shows (layout p) w.bounds p) is w.shows;
         in_range = w.least.completes.in_range;
         meets = subst (λ p. Meets p w.bounds) is w.least.completes.meets;
@@ -117,8 +127,8 @@ solution set text out w =
       };
     }
 
-has_none : (set : Set) (text out : List ℕ) → IsNone set text out → ForSketch set HasNone text out
-has_none set text out w = record { bounds = w.bounds; e = w.e; only = w.only; holds = (w.is, w.none) }
+has_none : (set : Set) (cert : Bool) (text out : List ℕ) → IsNone set cert text out → ForSketch set (HasNone cert) text out
+has_none set cert text out w = record { bounds = w.bounds; e = w.e; only = w.only; holds = (w.is, w.none) }
 
 module _ {words : List (List ℕ)} {r : Ending} {f : Effect} (a : Answers words r f) where
   abbrev c : Call
@@ -127,56 +137,58 @@ module _ {words : List (List ℕ)} {r : Ending} {f : Effect} (a : Answers words 
   abbrev Got : (Set → List ℕ → List ℕ → Type 0) → Set → List ℕ → Type 0
   Got Kind set text = Writes (Kind set text) f.held_old f.held_new
 
-  zero : (set : Set) (budget : Budget) → IsSearch words set budget → status_of r ≡ 0 → IfSome f.left_old (Got (λ s. ForSketch s IsSolution) set)
-  zero set budget h e = elim (of_search a set budget h) [
-    | inl s ↦ mapped f.left_old (Got IsCompletion set) (Got (λ s. ForSketch s IsSolution) set) (λ text w. record { out = w.out; is = solution set text w.out w.is; appends = w.appends }) (s.completed (of_zero r s.ends e))
+  zero : (set : Set) (budget : Budget) (cert : Bool) → IsSearch words set budget cert → status_of r ≡ 0 → IfSome f.left_old (Got (λ s. ForSketch s (IsSolution cert)) set)
+  zero set budget cert h e = elim (of_search a set budget cert h) [
+    | inl s ↦ mapped f.left_old (Got (λ s. IsCompletion s cert) set) (Got (λ s. ForSketch s (IsSolution cert)) set) (λ text w. record { out = w.out; is = solution set cert text w.out w.is; appends = w.appends }) (s.completed (of_zero r s.ends e))
     | inr m ↦ (let z : 17 ≡ 0 = sym (ap status_of m) ∙ e in absurd (omega (arith, z)))
   ]
 
-  one : (set : Set) (budget : Budget) → IsSearch words set budget → status_of r ≡ 1 → IfSome f.left_old (Got (λ s. ForSketch s HasNone) set)
-  one set budget h e = elim (of_search a set budget h) [
-    | inl s ↦ mapped f.left_old (Got IsNone set) (Got (λ s. ForSketch s HasNone) set) (λ text w. record { out = w.out; is = has_none set text w.out w.is; appends = w.appends }) (s.none (of_one r s.ends e))
+  one : (set : Set) (budget : Budget) (cert : Bool) → IsSearch words set budget cert → status_of r ≡ 1 → IfSome f.left_old (Got (λ s. ForSketch s (HasNone cert)) set)
+  one set budget cert h e = elim (of_search a set budget cert h) [
+    | inl s ↦ mapped f.left_old (Got (λ s. IsNone s cert) set) (Got (λ s. ForSketch s (HasNone cert)) set) (λ text w. record { out = w.out; is = has_none set cert text w.out w.is; appends = w.appends }) (s.none (of_one r s.ends e))
     | inr m ↦ (let z : 17 ≡ 1 = sym (ap status_of m) ∙ e in absurd (omega (arith, z)))
   ]
 
   abbrev Sorted : Set → Budget → Type 0
   Sorted set budget = EndsWith 0 c ⊎ EndsWith 1 c ⊎ Otherwise set budget c
 
-  by_ending : (set : Set) (budget : Budget) (x : Ending) → r ≡ x → Synthesises set budget r f → Sorted set budget
-  by_ending set budget ending.Completed e s = inl (ap status_of e)
-  by_ending set budget ending.NoCompletion e s = inr (inl (ap status_of e))
-  by_ending set budget (ending.SpentRounds pairs best) e s = inr (inr (why.spent (subst (IsSpent budget) (sym e) (s.rounds pairs best e).0)))
-  by_ending set budget (ending.SpentConflicts pairs q g log best) e s = inr (inr (why.spent (subst (IsSpent budget) (sym e) (s.conflicts pairs q g log best e).0)))
-  by_ending set budget (ending.NotText told) e s = inr (inr (why.refused (fault.NotText told) e (told_as words r f set budget s (ending.NotText told) (IsTextFault told) (λ text h. h.1) e)))
-  by_ending set budget (ending.NotTyped told) e s = inr (inr (why.refused (fault.NotTyped told) e (told_as words r f set budget s (ending.NotTyped told) (IsUntyped set) (λ text h. h.1) e)))
-  by_ending set budget (ending.TooLarge told) e s = inr (inr (why.refused (fault.TooLarge told) e (told_as words r f set budget s (ending.TooLarge told) (λ text. IsTooLarge set text told) (λ text h. h) e)))
-  by_ending set budget ending.ReadFault e s = inr (inr (why.source_failed e (s.read_fault e)))
-  by_ending set budget ending.WriteFault e s = inr (inr (why.sink_failed e (s.write_fault e)))
-  by_ending set budget ending.TooLong e s = inr (inr (why.too_long e (told_as words r f set budget s ending.TooLong (λ text. most_bytes < length text) (λ text h. h) e)))
-  by_ending set budget ending.Memory e s = inr (inr (why.no_memory e))
-  by_ending set budget ending.HelpShown e s = absurd (false≢true (ap is_of_synth (sym e) ∙ s.ends))
-  by_ending set budget ending.VersionShown e s = absurd (false≢true (ap is_of_synth (sym e) ∙ s.ends))
-  by_ending set budget ending.ExecDone e s = absurd (false≢true (ap is_of_synth (sym e) ∙ s.ends))
-  by_ending set budget (ending.ExecFailed span) e s = absurd (false≢true (ap is_of_synth (sym e) ∙ s.ends))
-  by_ending set budget (ending.ExecSkipped span) e s = absurd (false≢true (ap is_of_synth (sym e) ∙ s.ends))
-  by_ending set budget ending.Lowered e s = absurd (false≢true (ap is_of_synth (sym e) ∙ s.ends))
-  by_ending set budget ending.Listed e s = absurd (false≢true (ap is_of_synth (sym e) ∙ s.ends))
-  by_ending set budget ending.Explained e s = absurd (false≢true (ap is_of_synth (sym e) ∙ s.ends))
-  by_ending set budget ending.Met e s = absurd (false≢true (ap is_of_synth (sym e) ∙ s.ends))
-  by_ending set budget ending.NotALine e s = absurd (false≢true (ap is_of_synth (sym e) ∙ s.ends))
-  by_ending set budget (ending.NotRun reason) e s = absurd (false≢true (ap is_of_synth (sym e) ∙ s.ends))
-  by_ending set budget (ending.NotFilled reason) e s = absurd (false≢true (ap is_of_synth (sym e) ∙ s.ends))
-  by_ending set budget (ending.NotLowered reason) e s = absurd (false≢true (ap is_of_synth (sym e) ∙ s.ends))
-  by_ending set budget (ending.NotTagged span) e s = absurd (false≢true (ap is_of_synth (sym e) ∙ s.ends))
-  by_ending set budget ending.NotBuilt e s = absurd (false≢true (ap is_of_synth (sym e) ∙ s.ends))
+  by_ending : (set : Set) (budget : Budget) (cert : Bool) (x : Ending) → r ≡ x → Synthesises set budget cert r f → Sorted set budget
+  by_ending set budget cert ending.Completed e s = inl (ap status_of e)
+  by_ending set budget cert ending.NoCompletion e s = inr (inl (ap status_of e))
+  by_ending set budget cert (ending.SpentRounds pairs best) e s = inr (inr (why.spent (subst (IsSpent budget) (sym e) (s.rounds pairs best e).0)))
+  by_ending set budget cert (ending.SpentConflicts pairs q g log best) e s = inr (inr (why.spent (subst (IsSpent budget) (sym e) (s.conflicts pairs q g log best e).0)))
+  by_ending set budget cert (ending.NotText told) e s = inr (inr (why.refused (fault.NotText told) e (told_as words r f set budget cert s (ending.NotText told) (IsTextFault told) (λ text h. h.1) e)))
+  by_ending set budget cert (ending.NotTyped told) e s = inr (inr (why.refused (fault.NotTyped told) e (told_as words r f set budget cert s (ending.NotTyped told) (IsUntyped set) (λ text h. h.1) e)))
+  by_ending set budget cert (ending.TooLarge told) e s = inr (inr (why.refused (fault.TooLarge told) e (told_as words r f set budget cert s (ending.TooLarge told) (λ text. IsTooLarge set text told) (λ text h. h) e)))
+  by_ending set budget cert ending.ReadFault e s = inr (inr (why.source_failed e (s.read_fault e)))
+  by_ending set budget cert ending.WriteFault e s = inr (inr (why.sink_failed e (s.write_fault e)))
+  by_ending set budget cert ending.TooLong e s = inr (inr (why.too_long e (told_as words r f set budget cert s ending.TooLong (λ text. most_bytes < length text) (λ text h. h) e)))
+  by_ending set budget cert ending.Memory e s = inr (inr (why.no_memory e))
+  by_ending set budget cert ending.HelpShown e s = absurd (false≢true (ap is_of_synth (sym e) ∙ s.ends))
+  by_ending set budget cert ending.Accepted e s = absurd (false≢true (ap is_of_synth (sym e) ∙ s.ends))
+  by_ending set budget cert (ending.Rejected why) e s = absurd (false≢true (ap is_of_synth (sym e) ∙ s.ends))
+  by_ending set budget cert (ending.NotCertificate why) e s = absurd (false≢true (ap is_of_synth (sym e) ∙ s.ends))
+  by_ending set budget cert ending.VersionShown e s = absurd (false≢true (ap is_of_synth (sym e) ∙ s.ends))
+  by_ending set budget cert ending.ExecDone e s = absurd (false≢true (ap is_of_synth (sym e) ∙ s.ends))
+  by_ending set budget cert (ending.ExecFailed span) e s = absurd (false≢true (ap is_of_synth (sym e) ∙ s.ends))
+  by_ending set budget cert (ending.ExecSkipped span) e s = absurd (false≢true (ap is_of_synth (sym e) ∙ s.ends))
+  by_ending set budget cert ending.Lowered e s = absurd (false≢true (ap is_of_synth (sym e) ∙ s.ends))
+  by_ending set budget cert ending.Listed e s = absurd (false≢true (ap is_of_synth (sym e) ∙ s.ends))
+  by_ending set budget cert ending.Explained e s = absurd (false≢true (ap is_of_synth (sym e) ∙ s.ends))
+  by_ending set budget cert ending.Met e s = absurd (false≢true (ap is_of_synth (sym e) ∙ s.ends))
+  by_ending set budget cert ending.NotALine e s = absurd (false≢true (ap is_of_synth (sym e) ∙ s.ends))
+  by_ending set budget cert (ending.NotRun reason) e s = absurd (false≢true (ap is_of_synth (sym e) ∙ s.ends))
+  by_ending set budget cert (ending.NotFilled reason) e s = absurd (false≢true (ap is_of_synth (sym e) ∙ s.ends))
+  by_ending set budget cert (ending.NotLowered reason) e s = absurd (false≢true (ap is_of_synth (sym e) ∙ s.ends))
+  by_ending set budget cert (ending.NotTagged span) e s = absurd (false≢true (ap is_of_synth (sym e) ∙ s.ends))
 
-  otherwise : (set : Set) (budget : Budget) → IsSearch words set budget → Sorted set budget
-  otherwise set budget h = elim (of_search a set budget h) [ inl s ↦ by_ending set budget r refl s | inr m ↦ inr (inr (why.no_memory m)) ]
+  otherwise : (set : Set) (budget : Budget) (cert : Bool) → IsSearch words set budget cert → Sorted set budget
+  otherwise set budget cert h = elim (of_search a set budget cert h) [ inl s ↦ by_ending set budget cert r refl s | inr m ↦ inr (inr (why.no_memory m)) ]
 
   pub headline : Headline (record { words = words; ending = r; effect = f })
   headline = record {
-    zero = λ set h e. zero set h.budget h.is e;
-    one = λ set h e. one set h.budget h.is e;
+    zero = zero;
+    one = one;
     otherwise = otherwise;
     words = not_a_line a;
   }

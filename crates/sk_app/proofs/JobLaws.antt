@@ -25,7 +25,7 @@ use Rattle.sk_app.specs.declared.direct.Job.{Job}
 use Rattle.sk_app.specs.Jobs.{IsStoppedBy, IsStopped, IsRunBy, IsRunOfJob, IsDone, as_traced}
 use Rattle.sk_app.specs.declared.listing.Question.{Question}
 use Rattle.sk_app.specs.declared.listing.Question.TheVariants as question
-use Rattle.sk_app.specs.Lines.{line_by, line_of, line_asking, is_unbuilt}
+use Rattle.sk_app.specs.Lines.{line_by, line_of, line_asking}
 
 -- Answers
 
@@ -120,13 +120,6 @@ runs_by (way.Trace holes) set name values = refl
 pub not_of_job : {A : Type 0} (l : Line) (set : Set) (job : Job) → runs_function l ≡ false → l ≡ line_of set job → A
 not_of_job l set job none is = absurd (false≢true (sym none ∙ ap runs_function is ∙ runs_by job.way set job.name job.values))
 
-built_by : (w : Way) (set : Set) (name : List ℕ) (values : List (List ℕ)) → is_unbuilt (line_by w set name values) ≡ false
-built_by way.Exec set name values = refl
-built_by (way.Trace holes) set name values = refl
-
-pub job_is_built : (set : Set) (job : Job) → is_unbuilt (line_of set job) ≡ false
-job_is_built set job = built_by job.way set job.name job.values
-
 pub record Same (s t : Set) (a b : Job) : Type 0 where
   pub sets : s ≡ t
   pub jobs : a ≡ b
@@ -171,10 +164,6 @@ runs_none set question.Why = refl
 -- a line of a job does not
 pub job_or_question : {A : Type 0} (set : Set) (job : Job) (t : Set) (q : Question) → line_of set job ≡ line_asking t q → A
 job_or_question set job t q is = not_of_job (line_asking t q) set job (runs_none t q) (sym is)
-
-pub asking_is_built : (set : Set) (q : Question) → is_unbuilt (line_asking set q) ≡ false
-asking_is_built set (question.Which most) = refl
-asking_is_built set question.Why = refl
 
 -- lines that ask about completions ask one question
 pub one_question : (s t : Set) (p q : Question) → line_asking s p ≡ line_asking t q → (s ≡ t) × (p ≡ q)

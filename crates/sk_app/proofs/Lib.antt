@@ -8,6 +8,7 @@ mod SourceLaws
 mod ExecLaws
 mod LowerLaws
 mod QuestionLaws
+mod CheckLaws
 mod EffectLaws
 mod HeadlineLaws
 mod ListingsLaws

@@ -38,7 +38,7 @@ module _ (set : Set) (r : Ending) (f : Effect) where
   Does text = LowersText set text r f.write_faults_old f.write_faults_new f.held_old f.held_new
 
   abbrev pub Came : List ℕ → Type 0
-  Came = CameTo Does r f
+  Came = CameTo most_bytes Does r f
 
   -- What an ending tells of the text, and of the streams
 
@@ -77,7 +77,7 @@ module _ (set : Set) (r : Ending) (f : Effect) where
   tells text (came_whole short x) = tells_text text x
 
   pub told_by : (P : List ℕ → Type 0) → ((text : List ℕ) → Came text → P text) → LowersSource set r f → IfSome f.left_old P
-  told_by = told_of Does r f
+  told_by = told_of most_bytes Does r f
 
   -- what is told of the text where the ending is this one
   pub told_as : (x : Ending) (P : List ℕ → Type 0) → ((text : List ℕ) → Tells text x → P text) → r ≡ x → LowersSource set r f → IfSome f.left_old P
@@ -103,6 +103,9 @@ module _ (set : Set) (r : Ending) (f : Effect) where
   told_is_of_lower text (ending.SpentRounds pairs best) h = absurd h
   told_is_of_lower text (ending.SpentConflicts pairs q g log best) h = absurd h
   told_is_of_lower text ending.HelpShown h = absurd h
+  told_is_of_lower text ending.Accepted h = absurd h
+  told_is_of_lower text (ending.Rejected why) h = absurd h
+  told_is_of_lower text (ending.NotCertificate why) h = absurd h
   told_is_of_lower text ending.VersionShown h = absurd h
   told_is_of_lower text ending.ExecDone h = absurd h
   told_is_of_lower text (ending.ExecFailed span) h = absurd h
@@ -111,7 +114,6 @@ module _ (set : Set) (r : Ending) (f : Effect) where
   told_is_of_lower text (ending.TooLarge reason) h = absurd h
   told_is_of_lower text (ending.NotRun reason) h = absurd h
   told_is_of_lower text (ending.NotFilled reason) h = absurd h
-  told_is_of_lower text ending.NotBuilt h = absurd h
 
   is_of_line : LowersSource set r f → is_of_lower r ≡ true
   is_of_line (failed e rose same) = ap is_of_lower e

@@ -163,7 +163,7 @@ module _ (set : Set) (q : Question) (r : Ending) (f : Effect) where
   Does text = RepliesTo set q text r f.write_faults_old f.write_faults_new f.held_old f.held_new
 
   abbrev pub Came : List ℕ → Type 0
-  Came = CameTo Does r f
+  Came = CameTo most_bytes Does r f
 
   abbrev Told : List ℕ → Ending → Type 0
   Told text x = IsToldOf set text x f.read_faults_old f.read_faults_new f.write_faults_old f.write_faults_new
@@ -214,7 +214,7 @@ module _ (set : Set) (q : Question) (r : Ending) (f : Effect) where
   told text (came_whole short x) = told_text text short x
 
   pub told_by : (P : List ℕ → Type 0) → ((text : List ℕ) → Came text → P text) → AsksSource set q r f → IfSome f.left_old P
-  told_by = told_of Does r f
+  told_by = told_of most_bytes Does r f
 
   -- what is told of the text where the ending is this one
   pub told_as : (x : Ending) (P : List ℕ → Type 0) → ((text : List ℕ) → IsToldOf set text x f.read_faults_old f.read_faults_new f.write_faults_old f.write_faults_new → P text) → r ≡ x → AsksSource set q r f → IfSome f.left_old P

@@ -24,19 +24,19 @@ mapped (Some text) P Q h k = h text k
 pub too_long : {A : Type 0} (text : List ℕ) → length text ≤ most_bytes → most_bytes < length text → A
 too_long text short over = absurd (omega (arith, short, over))
 
-module _ (Does : List ℕ → Type 0) (r : Ending) (f : Effect) where
+module _ (most : ℕ) (Does : List ℕ → Type 0) (r : Ending) (f : Effect) where
   -- of the text that the source had left
   pub data Came (text : List ℕ) : Type 0 where
     came_failed : r ≡ ending.ReadFault → Rose f.read_faults_old f.read_faults_new → Came text
-    came_long : r ≡ ending.TooLong → most_bytes < length text → Came text
+    came_long : r ≡ ending.TooLong → most < length text → Came text
     came_wanting : r ≡ ending.Memory → Came text
-    came_whole : length text ≤ most_bytes → Does text → Came text
+    came_whole : length text ≤ most → Does text → Came text
 
-  pub came : TakesSource Does r f → IfSome f.left_old Came
+  pub came : TakesSource most Does r f → IfSome f.left_old Came
   came (failed e rose same) = every f.left_old Came (λ text. came_failed e rose)
-  came (long e l same) = mapped f.left_old (λ text. most_bytes < length text) Came (λ text h. came_long e h) l
+  came (long e l same) = mapped f.left_old (λ text. most < length text) Came (λ text h. came_long e h) l
   came (wanting e same) = every f.left_old Came (λ text. came_wanting e)
   came (whole text w x) = mapped f.left_old (λ left. left ≡ text) Came (λ left h. subst Came (sym h) (came_whole w.short x)) w.whole
 
-  pub told_of : (P : List ℕ → Type 0) → ((text : List ℕ) → Came text → P text) → TakesSource Does r f → IfSome f.left_old P
+  pub told_of : (P : List ℕ → Type 0) → ((text : List ℕ) → Came text → P text) → TakesSource most Does r f → IfSome f.left_old P
   told_of P k s = mapped f.left_old Came P k (came s)

@@ -60,10 +60,12 @@ module _ (set : Set) (text : List ℕ) where
     ends_built budget (ending.NotText f) some h bounds e is = taken_or_cause (fault.NotText f) (record { bounds = bounds; e = e; built = is }) h.1
     ends_built budget (ending.NotTyped f) some h bounds e is = taken_or_cause (fault.NotTyped f) (record { bounds = bounds; e = e; built = is }) h.1
     ends_built budget (ending.TooLarge s) some h bounds e is = taken_or_cause (fault.TooLarge s) (record { bounds = bounds; e = e; built = is }) h
-    ends_built budget ending.NotBuilt some h bounds e is = absurd h
     ends_built budget ending.TooLong some h bounds e is = too_long is.sized.typed.short h
     ends_built budget ending.NotALine some h bounds e is = absurd h
     ends_built budget ending.HelpShown some h bounds e is = absurd h
+    ends_built budget ending.Accepted some h bounds e is = absurd h
+    ends_built budget (ending.Rejected why) some h bounds e is = absurd h
+    ends_built budget (ending.NotCertificate why) some h bounds e is = absurd h
     ends_built budget ending.VersionShown some h bounds e is = absurd h
     ends_built budget ending.ExecDone some h bounds e is = absurd h
     ends_built budget (ending.ExecFailed span) some h bounds e is = absurd h
@@ -88,10 +90,12 @@ module _ (set : Set) (text : List ℕ) where
     ends_faulty (ending.NotText g) h short f is = one (fault.NotText f) (fault.NotText g) is h.1 (λ same. same)
     ends_faulty (ending.NotTyped g) h short f is = one (fault.NotText f) (fault.NotTyped g) is h.1 (λ same. absurd same)
     ends_faulty (ending.TooLarge s) h short f is = one (fault.NotText f) (fault.TooLarge s) is h (λ same. absurd same)
-    ends_faulty ending.NotBuilt h short f is = absurd h
     ends_faulty ending.TooLong h short f is = too_long short h
     ends_faulty ending.NotALine h short f is = absurd h
     ends_faulty ending.HelpShown h short f is = absurd h
+    ends_faulty ending.Accepted h short f is = absurd h
+    ends_faulty (ending.Rejected why) h short f is = absurd h
+    ends_faulty (ending.NotCertificate why) h short f is = absurd h
     ends_faulty ending.VersionShown h short f is = absurd h
     ends_faulty ending.ExecDone h short f is = absurd h
     ends_faulty (ending.ExecFailed span) h short f is = absurd h
@@ -116,10 +120,12 @@ module _ (set : Set) (text : List ℕ) where
     ends_untyped (ending.NotText g) h short n = one (fault.NotTyped some_fault) (fault.NotText g) n h.1 (λ same. absurd same)
     ends_untyped (ending.NotTyped g) h short n = tt
     ends_untyped (ending.TooLarge s) h short n = one (fault.NotTyped some_fault) (fault.TooLarge s) n h (λ same. absurd same)
-    ends_untyped ending.NotBuilt h short n = absurd h
     ends_untyped ending.TooLong h short n = too_long short h
     ends_untyped ending.NotALine h short n = absurd h
     ends_untyped ending.HelpShown h short n = absurd h
+    ends_untyped ending.Accepted h short n = absurd h
+    ends_untyped (ending.Rejected why) h short n = absurd h
+    ends_untyped (ending.NotCertificate why) h short n = absurd h
     ends_untyped ending.VersionShown h short n = absurd h
     ends_untyped ending.ExecDone h short n = absurd h
     ends_untyped (ending.ExecFailed span) h short n = absurd h
@@ -144,10 +150,12 @@ module _ (set : Set) (text : List ℕ) where
     ends_large (ending.NotText g) h s is = one (fault.TooLarge s) (fault.NotText g) is h.1 (λ same. absurd same)
     ends_large (ending.NotTyped g) h s is = one (fault.TooLarge s) (fault.NotTyped g) is h.1 (λ same. absurd same)
     ends_large (ending.TooLarge t) h s is = one (fault.TooLarge s) (fault.TooLarge t) is h (λ same. ap ending.TooLarge (sym same))
-    ends_large ending.NotBuilt h s is = absurd h
     ends_large ending.TooLong h s is = too_long is.typed.short h
     ends_large ending.NotALine h s is = absurd h
     ends_large ending.HelpShown h s is = absurd h
+    ends_large ending.Accepted h s is = absurd h
+    ends_large (ending.Rejected why) h s is = absurd h
+    ends_large (ending.NotCertificate why) h s is = absurd h
     ends_large ending.VersionShown h s is = absurd h
     ends_large ending.ExecDone h s is = absurd h
     ends_large (ending.ExecFailed span) h s is = absurd h
@@ -172,10 +180,12 @@ module _ (set : Set) (text : List ℕ) where
     ends_long (ending.NotText g) h long = too_long h.0 long
     ends_long (ending.NotTyped g) h long = too_long h.0 long
     ends_long (ending.TooLarge t) h long = too_long h.typed.short long
-    ends_long ending.NotBuilt h long = absurd h
     ends_long ending.TooLong h long = refl
     ends_long ending.NotALine h long = absurd h
     ends_long ending.HelpShown h long = absurd h
+    ends_long ending.Accepted h long = absurd h
+    ends_long (ending.Rejected why) h long = absurd h
+    ends_long (ending.NotCertificate why) h long = absurd h
     ends_long ending.VersionShown h long = absurd h
     ends_long ending.ExecDone h long = absurd h
     ends_long (ending.ExecFailed span) h long = absurd h

@@ -1,6 +1,6 @@
 -- The clauses of `run`, in pairs: an ending comes only where it has its cause; and where there is the cause, it comes, or the
 -- source or the sink failed as `Ends` says, or memory was wanting.
-use Rattle.std.specs.Prelude.{ℕ, ◌≡◌, ◌≤◌, ◌<◌, ◌⊎◌, List, length, Option, IsTrue}
+use Rattle.std.specs.Prelude.{ℕ, ◌≡◌, ◌≤◌, ◌<◌, ◌⊎◌, Bool, List, length, Option, IsTrue}
 use Rattle.sk_base.specs.declared.bounds.Bounds.{Bounds}
 use Rattle.sk_base.specs.declared.bounds.Budget.{Budget}
 use Rattle.sk_base.specs.declared.span.Span.{Span}
@@ -31,18 +31,28 @@ use Rattle.sk_trace_text.specs.declared.fault.TraceFault.{TraceFault}
 use Rattle.sk_trace_text.specs.declared.fault.TraceFault.TheVariants as reason
 use Rattle.sk_trace_text.specs.Traced.{IsNotTraced}
 use Rattle.sk_app.specs.declared.direct.Job.{Job}
-use Rattle.sk_app.specs.declared.ending.Ending.TheVariants.{Completed, NoCompletion, SpentRounds, SpentConflicts, HelpShown, VersionShown, ExecDone, ExecFailed, ExecSkipped, Lowered, Listed, Explained, Met, NotALine, NotText, NotTyped, TooLarge, NotRun, NotFilled, NotLowered, NotTagged, ReadFault, WriteFault, TooLong, NotBuilt}
+use Rattle.sk_app.specs.declared.ending.Ending.TheVariants.{Completed, NoCompletion, SpentRounds, SpentConflicts, HelpShown, VersionShown, ExecDone, ExecFailed, ExecSkipped, Lowered, Listed, Explained, Met, Accepted, Rejected, NotALine, NotText, NotTyped, TooLarge, NotRun, NotFilled, NotLowered, NotTagged, NotCertificate, ReadFault, WriteFault, TooLong}
 use Rattle.sk_min_laws.specs.Best.{Meeting}
 use Rattle.sk_built_laws.specs.Built.{IsBuilt}
 use Rattle.sk_all_text.specs.AllTexts.{IsListing}
 use Rattle.sk_app.specs.ResultText.{IsCompletion, IsNone}
 use Rattle.sk_app.specs.Spent.{AreLearnt, IsSpentRounds, IsSpentConflicts}
-use Rattle.sk_app.specs.Streams.{Appends, AppendsPrefix, TakesFew}
+use Rattle.sk_app_reading.specs.Streams.{Appends, AppendsPrefix, TakesFew}
 use Rattle.sk_app.specs.Help.{help_text, version_text}
-use Rattle.sk_app.specs.Lines.{IsNoLine, IsSearch, ForSearch, ForSynth, IsJob, ForJob, ForTrace, ForLower, ForAll, ForWhy, TakesText, SizesText, ForText, ReadsText, IsUnbuiltLine}
+use Rattle.sk_app_texts.specs.CheckTexts.{accepted_text, rejected_text}
+use Rattle.sk_cert.specs.declared.fault.CertFault.{CertFault}
+use Rattle.sk_check_laws.specs.declared.reason.Reason.{Reason}
+use Rattle.sk_check_laws.specs.Rejected.{part_number}
+use Rattle.sk_check_text.specs.declared.fault.CheckFault.{CheckFault}
+use Rattle.sk_check_text.specs.declared.fault.CheckFault.TheVariants as check
+use Rattle.sk_check_text.specs.Checking.{TakesSketch, IsAccepted, IsRejectedFor, IsSomeCertificate, IsFaultOfCheck}
+use Rattle.sk_check_text.specs.Checking as checking
+use Rattle.sk_app.specs.Summary.{IsSummary}
+use Rattle.sk_app.specs.Checks.{most_input, IsTooLongInput, told_reason}
+use Rattle.sk_app.specs.Lines.{IsNoLine, IsSearch, ForSearch, IsJob, ForJob, ForTrace, ForLower, ForAll, ForWhy, TakesText, SizesText, ForText, ReadsText, ForCheck, ReadsSource, ForSelf}
 use Rattle.sk_app.specs.Jobs.{IsStopped, IsRunOfJob}
 use Rattle.sk_app.specs.Questions.{IsExplained, IsMet}
-use Rattle.sk_app.specs.Ends.{WritesPart, writes_nothing, Ends, IsOfBuilt, IsOfFault, IsOfUntyped, IsOfRefused, ending_of, stopped}
+use Rattle.sk_app.specs.Ends.{WritesPart, writes_nothing, Ends, IsOfBuilt, IsOfFault, IsOfUntyped, IsOfRefused, IsOfRefusedInput, IsOfVerdict, IsOfAccepted, ending_of, stopped}
 use Rattle.sk_app.specs.Effects.{is_of_expansion, IsRunResult, IsOutput}
 use Rattle.sk_app.specs.Call.{Call, OfText, Gets, SourceFailed, SinkFailed}
 
@@ -55,14 +65,6 @@ TellsNoLine c = c.ending ≡ NotALine → IsNoLine c.words
 -- Words that are no line end so.
 abbrev pub NoLineEnds : Call → Type 0
 NoLineEnds c = IsNoLine c.words → Ends (λ e. e ≡ NotALine) ⊥ ⊥ c.ending
-
--- The line is one for which the program does nothing: `check`, `self`, or one that asks for a certificate.
-abbrev pub TellsUnbuilt : Call → Type 0
-TellsUnbuilt c = c.ending ≡ NotBuilt → IsUnbuiltLine c.words
-
--- Such a line ends so.
-abbrev pub UnbuiltEnds : Call → Type 0
-UnbuiltEnds c = IsUnbuiltLine c.words → Ends (λ e. e ≡ NotBuilt) ⊥ ⊥ c.ending
 
 -- The line is `--help`, and the sink got the help.
 abbrev pub TellsHelp : Call → Type 0
@@ -82,33 +84,39 @@ VersionEnds c = IsLine c.words line.Version → Ends (λ e. e ≡ VersionShown) 
 
 -- A line `synth`
 
--- The sink got the result text of a filling that meets its obligations and costs least.
+-- The sink got the result text of a filling that meets its obligations and costs least, with a certificate where the line asks for one;
+-- or, for a line `self`, the summary of such a filling.
 abbrev pub TellsCompletion : Call → Type 0
-TellsCompletion c = c.ending ≡ Completed → ForSynth c.words (λ set. OfText c (λ text. Gets c (IsCompletion set text)))
+TellsCompletion c = c.ending ≡ Completed → ForSearch c.words (λ set budget cert. OfText c (λ text. Gets c (IsCompletion set cert text))) ⊎ ForSelf c.words (λ n. Gets c (IsSummary n))
 
--- No filling meets them.
+-- No filling meets them. The sink got a line that says so, with a certificate where the line asks for one.
 abbrev pub TellsNone : Call → Type 0
-TellsNone c = c.ending ≡ NoCompletion → ForSynth c.words (λ set. OfText c (λ text. Gets c (IsNone set text)))
+TellsNone c = c.ending ≡ NoCompletion → ForSearch c.words (λ set budget cert. OfText c (λ text. Gets c (IsNone set cert text)))
 
 -- The line's budget of rounds is spent, which is not 0: the pairs are as many. The sink got them, and a choice whose filling
 -- meets its obligations, where one is known.
 abbrev pub TellsRounds : Call → Type 0
-TellsRounds c = (pairs : List Pair) (best : Option Choice) → c.ending ≡ SpentRounds pairs best → ForSearch c.words (λ set budget. AreSpent budget.rounds pairs × OfText c (λ text. Gets c (IsSpentRounds set budget text pairs best)))
+TellsRounds c = (pairs : List Pair) (best : Option Choice) → c.ending ≡ SpentRounds pairs best → ForSearch c.words (λ set budget cert. AreSpent budget.rounds pairs × OfText c (λ text. Gets c (IsSpentRounds set budget text pairs best)))
 
 -- The line's budget of conflicts is spent, which is not 0: as many clauses were learnt from the formula of the query.
 abbrev pub TellsConflicts : Call → Type 0
-TellsConflicts c = (pairs : List Pair) (q : Query) (formula : Encoded) (log : List (List Lit)) (best : Option Choice) → c.ending ≡ SpentConflicts pairs q formula log best → ForSearch c.words (λ set budget. AreLearnt budget.conflicts log × OfText c (λ text. Gets c (IsSpentConflicts set budget text pairs q formula log best)))
+TellsConflicts c = (pairs : List Pair) (q : Query) (formula : Encoded) (log : List (List Lit)) (best : Option Choice) → c.ending ≡ SpentConflicts pairs q formula log best → ForSearch c.words (λ set budget cert. AreLearnt budget.conflicts log × OfText c (λ text. Gets c (IsSpentConflicts set budget cert text pairs q formula log best)))
 
 -- A text that is taken ends in one of these ways.
 abbrev pub BuiltEnds : Call → Type 0
-BuiltEnds c = (set : Set) (budget : Budget) → IsSearch c.words set budget → OfText c (λ text. (bounds : Bounds) (e : Expanded) → IsBuilt set text bounds e → Ends (IsOfBuilt budget) (SourceFailed c) (SinkFailed c) c.ending)
+BuiltEnds c = (set : Set) (budget : Budget) (cert : Bool) → IsSearch c.words set budget cert → OfText c (λ text. (bounds : Bounds) (e : Expanded) → IsBuilt set text bounds e → Ends (IsOfBuilt budget) (SourceFailed c) (SinkFailed c) c.ending)
+
+-- A line `self` ends as completed. Its sketch is taken and has a completion; no text shows otherwise, and one that did would count as
+-- want of memory.
+abbrev pub SelfEnds : Call → Type 0
+SelfEnds c = (n : ℕ) → IsLine c.words (line.Itself n) → Ends (λ e. e ≡ Completed) ⊥ (SinkFailed c) c.ending
 
 -- Texts that are refused
 
 -- The text has this fault: its first as bytes, or what its tokens read as; for a line `lower`, what those of its plain form
--- read as.
+-- read as; for a line `check` the sketch of the input has it.
 abbrev pub TellsNotText : Call → Type 0
-TellsNotText c = (fault : TextFault) → c.ending ≡ NotText fault → ForText c.words (λ set. OfText c (IsTextFault fault)) ⊎ ForLower c.words (λ set. OfText c (λ text. IsFaultOfLowering set text (sketch.NotText fault)))
+TellsNotText c = (fault : TextFault) → c.ending ≡ NotText fault → ForText c.words (λ set. OfText c (IsTextFault fault)) ⊎ ForLower c.words (λ set. OfText c (λ text. IsFaultOfLowering set text (sketch.NotText fault))) ⊎ ForCheck c.words (λ set. OfText c (λ input. IsFaultOfCheck set input (check.Sketch (sketch.NotText fault))))
 
 -- It is told at a byte of the text, or at its end.
 abbrev pub PlacesNotText : Call → Type 0
@@ -118,21 +126,22 @@ PlacesNotText c = (fault : TextFault) → c.ending ≡ NotText fault → OfText 
 abbrev pub FaultyEnds : Call → Type 0
 FaultyEnds c = (set : Set) → TakesText c.words set → OfText c (λ text. length text ≤ most_bytes → (fault : TextFault) → IsTextFault fault text → Ends (IsOfFault fault) (SourceFailed c) ⊥ c.ending)
 
--- The tree of the text, or for a line `lower` that of its plain form, means no program with the options of the line.
+-- The tree of the text, or for a line `lower` that of its plain form, or for a line `check` that of the sketch of its input, means no program with the options of the line.
 abbrev pub TellsNotTyped : Call → Type 0
-TellsNotTyped c = (fault : TypeFault) → c.ending ≡ NotTyped fault → ForText c.words (λ set. OfText c (IsUntyped set)) ⊎ ForLower c.words (λ set. OfText c (λ text. IsFaultOfLowering set text (sketch.NotTyped fault)))
+TellsNotTyped c = (fault : TypeFault) → c.ending ≡ NotTyped fault → ForText c.words (λ set. OfText c (IsUntyped set)) ⊎ ForLower c.words (λ set. OfText c (λ text. IsFaultOfLowering set text (sketch.NotTyped fault))) ⊎ ForCheck c.words (λ set. OfText c (λ input. IsFaultOfCheck set input (check.Sketch (sketch.NotTyped fault))))
 
 -- That is told at the span of an expression or a statement of the tree, which lies within the text, or at none, as 0 to 0.
 abbrev pub PlacesNotTyped : Call → Type 0
-PlacesNotTyped c = (fault : TypeFault) → c.ending ≡ NotTyped fault → ForText c.words (λ set. OfText c (λ text. HasSpan text fault.span)) ⊎ ForLower c.words (λ set. OfText c (λ text. IsPlacedFault text (sketch.NotTyped fault)))
+PlacesNotTyped c = (fault : TypeFault) → c.ending ≡ NotTyped fault → ForText c.words (λ set. OfText c (λ text. HasSpan text fault.span)) ⊎ ForLower c.words (λ set. OfText c (λ text. IsPlacedFault text (sketch.NotTyped fault))) ⊎ ForCheck c.words (λ set. OfText c (λ input. checking.IsPlacedFault input (check.Sketch (sketch.NotTyped fault))))
 
 -- A text whose tree means no program ends so.
 abbrev pub UntypedEnds : Call → Type 0
 UntypedEnds c = (set : Set) → TakesText c.words set → OfText c (λ text. length text ≤ most_bytes → IsUntyped set text → Ends IsOfUntyped (SourceFailed c) ⊥ c.ending)
 
--- The expansion of its program passes this limit, and none before it. For a line `lower` this does not come.
+-- The expansion of its program, or for a line `check` of that of the sketch, passes this limit, and none before it. For a line `lower`
+-- this does not come.
 abbrev pub TellsTooLarge : Call → Type 0
-TellsTooLarge c = (reason : SizeFault) → c.ending ≡ TooLarge reason → ForText c.words (λ set. OfText c (λ text. IsTooLarge set text reason))
+TellsTooLarge c = (reason : SizeFault) → c.ending ≡ TooLarge reason → ForText c.words (λ set. OfText c (λ text. IsTooLarge set text reason)) ⊎ ForCheck c.words (λ set. OfText c (λ input. IsFaultOfCheck set input (check.Sketch (sketch.TooLarge reason))))
 
 -- For a line `synth`, `all` or `why` a text whose expansion passes a limit ends so.
 abbrev pub LargeEnds : Call → Type 0
@@ -241,6 +250,48 @@ TellsMet c = c.ending ≡ Met → ForWhy c.words (λ set. OfText c (λ text. Get
 abbrev pub MetEnds : Call → Type 0
 MetEnds c = (set : Set) → IsLine c.words (line.Why set) → OfText c (λ text. (bounds : Bounds) (e : Expanded) → IsBuilt set text bounds e → (a : Choice) → Meeting e bounds a → Ends (λ x. x ≡ Met) (SourceFailed c) (SinkFailed c) c.ending)
 
+-- A line `check`
+
+-- The sketch of the input is taken, and behind it stands a certificate of which each part holds, which is right.
+abbrev pub TellsAccepted : Call → Type 0
+TellsAccepted c = c.ending ≡ Accepted → ForCheck c.words (λ set. OfText c (λ input. TakesSketch set input IsAccepted × Appends accepted_text c.effect.held_old c.effect.held_new))
+
+-- A sketch that is taken with a certificate behind it ends so, or as rejected.
+abbrev pub CheckedEnds : Call → Type 0
+CheckedEnds c = (set : Set) → IsLine c.words (line.Check set) → OfText c (λ input. length input ≤ most_input → TakesSketch set input IsSomeCertificate → Ends IsOfVerdict (SourceFailed c) (SinkFailed c) c.ending)
+
+-- With one of which each part holds it is rejected for its formulas alone.
+abbrev pub AcceptedEnds : Call → Type 0
+AcceptedEnds c = (set : Set) → IsLine c.words (line.Check set) → OfText c (λ input. length input ≤ most_input → TakesSketch set input IsAccepted → Ends IsOfAccepted (SourceFailed c) (SinkFailed c) c.ending)
+
+-- Behind the sketch stands a certificate of which the parts before this one hold, and this one does not.
+abbrev pub TellsRejected : Call → Type 0
+TellsRejected c = (why : Reason) → c.ending ≡ Rejected why → ForCheck c.words (λ set. OfText c (λ input. TakesSketch set input (IsRejectedFor why) × Appends (rejected_text (told_reason why)) c.effect.held_old c.effect.held_new))
+
+-- A sketch with such a certificate ends so, for each part but the formulas.
+abbrev pub RejectedEnds : Call → Type 0
+RejectedEnds c = (set : Set) → IsLine c.words (line.Check set) → OfText c (λ input. length input ≤ most_input → (why : Reason) → part_number why < 6 → TakesSketch set input (IsRejectedFor why) → Ends (λ e. e ≡ Rejected why) (SourceFailed c) (SinkFailed c) c.ending)
+
+-- What stands behind the sketch is no certificate: this is the first line that departs from the form of one.
+abbrev pub TellsNoForm : Call → Type 0
+TellsNoForm c = (told : CertFault) → c.ending ≡ NotCertificate told → ForCheck c.words (λ set. OfText c (λ input. TakesSketch set input (checking.IsNone told)))
+
+-- A sketch with such a text behind it ends so.
+abbrev pub NoFormEnds : Call → Type 0
+NoFormEnds c = (set : Set) → IsLine c.words (line.Check set) → OfText c (λ input. length input ≤ most_input → (told : CertFault) → TakesSketch set input (checking.IsNone told) → Ends (λ e. e ≡ NotCertificate told) (SourceFailed c) ⊥ c.ending)
+
+-- The source gives more bytes than an input may have, or the sketch of the input has more than a sketch may have.
+abbrev pub TellsLongInput : Call → Type 0
+TellsLongInput c = (set : Set) → IsLine c.words (line.Check set) → c.ending ≡ TooLong → OfText c IsTooLongInput
+
+-- Such an input ends so.
+abbrev pub LongInputEnds : Call → Type 0
+LongInputEnds c = (set : Set) → IsLine c.words (line.Check set) → OfText c (λ input. IsTooLongInput input → Ends (λ e. e ≡ TooLong) (SourceFailed c) ⊥ c.ending)
+
+-- An input whose sketch is not taken ends with the cause.
+abbrev pub UntakenEnds : Call → Type 0
+UntakenEnds c = (set : Set) → IsLine c.words (line.Check set) → OfText c (λ input. length input ≤ most_input → (told : CheckFault) → checking.IsCause set input told → Ends (IsOfRefusedInput told) (SourceFailed c) ⊥ c.ending)
+
 -- The streams
 
 -- The source failed.
@@ -259,6 +310,10 @@ CutsOutput c = c.ending ≡ WriteFault → OfText c (λ text. WritesPart (IsOutp
 abbrev pub CutsHelp : Call → Type 0
 CutsHelp c = IsLine c.words line.Help → c.ending ≡ WriteFault → AppendsPrefix help_text c.effect.held_old c.effect.held_new
 
+-- For a line `self` that is a prefix of a summary.
+abbrev pub CutsSummary : Call → Type 0
+CutsSummary c = (n : ℕ) → IsLine c.words (line.Itself n) → c.ending ≡ WriteFault → WritesPart (IsSummary n) c.effect.held_old c.effect.held_new
+
 -- For `--version` that is a prefix of the version.
 abbrev pub CutsVersion : Call → Type 0
 CutsVersion c = IsLine c.words line.Version → c.ending ≡ WriteFault → AppendsPrefix version_text c.effect.held_old c.effect.held_new
@@ -267,10 +322,10 @@ CutsVersion c = IsLine c.words line.Version → c.ending ≡ WriteFault → Appe
 abbrev pub KeepsSink : Call → Type 0
 KeepsSink c = IsTrue (writes_nothing c.ending) → c.effect.held_new ≡ c.effect.held_old
 
--- At most one byte past the limit is read.
+-- At most one byte past the limit is read, which is that of an input for a line `check`, and that of a sketch for any other.
 abbrev pub ReadsFew : Call → Type 0
-ReadsFew c = TakesFew c.effect.left_old c.effect.left_new
+ReadsFew c = TakesFew most_input c.effect.left_old c.effect.left_new × (((set : Set) → IsLine c.words (line.Check set) → ⊥) → TakesFew most_bytes c.effect.left_old c.effect.left_new)
 
 -- Nothing is read but for a line that reads its source.
 abbrev pub LeavesSource : Call → Type 0
-LeavesSource c = ((set : Set) → ReadsText c.words set → ⊥) → c.effect.left_new ≡ c.effect.left_old
+LeavesSource c = ((set : Set) → ReadsSource c.words set → ⊥) → c.effect.left_new ≡ c.effect.left_old

@@ -1,10 +1,12 @@
 -- Completions of a sketch, and which costs least.
-use Rattle.std.specs.Prelude.{ℕ, ◌≡◌, ◌≤◌}
+use Rattle.std.specs.Prelude.{ℕ, ◌≡◌, ◌≤◌, List, None}
 use Rattle.sk_base.specs.declared.bounds.Bounds.{Bounds}
 use Rattle.sk_model.specs.declared.expanded.Choice.{Choice}
 use Rattle.sk_model.specs.declared.expanded.Expanded.{Expanded}
 use Rattle.sk_model.specs.Fill.{InRange, fill}
 use Rattle.sk_model.specs.Meets.{Meets, IsGreatestCost}
+use Rattle.sk_model.specs.declared.expanded.Input.{Input}
+use Rattle.sk_oblig_queries.specs.Queries.{IsWanted}
 use Rattle.sk_app.specs.declared.completion.Completion.{Completion}
 
 -- The filling of a choice in range, which meets its obligations, and its greatest cost.
@@ -13,6 +15,10 @@ pub record IsCompletion (bounds : Bounds) (e : Expanded) (c : Completion) : Type
   pub is_filling : c.filled ≡ fill e c.choice
   pub meets : Meets c.filled bounds
   pub costs : IsGreatestCost c.filled bounds c.value
+
+-- No choice in range passes even these inputs.
+abbrev pub IsNoChoice : Expanded → Bounds → List Input → Type 0
+IsNoChoice e bounds inputs = (choice : Choice) → IsWanted e bounds inputs None choice → ⊥
 
 -- A completion, and none costs less.
 pub record IsLeast (bounds : Bounds) (e : Expanded) (c : Completion) : Type 0 where

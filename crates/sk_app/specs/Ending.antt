@@ -20,8 +20,10 @@ use Rattle.sk_exec.specs.declared.fault.ExecFault.{ExecFault}
 use Rattle.sk_exec.specs.declared.fault.ExecFault.TheVariants as exec
 use Rattle.sk_holes.specs.declared.fault.FillFault.{FillFault}
 use Rattle.sk_holes.specs.declared.fault.FillFault.TheVariants as hole
+use Rattle.sk_cert.specs.declared.fault.CertFault.{CertFault}
+use Rattle.sk_cert.specs.declared.fault.CertFault.TheVariants as cert
 use Rattle.sk_app.specs.declared.ending.Ending.{Ending}
-use Rattle.sk_app.specs.declared.ending.Ending.TheVariants.{Completed, NoCompletion, SpentRounds, SpentConflicts, HelpShown, VersionShown, ExecDone, ExecFailed, ExecSkipped, Lowered, Listed, Explained, Met, NotALine, NotText, NotTyped, TooLarge, NotRun, NotFilled, NotLowered, NotTagged, ReadFault, WriteFault, TooLong, Memory, NotBuilt}
+use Rattle.sk_app.specs.declared.ending.Ending.TheVariants.{Completed, NoCompletion, SpentRounds, SpentConflicts, HelpShown, VersionShown, ExecDone, ExecFailed, ExecSkipped, Lowered, Listed, Explained, Met, Accepted, Rejected, NotALine, NotText, NotTyped, TooLarge, NotRun, NotFilled, NotLowered, NotTagged, NotCertificate, ReadFault, WriteFault, TooLong, Memory}
 
 -- The refusal for a fault of a text. Want of memory, which `run` answers as `Memory`, is no fault of it.
 abbrev pub text_refusal : TextFault → Refusal
@@ -75,6 +77,12 @@ fill_refusal hole.WrongLength = said.NotFilled said.WrongLength
 fill_refusal (hole.OutOfRange site) = said.NotFilled said.OutOfRange
 fill_refusal hole.Memory = said.Memory
 
+-- The refusal where what stands behind a sketch is no certificate. Want of memory, which `run` answers as `Memory`, is no such.
+abbrev pub cert_refusal : CertFault → Refusal
+cert_refusal (cert.NoForm line) = said.NotCertificate said.NoForm line
+cert_refusal (cert.Version line) = said.NotCertificate said.Version line
+cert_refusal cert.Memory = said.Memory
+
 -- The status and the message where a text has no plain form. Want of memory, which `run` answers as `Memory`, is no such.
 abbrev pub adt_status : AdtFault → ℕ
 adt_status adt.Memory = 17
@@ -110,6 +118,8 @@ status_of Lowered = 0
 status_of Listed = 0
 status_of Explained = 0
 status_of Met = 7
+status_of Accepted = 0
+status_of (Rejected why) = 6
 status_of NotALine = 10
 status_of (NotText fault) = refusal_status (text_refusal fault)
 status_of (NotTyped fault) = refusal_status (type_refusal fault)
@@ -118,11 +128,11 @@ status_of (NotRun reason) = refusal_status (exec_refusal reason)
 status_of (NotFilled fault) = refusal_status (fill_refusal fault)
 status_of (NotLowered reason) = adt_status reason
 status_of (NotTagged span) = 23
+status_of (NotCertificate fault) = refusal_status (cert_refusal fault)
 status_of ReadFault = 14
 status_of WriteFault = 15
 status_of TooLong = 16
 status_of Memory = 17
-status_of NotBuilt = 20
 
 abbrev pub message_of : Ending → List ℕ
 message_of Completed = []
@@ -138,6 +148,8 @@ message_of Lowered = []
 message_of Listed = []
 message_of Explained = []
 message_of Met = []
+message_of Accepted = []
+message_of (Rejected why) = []
 message_of NotALine = codes "usage"
 message_of (NotText fault) = refusal_message (text_refusal fault)
 message_of (NotTyped fault) = refusal_message (type_refusal fault)
@@ -146,8 +158,8 @@ message_of (NotRun reason) = refusal_message (exec_refusal reason)
 message_of (NotFilled fault) = refusal_message (fill_refusal fault)
 message_of (NotLowered reason) = adt_message reason
 message_of (NotTagged span) = tag_message span
+message_of (NotCertificate fault) = refusal_message (cert_refusal fault)
 message_of ReadFault = codes "read fault"
 message_of WriteFault = codes "write fault"
 message_of TooLong = codes "too long"
 message_of Memory = codes "no memory"
-message_of NotBuilt = codes "not built"

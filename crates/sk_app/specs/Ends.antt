@@ -5,7 +5,7 @@ use Rattle.sk_base.specs.declared.bounds.Budget.{Budget}
 use Rattle.sk_model.specs.declared.outcome.Outcome.{Outcome}
 use Rattle.sk_model.specs.declared.outcome.Outcome.TheVariants as outcome
 use Rattle.sk_app.specs.declared.ending.Ending.{Ending}
-use Rattle.sk_app.specs.declared.ending.Ending.TheVariants.{Completed, NoCompletion, SpentRounds, SpentConflicts, HelpShown, VersionShown, ExecDone, ExecFailed, ExecSkipped, Lowered, Listed, Explained, Met, NotText, NotTyped, TooLarge, NotRun, NotFilled, ReadFault, WriteFault, TooLong, Memory}
+use Rattle.sk_app.specs.declared.ending.Ending.TheVariants.{Completed, NoCompletion, SpentRounds, SpentConflicts, HelpShown, VersionShown, ExecDone, ExecFailed, ExecSkipped, Lowered, Listed, Explained, Met, Accepted, Rejected, NotText, NotTyped, TooLarge, NotRun, NotFilled, ReadFault, WriteFault, TooLong, Memory}
 use Rattle.sk_front.specs.declared.fault.TextFault.{TextFault}
 use Rattle.sk_front.specs.Texts.{most_bytes, IsTextFault, IsSameFault}
 use Rattle.sk_front.specs.declared.fault.SketchFault.{SketchFault}
@@ -14,8 +14,12 @@ use Rattle.sk_front.specs.Front.{IsUntyped, IsTooLarge, IsToldAs}
 use Rattle.sk_opts.specs.declared.line.Set.{Set}
 use Rattle.sk_trace_text.specs.declared.fault.TraceFault.{TraceFault}
 use Rattle.sk_trace_text.specs.declared.fault.TraceFault.TheVariants as fault
+use Rattle.sk_check_text.specs.declared.fault.CheckFault.{CheckFault}
+use Rattle.sk_check_text.specs.declared.fault.CheckFault.TheVariants as check
+use Rattle.sk_check_text.specs.Checking as checking
+use Rattle.sk_check_laws.specs.Rejected.{part_number}
 use Rattle.sk_built_laws.specs.Built.{IsTaken}
-use Rattle.sk_app.specs.Streams.{Appends, AppendsPrefix}
+use Rattle.sk_app_reading.specs.Streams.{Appends, AppendsPrefix}
 
 -- a text of this kind was appended to what the sink held
 pub record Writes (P : List ℕ → Type 0) (old new : Option (List ℕ)) : Type 0 where
@@ -44,6 +48,8 @@ writes_nothing Lowered = false
 writes_nothing Listed = false
 writes_nothing Explained = false
 writes_nothing Met = false
+writes_nothing Accepted = false
+writes_nothing (Rejected why) = false
 writes_nothing WriteFault = false
 writes_nothing _ = true
 
@@ -122,3 +128,23 @@ abbrev pub IsOfRefused : SketchFault → Ending → Type 0
 IsOfRefused told (NotText fault) = IsToldAs told (sketch.NotText fault)
 IsOfRefused told (NotTyped fault) = IsToldAs told (sketch.NotTyped fault)
 IsOfRefused told _ = ⊥
+
+-- For an input of a line `check` whose sketch is not taken: it is refused for this cause.
+abbrev pub IsOfRefusedInput : CheckFault → Ending → Type 0
+IsOfRefusedInput told (NotText fault) = checking.IsToldAs told (check.Sketch (sketch.NotText fault))
+IsOfRefusedInput told (NotTyped fault) = checking.IsToldAs told (check.Sketch (sketch.NotTyped fault))
+IsOfRefusedInput told (TooLarge reason) = checking.IsToldAs told (check.Sketch (sketch.TooLarge reason))
+IsOfRefusedInput told TooLong = checking.IsToldAs told check.TooLong
+IsOfRefusedInput told _ = ⊥
+
+-- For one with a certificate: it is accepted or rejected.
+abbrev pub IsOfVerdict : Ending → Type 0
+IsOfVerdict Accepted = Unit {0}
+IsOfVerdict (Rejected why) = Unit {0}
+IsOfVerdict _ = ⊥
+
+-- For one with a certificate of which each part holds: it is accepted, or rejected for its formulas alone.
+abbrev pub IsOfAccepted : Ending → Type 0
+IsOfAccepted Accepted = Unit {0}
+IsOfAccepted (Rejected why) = 6 ≤ part_number why
+IsOfAccepted _ = ⊥

@@ -1,6 +1,4 @@
 pub mod Ending
-pub mod Streams
-pub mod ReadStep
 pub mod Completing
 pub mod ResultText
 pub mod SpentText
@@ -13,6 +11,8 @@ pub mod Help
 pub mod Lines
 pub mod Jobs
 pub mod Questions
+pub mod Checks
+pub mod Summary
 pub mod Call
 pub mod Effects
 pub mod Clauses

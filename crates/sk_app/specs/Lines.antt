@@ -1,5 +1,5 @@
 -- What the program does with the line that words spell.
-use Rattle.std.specs.Prelude.{ℕ, ◌⊎◌, Bool, true, false, IsTrue, List, Option}
+use Rattle.std.specs.Prelude.{ℕ, ◌⊎◌, Bool, List, Option}
 use Rattle.sk_base.specs.declared.bounds.Budget.{Budget}
 use Rattle.sk_opts.specs.declared.line.Set.{Set}
 use Rattle.sk_opts.specs.declared.line.Line.{Line}
@@ -15,27 +15,23 @@ use Rattle.sk_app.specs.declared.listing.Question.TheVariants as question
 abbrev pub IsNoLine : List (List ℕ) → Type 0
 IsNoLine words = (l : Line) → IsLine words l → ⊥
 
--- The words are a line `synth` with these options and budgets, and without a certificate.
-abbrev pub IsSearch : List (List ℕ) → Set → Budget → Type 0
-IsSearch words set budget = IsLine words (line.Synth set budget false)
+-- The words are a line `synth` with these options and budgets, which asks for a certificate or does not.
+abbrev pub IsSearch : List (List ℕ) → Set → Budget → Bool → Type 0
+IsSearch words set budget cert = IsLine words (line.Synth set budget cert)
 
 -- they are such a line, and this holds of it
-pub record ForSearch (words : List (List ℕ)) (Holds : Set → Budget → Type 0) : Type 0 where
+pub record ForSearch (words : List (List ℕ)) (Holds : Set → Budget → Bool → Type 0) : Type 0 where
   pub set : Set
   pub budget : Budget
-  pub is : IsSearch words set budget
-  pub holds : Holds set budget
+  pub cert : Bool
+  pub is : IsSearch words set budget cert
+  pub holds : Holds set budget cert
 
--- The words are such a line with these options, whatever its budgets are.
+-- The words are such a line with these options, whatever else it asks for.
 pub record IsSynth (words : List (List ℕ)) (set : Set) : Type 0 where
   pub budget : Budget
-  pub is : IsSearch words set budget
-
--- they are such a line, and this holds of its options
-pub record ForSynth (words : List (List ℕ)) (Holds : Set → Type 0) : Type 0 where
-  pub set : Set
-  pub is : IsSynth words set
-  pub holds : Holds set
+  pub cert : Bool
+  pub is : IsSearch words set budget cert
 
 -- the line that asks for a function of this name to be run so on these values
 abbrev pub line_by : Way → Set → List ℕ → List (List ℕ) → Line
@@ -84,12 +80,24 @@ pub record ForWhy (words : List (List ℕ)) (Holds : Set → Type 0) : Type 0 wh
   pub is : IsLine words (line.Why set)
   pub holds : Holds set
 
+-- The words are a line `check`, and this holds of its options.
+pub record ForCheck (words : List (List ℕ)) (Holds : Set → Type 0) : Type 0 where
+  pub set : Set
+  pub is : IsLine words (line.Check set)
+  pub holds : Holds set
+
+-- The words are a line `self`, and this holds of its number.
+pub record ForSelf (words : List (List ℕ)) (Holds : ℕ → Type 0) : Type 0 where
+  pub n : ℕ
+  pub is : IsLine words (line.Itself n)
+  pub holds : Holds n
+
 -- the line that asks this about completions
 abbrev pub line_asking : Set → Question → Line
 line_asking set (question.Which most) = line.All set most
 line_asking set question.Why = line.Why set
 
--- The words are a line that takes a text as it is, with these options: `synth` without a certificate, `exec` or `trace`, `all` or
+-- The words are a line that takes a text as it is, with these options: `synth`, `exec` or `trace`, `all` or
 -- `why`.
 pub data TakesText (words : List (List ℕ)) (set : Set) : Type 0 where
   takes_synth : IsSynth words set → TakesText words set
@@ -109,25 +117,10 @@ pub record ForText (words : List (List ℕ)) (Holds : Set → Type 0) : Type 0 w
   pub takes : TakesText words set
   pub holds : Holds set
 
--- The words are a line that reads its source, with these options: one that takes a text as it is, or `lower`, which takes its plain form.
+-- The words are a line that reads a text, with these options: one that takes it as it is, or `lower`, which takes its plain form.
 abbrev pub ReadsText : List (List ℕ) → Set → Type 0
 ReadsText words set = TakesText words set ⊎ IsLine words (line.Lower set)
 
--- whether the program does nothing for a line: it is `check` or `self`, or it asks for a certificate
-abbrev pub is_unbuilt : Line → Bool
-is_unbuilt (line.Synth set budget cert) = cert
-is_unbuilt (line.Exec set name values) = false
-is_unbuilt (line.Trace set name values holes) = false
-is_unbuilt (line.Lower set) = false
-is_unbuilt (line.All set most) = false
-is_unbuilt (line.Why set) = false
-is_unbuilt (line.Check set) = true
-is_unbuilt (line.Itself n) = true
-is_unbuilt line.Help = false
-is_unbuilt line.Version = false
-
--- the words are such a line
-pub record IsUnbuiltLine (words : List (List ℕ)) : Type 0 where
-  pub line : Line
-  pub is : IsLine words line
-  pub unbuilt : IsTrue (is_unbuilt line)
+-- The words are a line that reads its source, with these options: one that reads a text, or `check`, which reads a sketch and a certificate.
+abbrev pub ReadsSource : List (List ℕ) → Set → Type 0
+ReadsSource words set = ReadsText words set ⊎ IsLine words (line.Check set)

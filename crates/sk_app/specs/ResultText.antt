@@ -1,5 +1,5 @@
 -- What is written, and when: a completion of the sketch, or that there is none.
-use Rattle.std.specs.Prelude.{ℕ, ◌≡◌, List, [], ◌∷◌, ◌++◌, codes}
+use Rattle.std.specs.Prelude.{ℕ, ◌≡◌, Bool, true, false, Option, Some, None, List, [], ◌∷◌, ◌++◌, codes}
 use Rattle.std.specs.Fmt.{decimal}
 use Rattle.sk_base.specs.declared.bounds.Bounds.{Bounds}
 use Rattle.sk_model.specs.declared.expanded.Choice.{Choice}
@@ -8,6 +8,8 @@ use Rattle.sk_model.specs.Fill.{InRange, fill}
 use Rattle.sk_model.specs.Meets.{Meets}
 use Rattle.sk_print.specs.Layout.{layout}
 use Rattle.sk_print.specs.Shows.{Shows}
+use Rattle.sk_cert.specs.Certificates.{certificate_lines}
+use Rattle.sk_min_certificate.specs.Certifications.{IsCertified}
 use Rattle.sk_opts.specs.declared.line.Set.{Set}
 use Rattle.sk_app.specs.declared.completion.Completion.{Completion}
 use Rattle.sk_built_laws.specs.Built.{IsOnly}
@@ -30,22 +32,34 @@ completed_text c = layout c.filled ++ completion_lines c.choice c.value
 abbrev pub none_text : List ℕ
 none_text = codes "//@ none\n"
 
+-- The text is that of a certificate of version 2, for this choice and this value, or for none, of which each part holds, and it is
+-- right; it begins with this.
+pub record HasCertificate (e : Expanded) (bounds : Bounds) (choice : Option Choice) (value : ℕ) (front out : List ℕ) : Type 0 where
+  pub shows : IsCertified e bounds choice value out
+  pub is : out ≡ front ++ certificate_lines (shows.certificate)
+
+-- the text is this, and where a certificate is asked for such a one stands behind
+abbrev pub IsWithCertificate : Bool → Expanded → Bounds → Option Choice → ℕ → List ℕ → List ℕ → Type 0
+IsWithCertificate false e bounds choice value front out = out ≡ front
+IsWithCertificate true e bounds choice value front out = HasCertificate e bounds choice value front out
+
 -- The result text is that of a completion: the filling of a choice in range, which meets its obligations on every input
 -- in range, with its greatest cost, and no filling that does so costs less; the text shows the filled program. With these
--- options the text of the sketch has no other bounds and no other expansion.
-pub record IsCompletion (set : Set) (text out : List ℕ) : Type 0 where
+-- options the text of the sketch has no other bounds and no other expansion. A certificate stands behind it where one is asked for.
+pub record IsCompletion (set : Set) (cert : Bool) (text out : List ℕ) : Type 0 where
   pub bounds : Bounds
   pub e : Expanded
   pub c : Completion
   pub only : IsOnly set text bounds e
   pub least : IsLeast bounds e c
   pub shows : Shows (layout c.filled) bounds c.filled
-  pub is : out ≡ completed_text c
+  pub is : IsWithCertificate cert e bounds (Some c.choice) c.value (completed_text c) out
 
--- The result text says that there is no completion, and no filling in range meets its obligations.
-pub record IsNone (set : Set) (text out : List ℕ) : Type 0 where
+-- The result text says that there is no completion, and no filling in range meets its obligations. A certificate stands behind it
+-- where one is asked for.
+pub record IsNone (set : Set) (cert : Bool) (text out : List ℕ) : Type 0 where
   pub bounds : Bounds
   pub e : Expanded
   pub only : IsOnly set text bounds e
   pub none : (b : Choice) → InRange e b → Meets (fill e b) bounds → ⊥
-  pub is : out ≡ none_text
+  pub is : IsWithCertificate cert e bounds None 0 none_text out

@@ -1,5 +1,5 @@
 -- What is told where a budget is spent, and when.
-use Rattle.std.specs.Prelude.{ℕ, ◌≡◌, ◌<◌, List, length, Option, IfSome}
+use Rattle.std.specs.Prelude.{ℕ, Bool, true, false, ◌≡◌, ◌<◌, List, length, Option, IfSome}
 use Rattle.sk_base.specs.declared.bounds.Bounds.{Bounds}
 use Rattle.sk_base.specs.declared.bounds.Budget.{Budget}
 use Rattle.sk_clause.specs.declared.lit.Lit.{Lit}
@@ -38,17 +38,21 @@ pub record IsSpentRounds (set : Set) (budget : Budget) (text : List ℕ) (pairs 
   pub meets : IfSome best (IsMeeting bounds e)
   pub is : out ≡ spent_result e best (OfRounds budget.rounds pairs)
 
--- As many clauses were learnt as the budget of conflicts says, from the formula of a query of the search to which the pairs
--- lead. The result text tells the choice that is known, whose filling meets its obligations; of a program with neither `minimize`
--- nor `minrepeat` none is known.
-pub record IsSpentConflicts (set : Set) (budget : Budget) (text : List ℕ) (pairs : List Pair) (q : Query) (f : Encoded) (log : List (List Lit)) (best : Option Choice) (out : List ℕ) : Type 0 where
+-- Where no certificate is asked for, the budget is spent by the search: of a program with neither `minimize` nor `minrepeat` no choice
+-- is known then. Else a proof may have spent it, of the choice that is known.
+abbrev pub IsSpentBy : Bool → Expanded → Query → Option Choice → Type 0
+IsSpentBy false e q best = IsFreeSpent e best × IsOfSearch q
+IsSpentBy true e q best = Unit {0}
+
+-- As many clauses were learnt as the budget of conflicts says, from the formula of a query to which the pairs
+-- lead. The result text tells the choice that is known, whose filling meets its obligations.
+pub record IsSpentConflicts (set : Set) (budget : Budget) (cert : Bool) (text : List ℕ) (pairs : List Pair) (q : Query) (f : Encoded) (log : List (List Lit)) (best : Option Choice) (out : List ℕ) : Type 0 where
   pub bounds : Bounds
   pub e : Expanded
   pub only : IsOnly set text bounds e
   pub learnt : Learnt e bounds budget.conflicts pairs q f log
   pub known : IsKnownOf e bounds pairs q best
-  pub free : IsFreeSpent e best
-  pub of_search : IsOfSearch q
+  pub by : IsSpentBy cert e q best
   pub meets : IfSome best (IsMeeting bounds e)
   pub is : out ≡ spent_result e best (OfConflicts budget.conflicts)
 

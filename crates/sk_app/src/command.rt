@@ -13,18 +13,21 @@ ghost use Rattle.sk_opts.specs.Ranges.{IsInRanges, LineIsInRanges};
 ghost use Rattle.sk_app.specs.ResultText.{IsCompletion, IsNone};
 ghost use Rattle.sk_app.specs.Spent.{AreLearnt, IsSpentRounds, IsSpentConflicts};
 ghost use Rattle.sk_app.specs.Results.{IsResult};
-ghost use Rattle.sk_app.specs.Streams.{TakesFew};
+ghost use Rattle.sk_front.specs.Texts.{most_bytes};
+ghost use Rattle.sk_app_reading.specs.Streams.{TakesFew};
 ghost use Rattle.sk_app.specs.Help.{help_text};
 ghost use Rattle.sk_app.specs.Ends.{IsDelivered, Writes, WritesPart, writes_nothing, IsToldOf};
 ghost use Rattle.sk_app.specs.Effects.{is_of_synth, TellsSpan, Serves, Answers};
 ghost use Rattle.sk_app.specs.Call.{effect, call};
 ghost use Rattle.sk_app.specs.Headline.{Headline};
 ghost use Rattle.sk_app.specs.Listings.{Listings};
-ghost use Rattle.sk_app.specs.Clauses.{TellsNoLine, NoLineEnds, TellsUnbuilt, UnbuiltEnds, TellsHelp, HelpEnds, TellsVersion, VersionEnds, TellsCompletion, TellsNone, TellsRounds, TellsConflicts, BuiltEnds, TellsNotText, PlacesNotText, FaultyEnds, TellsNotTyped, PlacesNotTyped, UntypedEnds, TellsTooLarge, LargeEnds, CopiesEnds, TellsTooLong, LongEnds, TellsDone, TellsFailed, TellsSkipped, RunEnds, TellsNotRun, TellsNotFilled, NotRunEnds, TellsLowered, KeepsTypes, LoweredEnds, TellsNotLowered, NotLoweredEnds, TellsNotTagged, NotTaggedEnds, RefusedEnds, TellsListed, ListedEnds, TellsExplained, ExplainedEnds, TellsMet, MetEnds, TellsReadFault, TellsWriteFault, CutsOutput, CutsHelp, CutsVersion, KeepsSink, ReadsFew, LeavesSource};
+ghost use Rattle.sk_app.specs.Clauses.{TellsNoLine, NoLineEnds, TellsHelp, HelpEnds, TellsVersion, VersionEnds, TellsCompletion, TellsNone, TellsRounds, TellsConflicts, BuiltEnds, SelfEnds, TellsNotText, PlacesNotText, FaultyEnds, TellsNotTyped, PlacesNotTyped, UntypedEnds, TellsTooLarge, LargeEnds, CopiesEnds, TellsTooLong, LongEnds, TellsDone, TellsFailed, TellsSkipped, RunEnds, TellsNotRun, TellsNotFilled, NotRunEnds, TellsLowered, KeepsTypes, LoweredEnds, TellsNotLowered, NotLoweredEnds, TellsNotTagged, NotTaggedEnds, RefusedEnds, TellsListed, ListedEnds, TellsExplained, ExplainedEnds, TellsMet, MetEnds, TellsAccepted, CheckedEnds, AcceptedEnds, TellsRejected, RejectedEnds, TellsNoForm, NoFormEnds, TellsLongInput, LongInputEnds, UntakenEnds, TellsReadFault, TellsWriteFault, CutsOutput, CutsHelp, CutsSummary, CutsVersion, KeepsSink, ReadsFew, LeavesSource};
 
+use crate::check::check_source;
 use crate::direct::{Job, Way, run_source};
 use crate::ending::Ending;
 use crate::help::{help, version};
+use crate::itself::summarise;
 use crate::listing::{Question, ask_source};
 use crate::lower::lower_source;
 use crate::output::deliver;
@@ -43,29 +46,31 @@ fn show_help<K: Sink>(alloc: Global, sink: &mut K) -> Ending
     }
 }
 
-/// Completes the text of the source with the options and budgets of a line, and writes the result to the sink.
+/// Completes the text of the source with the options and budgets of a line, and writes the result to the sink, with
+/// a certificate where one is asked for.
 fn synth<S: Source, K: Sink>(
     alloc: Global,
     set: &Set,
     budget: &Budget,
+    cert: bool,
     source: &mut S,
     sink: &mut K,
 ) -> Ending
     requires { IsInRanges set.now }
     ensures ends { IsTrue (is_of_synth result) }
-    ensures completed { result ≡ Ending.Completed → IfSome (S.left source.old) (λ text. Writes (IsCompletion set.now text) (K.held sink.old) (K.held sink.new)) }
-    ensures none { result ≡ Ending.NoCompletion → IfSome (S.left source.old) (λ text. Writes (IsNone set.now text) (K.held sink.old) (K.held sink.new)) }
+    ensures completed { result ≡ Ending.Completed → IfSome (S.left source.old) (λ text. Writes (IsCompletion set.now cert text) (K.held sink.old) (K.held sink.new)) }
+    ensures none { result ≡ Ending.NoCompletion → IfSome (S.left source.old) (λ text. Writes (IsNone set.now cert text) (K.held sink.old) (K.held sink.new)) }
     ensures rounds { (pairs : List Pair) (best : Option Choice) → result ≡ Ending.SpentRounds pairs best → AreSpent budget.now.rounds pairs × IfSome (S.left source.old) (λ text. Writes (IsSpentRounds set.now budget.now text pairs best) (K.held sink.old) (K.held sink.new)) }
-    ensures conflicts { (pairs : List Pair) (q : Query) (formula : Encoded) (log : List (List Lit)) (best : Option Choice) → result ≡ Ending.SpentConflicts pairs q formula log best → AreLearnt budget.now.conflicts log × IfSome (S.left source.old) (λ text. Writes (IsSpentConflicts set.now budget.now text pairs q formula log best) (K.held sink.old) (K.held sink.new)) }
+    ensures conflicts { (pairs : List Pair) (q : Query) (formula : Encoded) (log : List (List Lit)) (best : Option Choice) → result ≡ Ending.SpentConflicts pairs q formula log best → AreLearnt budget.now.conflicts log × IfSome (S.left source.old) (λ text. Writes (IsSpentConflicts set.now budget.now cert text pairs q formula log best) (K.held sink.old) (K.held sink.new)) }
     ensures told { IfSome (S.left source.old) (λ text. IsToldOf set.now text result (S.faults source.old) (S.faults source.new) (K.faults sink.old) (K.faults sink.new)) }
     ensures place { TellsSpan result (S.left source.old) }
     ensures read_fault { result ≡ Ending.ReadFault → Rose (S.faults source.old) (S.faults source.new) }
     ensures write_fault { result ≡ Ending.WriteFault → Rose (K.faults sink.old) (K.faults sink.new) }
-    ensures prefix { result ≡ Ending.WriteFault → IfSome (S.left source.old) (λ text. WritesPart (IsResult set.now budget.now text) (K.held sink.old) (K.held sink.new)) }
+    ensures prefix { result ≡ Ending.WriteFault → IfSome (S.left source.old) (λ text. WritesPart (IsResult set.now budget.now cert text) (K.held sink.old) (K.held sink.new)) }
     ensures kept { IsTrue (writes_nothing result) → K.held sink.new ≡ K.held sink.old }
-    ensures few { TakesFew (S.left source.old) (S.left source.new) }
+    ensures few { TakesFew most_bytes (S.left source.old) (S.left source.new) }
 {
-    match prepare(alloc, set, budget, source) {
+    match prepare(alloc, set, budget, cert, source) {
         Err(_) => Ending::Memory,
         Ok(Prepared::ReadFault) => Ending::ReadFault,
         Ok(Prepared::TooLong) => Ending::TooLong,
@@ -88,10 +93,7 @@ fn serve_synth<S: Source, K: Sink>(
     requires { IsInRanges set }
     ensures { Serves (line.Synth set budget cert) result (effect S.Source K.Sink source sink) }
 {
-    if cert {
-        return Ending::NotBuilt;
-    }
-    synth(alloc, &set, &budget, source, sink)
+    synth(alloc, &set, &budget, cert, source, sink)
 }
 
 /// Does what a line asks for.
@@ -120,7 +122,8 @@ fn serve<S: Source, K: Sink>(alloc: Global, line: Line, source: &mut S, sink: &m
             ask_source(alloc, &set, question, source, sink)
         }
         Line::Why { set } => ask_source(alloc, &set, Question::Why, source, sink),
-        Line::Check { .. } | Line::Itself { .. } => Ending::NotBuilt,
+        Line::Check { set } => check_source(alloc, &set, source, sink),
+        Line::Itself { n } => summarise(alloc, n, sink),
         Line::Help => show_help(alloc, sink),
         Line::Version => deliver(sink, version(), Ending::VersionShown),
     }
@@ -146,8 +149,8 @@ fn answer<S: Source, K: Sink>(
 /// completes it, and writes the result to the sink; a line `exec` runs a function of it, and writes what comes of that; a line
 /// `trace` fills it with numbers, runs a function of the filling, and writes its steps too; a line `lower` writes the plain
 /// sketch of a text with algebraic types; a line `all` lists completions of a sketch, and a line `why` writes inputs that explain why
-/// it has none; `--help` and `--version` write their texts. A line `check` or `self`, or one that asks for a certificate, ends with
-/// `NotBuilt`.
+/// it has none; a line `check` says whether a sketch and a certificate behind it belong together; `--help` and `--version` write their
+/// texts; a line `self` completes a sketch that the program makes itself, and writes a summary.
 ///
 /// What is said of the text holds where the source tells what is left, and what is said of what the sink
 /// holds where the sink tells it. Want of memory may come at any step.
@@ -167,19 +170,18 @@ pub fn run<S: Source, K: Sink>(
     // Words.
     ensures not_a_line { TellsNoLine (call S.Source K.Sink words.now result source sink) }
     ensures ends_no_line { NoLineEnds (call S.Source K.Sink words.now result source sink) }
-    ensures not_built { TellsUnbuilt (call S.Source K.Sink words.now result source sink) }
-    ensures ends_unbuilt_line { UnbuiltEnds (call S.Source K.Sink words.now result source sink) }
     ensures help { TellsHelp (call S.Source K.Sink words.now result source sink) }
     ensures ends_help { HelpEnds (call S.Source K.Sink words.now result source sink) }
     ensures version { TellsVersion (call S.Source K.Sink words.now result source sink) }
     ensures ends_version { VersionEnds (call S.Source K.Sink words.now result source sink) }
 
-    // A line `synth`.
+    // A line `synth` or `self`.
     ensures completed { TellsCompletion (call S.Source K.Sink words.now result source sink) }
     ensures none { TellsNone (call S.Source K.Sink words.now result source sink) }
     ensures spent_rounds { TellsRounds (call S.Source K.Sink words.now result source sink) }
     ensures spent_conflicts { TellsConflicts (call S.Source K.Sink words.now result source sink) }
     ensures ends_built { BuiltEnds (call S.Source K.Sink words.now result source sink) }
+    ensures ends_self { SelfEnds (call S.Source K.Sink words.now result source sink) }
 
     // Texts that are refused.
     ensures not_text { TellsNotText (call S.Source K.Sink words.now result source sink) }
@@ -221,10 +223,23 @@ pub fn run<S: Source, K: Sink>(
     ensures met { TellsMet (call S.Source K.Sink words.now result source sink) }
     ensures ends_met { MetEnds (call S.Source K.Sink words.now result source sink) }
 
+    // A line `check`.
+    ensures accepted { TellsAccepted (call S.Source K.Sink words.now result source sink) }
+    ensures ends_checked { CheckedEnds (call S.Source K.Sink words.now result source sink) }
+    ensures ends_accepted { AcceptedEnds (call S.Source K.Sink words.now result source sink) }
+    ensures rejected { TellsRejected (call S.Source K.Sink words.now result source sink) }
+    ensures ends_rejected { RejectedEnds (call S.Source K.Sink words.now result source sink) }
+    ensures not_certificate { TellsNoForm (call S.Source K.Sink words.now result source sink) }
+    ensures ends_not_certificate { NoFormEnds (call S.Source K.Sink words.now result source sink) }
+    ensures long_input { TellsLongInput (call S.Source K.Sink words.now result source sink) }
+    ensures ends_long_input { LongInputEnds (call S.Source K.Sink words.now result source sink) }
+    ensures ends_refused_input { UntakenEnds (call S.Source K.Sink words.now result source sink) }
+
     // The streams.
     ensures read_fault { TellsReadFault (call S.Source K.Sink words.now result source sink) }
     ensures write_fault { TellsWriteFault (call S.Source K.Sink words.now result source sink) }
     ensures prefix { CutsOutput (call S.Source K.Sink words.now result source sink) }
+    ensures prefix_self { CutsSummary (call S.Source K.Sink words.now result source sink) }
     ensures prefix_help { CutsHelp (call S.Source K.Sink words.now result source sink) }
     ensures prefix_version { CutsVersion (call S.Source K.Sink words.now result source sink) }
     ensures kept { KeepsSink (call S.Source K.Sink words.now result source sink) }

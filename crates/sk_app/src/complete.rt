@@ -1,21 +1,26 @@
 //! The completion of a text.
 
-ghost use Rattle.std.specs.Prelude.{ℕ, List, ◌≡◌, ◌≤◌, length, IfOk};
+ghost use Rattle.std.specs.Prelude.{ℕ, List, ◌≡◌, ◌≤◌, true, length, IfOk};
 ghost use Rattle.sk_opts.specs.Ranges.{IsInRanges};
 ghost use Rattle.sk_front.specs.Texts.{most_bytes};
 ghost use Rattle.sk_opts.specs.declared.line.Set.{Set};
 ghost use Rattle.sk_oblig.specs.Formulas.{IsAskable};
 ghost use Rattle.sk_built_laws.specs.Built.{IsReady};
+ghost use Rattle.sk_loop_laws.specs.Honest.{Honest, inputs_of};
+ghost use Rattle.sk_min_laws.specs.Best.{IsBest, NoneBelow};
+ghost use Rattle.sk_min_certificate.specs.Certifications.{FillingsFit};
+ghost use Rattle.sk_app.specs.Completing.{IsNoChoice};
 ghost use Rattle.sk_app.specs.Prepared.{IsBuilding, IsFound, IsPossible};
 
 use crate::ending::Ending;
 use crate::prepare::Found;
 use crate::result_text::{completed, spent_conflicts, spent_rounds};
-use sk_base::{Bounds, Budget};
+use sk_base::{Bounds, Budget, List};
 use sk_expand_sizes::SizeFault;
 use sk_front::{SketchFault, TextFault, sized_expansion_of};
 use sk_min::{Least, least};
-use sk_model::Expanded;
+use sk_min_certificate::{Certification, best_certification, none_certification};
+use sk_model::{Choice, Expanded, Pair};
 use sk_opts::Set;
 use sk_types_laws::TypeFault;
 use std::alloc::{AllocError, Global};
@@ -52,43 +57,139 @@ fn built(alloc: Global, set: &Set, text: &[u8]) -> Result<Building, AllocError>
     })
 }
 
+/// What is written of a choice that costs least, with a certificate. A proof may spend the budget of conflicts.
+fn certified_best(
+    alloc: Global,
+    expanded: &Expanded,
+    bounds: &Bounds,
+    budget: &Budget,
+    choice: Choice,
+    value: u64,
+    pairs: List<Pair>,
+) -> Result<Found, AllocError>
+    requires askable { IsAskable expanded.now bounds.now }
+    requires few { length expanded.now.sites ≤ 4294967296 }
+    requires fits { FillingsFit expanded.now }
+    requires honest { Honest expanded.now bounds.now pairs }
+    requires best { IsBest expanded.now bounds.now choice value }
+    requires below { NoneBelow expanded.now bounds.now (inputs_of pairs) value }
+    ensures found { (set : Set) (text : List ℕ) → IsReady set text bounds.now expanded.now → IfOk result (λ found. IsFound set budget.now true found text) }
+    ensures possible { IfOk result (IsPossible budget.now) }
+{
+    let most = budget.conflicts;
+    match best_certification(
+        alloc,
+        expanded,
+        bounds,
+        &choice,
+        value,
+        pairs.as_slice(),
+        most,
+    )? {
+        Certification::Text { out } => {
+            let ending = Ending::Completed;
+            Ok(Found::Ended { out, ending })
+        }
+        Certification::Spent {
+            query,
+            formula,
+            log,
+        } => {
+            let best = Some(choice);
+            let out = spent_conflicts(alloc, expanded, &best, most)?;
+            let ending = Ending::SpentConflicts {
+                pairs,
+                query,
+                formula,
+                log,
+                best,
+            };
+            Ok(Found::Ended { out, ending })
+        }
+    }
+}
+
+/// What is written where there is no completion, with a certificate. A proof may spend the budget of conflicts.
+fn certified_none(
+    alloc: Global,
+    expanded: &Expanded,
+    bounds: &Bounds,
+    budget: &Budget,
+    pairs: List<Pair>,
+) -> Result<Found, AllocError>
+    requires askable { IsAskable expanded.now bounds.now }
+    requires few { length expanded.now.sites ≤ 4294967296 }
+    requires honest { Honest expanded.now bounds.now pairs }
+    requires none { IsNoChoice expanded.now bounds.now (inputs_of pairs) }
+    ensures found { (set : Set) (text : List ℕ) → IsReady set text bounds.now expanded.now → IfOk result (λ found. IsFound set budget.now true found text) }
+    ensures possible { IfOk result (IsPossible budget.now) }
+{
+    let most = budget.conflicts;
+    match none_certification(alloc, expanded, bounds, pairs.as_slice(), most)? {
+        Certification::Text { out } => {
+            let ending = Ending::NoCompletion;
+            Ok(Found::Ended { out, ending })
+        }
+        Certification::Spent {
+            query,
+            formula,
+            log,
+        } => {
+            let best = None;
+            let out = spent_conflicts(alloc, expanded, &best, most)?;
+            let ending = Ending::SpentConflicts {
+                pairs,
+                query,
+                formula,
+                log,
+                best,
+            };
+            Ok(Found::Ended { out, ending })
+        }
+    }
+}
+
 /// Searches for a completion that costs least, and makes the result text.
 fn search(
     alloc: Global,
     expanded: &Expanded,
     bounds: &Bounds,
     budget: &Budget,
+    cert: bool,
 ) -> Result<Found, AllocError>
     requires askable { IsAskable expanded.now bounds.now }
     requires few { length expanded.now.sites ≤ 4294967296 }
-    ensures found { (set : Set) (text : List ℕ) → IsReady set text bounds.now expanded.now → IfOk result (λ found. IsFound set budget.now found text) }
+    requires fits { FillingsFit expanded.now }
+    ensures found { (set : Set) (text : List ℕ) → IsReady set text bounds.now expanded.now → IfOk result (λ found. IsFound set budget.now cert found text) }
     ensures possible { IfOk result (IsPossible budget.now) }
 {
     match least(alloc, expanded, bounds, budget)? {
         Least::Best {
             choice,
             value,
-            pairs: _,
+            pairs,
         } => {
+            if cert {
+                let found = certified_best(alloc, expanded, bounds, budget, choice, value, pairs)?;
+                return Ok(found);
+            }
             let out = completed(alloc, expanded, choice, value)?;
-            Ok(Found::Ended {
-                out,
-                ending: Ending::Completed,
-            })
+            let ending = Ending::Completed;
+            Ok(Found::Ended { out, ending })
         }
-        Least::Nothing { pairs: _ } => {
+        Least::Nothing { pairs } => {
+            if cert {
+                let found = certified_none(alloc, expanded, bounds, budget, pairs)?;
+                return Ok(found);
+            }
             let out = Vec::from_slice(alloc, b"//@ none\n")?;
-            Ok(Found::Ended {
-                out,
-                ending: Ending::NoCompletion,
-            })
+            let ending = Ending::NoCompletion;
+            Ok(Found::Ended { out, ending })
         }
         Least::Rounds { pairs, best } => {
             let out = spent_rounds(alloc, expanded, &best, budget.rounds, pairs.as_slice())?;
-            Ok(Found::Ended {
-                out,
-                ending: Ending::SpentRounds { pairs, best },
-            })
+            let ending = Ending::SpentRounds { pairs, best };
+            Ok(Found::Ended { out, ending })
         }
         Least::Conflicts {
             pairs,
@@ -98,25 +199,29 @@ fn search(
             best,
         } => {
             let out = spent_conflicts(alloc, expanded, &best, budget.conflicts)?;
-            Ok(Found::Ended {
-                out,
-                ending: Ending::SpentConflicts {
-                    pairs,
-                    query,
-                    formula,
-                    log,
-                    best,
-                },
-            })
+            let ending = Ending::SpentConflicts {
+                pairs,
+                query,
+                formula,
+                log,
+                best,
+            };
+            Ok(Found::Ended { out, ending })
         }
     }
 }
 
-/// Completes a text with the options and budgets of a line.
-pub fn complete(alloc: Global, set: &Set, budget: &Budget, text: &[u8]) -> Result<Found, AllocError>
+/// Completes a text with the options and budgets of a line, with a certificate or without.
+pub fn complete(
+    alloc: Global,
+    set: &Set,
+    budget: &Budget,
+    cert: bool,
+    text: &[u8],
+) -> Result<Found, AllocError>
     requires short { length text.now ≤ most_bytes }
     requires set { IsInRanges set.now }
-    ensures found { IfOk result (λ found. IsFound set.now budget.now found text.now) }
+    ensures found { IfOk result (λ found. IsFound set.now budget.now cert found text.now) }
     ensures possible { IfOk result (IsPossible budget.now) }
 {
     match built(alloc, set, text)? {
@@ -124,7 +229,7 @@ pub fn complete(alloc: Global, set: &Set, budget: &Budget, text: &[u8]) -> Resul
         Building::NotTyped(fault) => Ok(Found::NotTyped(fault)),
         Building::TooLarge(fault) => Ok(Found::TooLarge(fault)),
         Building::Whole { bounds, expanded } => {
-            let found = search(alloc, &expanded, &bounds, budget)?;
+            let found = search(alloc, &expanded, &bounds, budget, cert)?;
             Ok(found)
         }
     }

@@ -11,8 +11,9 @@ ghost use Rattle.sk_app.specs.Call.{effect};
 ghost use Rattle.sk_app.specs.Effects.{refusal, RunsText, Executes};
 
 use crate::ending::Ending;
+use crate::limits::MOST_BYTES;
 use crate::output::deliver;
-use crate::text::{Reading, read_text};
+use sk_app_reading::{Reading, read_text};
 use sk_base::{List, Name, Sink, Source};
 use sk_exec::{Executed, execute};
 use sk_front::SketchFault;
@@ -132,7 +133,7 @@ pub fn run_source<S: Source, K: Sink>(
     requires { IsInRanges set.now }
     ensures { Executes set.now job.now result (effect S.Source K.Sink source sink) }
 {
-    match read_text(alloc, source) {
+    match read_text(alloc, source, MOST_BYTES) {
         Err(_) => Ending::Memory,
         Ok(Reading::Failed) => Ending::ReadFault,
         Ok(Reading::Long) => Ending::TooLong,

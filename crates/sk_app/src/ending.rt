@@ -4,10 +4,12 @@ ghost use Rattle.std.specs.Prelude.{◌≡◌, ◌++◌, codes, IfOk, OnOk};
 ghost use Rattle.std.specs.Fmt.{decimal};
 ghost use Rattle.sk_app_texts.specs.Messages.{rule_number, refusal_status, refusal_message};
 ghost use Rattle.sk_front.specs.declared.fault.TextFault.TheVariants.{Lex, Parse};
-ghost use Rattle.sk_app.specs.Ending.{text_refusal, rule_of, type_refusal, size_refusal, exec_refusal, fill_refusal, adt_status, adt_message, tag_message, spent_status, status_of, message_of};
+ghost use Rattle.sk_app.specs.Ending.{text_refusal, rule_of, type_refusal, size_refusal, exec_refusal, fill_refusal, cert_refusal, adt_status, adt_message, tag_message, spent_status, status_of, message_of};
 
 use sk_adt::AdtFault;
 use sk_base::{List, Name, Span, push_number};
+use sk_cert::CertFault;
+use sk_check_laws::Reason;
 use sk_clause::Log;
 use sk_cnf::Encoded;
 use sk_exec::ExecFault;
@@ -24,7 +26,7 @@ use std::alloc::{AllocError, Global};
 /// How `run` ends.
 #[derive(Debug, Drop)]
 pub enum Ending {
-    /// The sink got the completed sketch.
+    /// The sink got the completed sketch; for a line `self` the summary of its sketch.
     Completed,
     /// No filling meets the harness on every input in range. The sink got a line that says so.
     NoCompletion,
@@ -65,6 +67,10 @@ pub enum Ending {
     Explained,
     /// There is a completion, and the sink got one.
     Met,
+    /// The sketch is taken, and the certificate behind it is right. The sink got a line that says so.
+    Accepted,
+    /// The certificate is rejected for this reason. The sink got a line with its number.
+    Rejected(Reason),
     /// The words are no command line.
     NotALine,
     /// The text has no tokens, or these read as no tree.
@@ -83,16 +89,16 @@ pub enum Ending {
     NotTagged {
         span: Span,
     },
+    /// What stands behind the sketch is no certificate, for this reason.
+    NotCertificate(CertFault),
     /// The source failed.
     ReadFault,
     /// The sink failed. It may hold a prefix of the result text.
     WriteFault,
-    /// The source gives more bytes than a sketch may have.
+    /// The source gives more bytes than a sketch may have, or for a line `check` than a sketch and a certificate may have.
     TooLong,
     /// Memory was wanting.
     Memory,
-    /// The line is one for which the program does nothing: `check`, `self`, or one that asks for a certificate.
-    NotBuilt,
 }
 
 /// The status with which the program ends. It takes no memory.
@@ -104,6 +110,9 @@ pub fn status(ending: &Ending) -> u8
         Ending::ExecDone | Ending::Lowered => 0,
         Ending::Listed | Ending::Explained => 0,
         Ending::Met => 7,
+        Ending::Accepted => 0,
+        Ending::Rejected(_) => 6,
+        Ending::NotCertificate(fault) => cert_status(*fault),
         Ending::ExecFailed { span: _ } => 4,
         Ending::ExecSkipped { span: _ } => 5,
         Ending::NoCompletion => 1,
@@ -127,7 +136,6 @@ pub fn status(ending: &Ending) -> u8
         Ending::NotFilled(fault) => fill_status(*fault),
         Ending::NotLowered(reason) => adt_status(*reason),
         Ending::NotTagged { span: _ } => 23,
-        Ending::NotBuilt => 20,
     }
 }
 
@@ -152,6 +160,8 @@ pub fn message(alloc: Global, ending: &Ending) -> Result<Name, AllocError>
         } => said(alloc, b""),
         Ending::Lowered => said(alloc, b""),
         Ending::Listed | Ending::Explained | Ending::Met => said(alloc, b""),
+        Ending::Accepted | Ending::Rejected(_) => said(alloc, b""),
+        Ending::NotCertificate(fault) => cert_message(alloc, *fault),
         Ending::NotALine => said(alloc, b"usage"),
         Ending::NotText(fault) => text_message(alloc, fault),
         Ending::NotTyped(fault) => type_message(alloc, fault),
@@ -164,7 +174,6 @@ pub fn message(alloc: Global, ending: &Ending) -> Result<Name, AllocError>
         Ending::WriteFault => said(alloc, b"write fault"),
         Ending::TooLong => said(alloc, b"too long"),
         Ending::Memory => said(alloc, b"no memory"),
-        Ending::NotBuilt => said(alloc, b"not built"),
     }
 }
 
@@ -208,6 +217,36 @@ fn fill_message(alloc: Global, fault: FillFault) -> Result<Name, AllocError>
         FillFault::OutOfRange { site: _ } => said(alloc, b"fill OutOfRange"),
         FillFault::Memory => said(alloc, b"no memory"),
     }
+}
+
+// The status where what stands behind a sketch is no certificate. Want of memory is no such.
+fn cert_status(fault: CertFault) -> u8
+    ensures { result ≡ refusal_status (cert_refusal fault) }
+{
+    match fault {
+        CertFault::Memory => 17,
+        _ => 19,
+    }
+}
+
+fn cert_message(alloc: Global, fault: CertFault) -> Result<Name, AllocError>
+    ensures { IfOk result (λ name. name ≡ refusal_message (cert_refusal fault)) }
+{
+    match fault {
+        CertFault::NoForm { line } => departing(alloc, b"NoForm", line),
+        CertFault::Version { line } => departing(alloc, b"Version", line),
+        CertFault::Memory => said(alloc, b"no memory"),
+    }
+}
+
+// What is wrong with a text that is no certificate, and the line.
+fn departing(alloc: Global, name: &[u8], line: u32) -> Result<Name, AllocError>
+    ensures { IfOk result (λ text. text ≡ codes "certificate " ++ name.now ++ codes " " ++ decimal line) }
+{
+    let mut out = Vec::from_slice(alloc, b"certificate ")?;
+    out.extend_from_slice(name)?;
+    push_spaced(&mut out, line)?;
+    Ok(Name::from_vec(out))
 }
 
 // The status where a text has no plain form. Want of memory is no such.

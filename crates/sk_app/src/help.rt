@@ -17,6 +17,8 @@ sketch trace [OPTION].. NAME VALUE.. < SKETCH  writes each step of that run, in 
 sketch lower [OPTION].. < TEXT                 writes the plain sketch of a text with algebraic types
 sketch all [OPTION].. K < SKETCH               writes the hole values of up to K completions
 sketch why [OPTION].. < SKETCH                 writes inputs that leave no completion, or //@ met
+sketch check [OPTION].. < INPUT                judges what synth --cert wrote, behind the sketch and a line //%%
+sketch self N                                  completes a sketch of its own, and writes a summary
 sketch --help                                  writes this help
 sketch --version                               writes the version
 
@@ -30,6 +32,7 @@ An option is --name N or --name=N, and stands once.
   --rounds           0 to 1000000, else 0     inputs that speak against choices; 0 is no limit
   --conflicts        0 to 1000000000, else 0  clauses learnt in one call; 0 is no limit
   --holes            N,N.., else none         what trace puts in for the sites, as in a line //@ holes
+  --cert             no value                 puts a certificate behind what synth writes
 "
 }
 
@@ -40,12 +43,13 @@ fn statuses() -> &'static [u8]
     b"
 It ends with one of these, and from 10 on says more on standard error.
 
-   0  completed, or the run is done, or what lower, all or why found is written
+   0  completed, or accepted, or the run is done, or what lower, all or why found is written
    1  no completion meets the harnesses and references on every input
    2  a budget is spent, and no completion is known
    3  a budget is spent; the completion may not cost least
    4  the run failed
    5  the run was skipped
+   6  check rejects the certificate
    7  why found a completion
   10  the words are no command line
   11  the text has no tokens, or reads as no program
@@ -53,10 +57,10 @@ It ends with one of these, and from 10 on says more on standard error.
   13  its program is too large
   14  standard input failed
   15  standard output failed
-  16  the text has more than 1048576 bytes
+  16  the sketch has more than 1048576 bytes, or the input of check more than 67108864
   17  out of memory
   18  the function cannot be run
-  20  not built: a line with check, self or --cert
+  19  behind the sketch stands no certificate
   21  algebraic types of the text have no plain form
   22  the numbers of --holes do not fill the sketch
   23  a variable is used otherwise than as its variant

@@ -9,9 +9,10 @@ ghost use Rattle.sk_app.specs.Effects.{RepliesTo, Asks};
 
 use crate::direct::refusal;
 use crate::ending::Ending;
+use crate::limits::MOST_BYTES;
 use crate::output::deliver;
-use crate::text::{Reading, read_text};
 use sk_all_text::{Reasons, all_text, why_text};
+use sk_app_reading::{Reading, read_text};
 use sk_base::{Sink, Source};
 use sk_opts::Set;
 use std::alloc::Global;
@@ -57,7 +58,7 @@ pub fn ask_source<S: Source, K: Sink>(
     requires some { AsksForSome question }
     ensures { Asks set.now question result (effect S.Source K.Sink source sink) }
 {
-    match read_text(alloc, source) {
+    match read_text(alloc, source, MOST_BYTES) {
         Err(_) => Ending::Memory,
         Ok(Reading::Failed) => Ending::ReadFault,
         Ok(Reading::Long) => Ending::TooLong,

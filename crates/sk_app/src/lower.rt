@@ -8,9 +8,10 @@ ghost use Rattle.sk_app.specs.Effects.{LowersText, Lowers};
 
 use crate::direct::refusal;
 use crate::ending::Ending;
+use crate::limits::MOST_BYTES;
 use crate::output::deliver;
-use crate::text::{Reading, read_text};
 use sk_adt_text::{Lowering, lowered_text};
+use sk_app_reading::{Reading, read_text};
 use sk_base::{Sink, Source};
 use sk_opts::Set;
 use std::alloc::Global;
@@ -39,7 +40,7 @@ pub fn lower_source<S: Source, K: Sink>(
     requires { IsInRanges set.now }
     ensures { Lowers set.now result (effect S.Source K.Sink source sink) }
 {
-    match read_text(alloc, source) {
+    match read_text(alloc, source, MOST_BYTES) {
         Err(_) => Ending::Memory,
         Ok(Reading::Failed) => Ending::ReadFault,
         Ok(Reading::Long) => Ending::TooLong,

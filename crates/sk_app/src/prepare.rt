@@ -1,13 +1,15 @@
 //! What is to be written, or why nothing is.
 
 ghost use Rattle.std.specs.Prelude.{IfOk};
+ghost use Rattle.sk_front.specs.Texts.{most_bytes};
 ghost use Rattle.sk_opts.specs.Ranges.{IsInRanges};
-ghost use Rattle.sk_app.specs.Streams.{TakesFew};
+ghost use Rattle.sk_app_reading.specs.Streams.{TakesFew};
 ghost use Rattle.sk_app.specs.Prepared.{IsPrepared};
 
 use crate::complete::complete;
 use crate::ending::Ending;
-use crate::text::{Reading, read_text};
+use crate::limits::MOST_BYTES;
+use sk_app_reading::{Reading, read_text};
 use sk_base::{Budget, Source};
 use sk_expand_sizes::SizeFault;
 use sk_front::TextFault;
@@ -36,22 +38,23 @@ pub enum Prepared {
     Found(Found),
 }
 
-/// Reads the text, and completes it with the options and budgets of a line.
+/// Reads the text, and completes it with the options and budgets of a line, with a certificate or without.
 pub fn prepare<S: Source>(
     alloc: Global,
     set: &Set,
     budget: &Budget,
+    cert: bool,
     source: &mut S,
 ) -> Result<Prepared, AllocError>
     requires { IsInRanges set.now }
-    ensures cause { IfOk result (λ prepared. IsPrepared set.now budget.now prepared (S.faults source.old) (S.faults source.new) (S.left source.old)) }
-    ensures few { TakesFew (S.left source.old) (S.left source.new) }
+    ensures cause { IfOk result (λ prepared. IsPrepared set.now budget.now cert prepared (S.faults source.old) (S.faults source.new) (S.left source.old)) }
+    ensures few { TakesFew most_bytes (S.left source.old) (S.left source.new) }
 {
-    match read_text(alloc, source)? {
+    match read_text(alloc, source, MOST_BYTES)? {
         Reading::Failed => Ok(Prepared::ReadFault),
         Reading::Long => Ok(Prepared::TooLong),
         Reading::Whole(text) => {
-            let found = complete(alloc, set, budget, text.as_slice())?;
+            let found = complete(alloc, set, budget, cert, text.as_slice())?;
             Ok(Prepared::Found(found))
         }
     }

@@ -18,7 +18,7 @@ fn push_bit(out: &mut Vec<u8>, bit: bool) -> Result<(), AllocError>
     Ok(())
 }
 
-/// Appends how a value is spelt.
+/// Appends how a value is spelt. After a refusal what was written is given up with the call that writes it.
 #[cycle(push_value)]
 pub fn push_value(out: &mut Vec<u8>, value: &Value) -> Result<(), AllocError>
     ensures { OnOk result (out.new.items ≡ out.old.items ++ value_text value.now) }
@@ -145,7 +145,7 @@ fn push_done(
     Ok(())
 }
 
-/// Appends what is written of a run of a function.
+/// Appends what is written of a run of a function. After a refusal what was written is given up with the call that writes it.
 pub fn push_run(out: &mut Vec<u8>, fun: &Fun, outcome: &Outcome) -> Result<(), AllocError>
     ensures { OnOk result (out.new.items ≡ out.old.items ++ run_text fun.now outcome.now) }
 {

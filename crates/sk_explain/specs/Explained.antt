@@ -73,7 +73,9 @@ span_of ending.ReadFault = None
 span_of ending.WriteFault = None
 span_of ending.TooLong = None
 span_of ending.Memory = None
-span_of ending.NotBuilt = None
+span_of ending.Accepted = None
+span_of (ending.Rejected why) = None
+span_of (ending.NotCertificate fault) = None
 
 -- Explanations
 

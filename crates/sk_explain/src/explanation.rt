@@ -2,6 +2,7 @@
 ghost use Rattle.std.specs.Prelude.{◌≡◌, ◌++◌, IfOk, OnOk};
 ghost use Rattle.sk_explain.specs.Explained.{point, lex_span, parse_span, adt_span, some_span, span_of, IsShown, IsSpot, IsExplanation, head_text, shown_text, title_text, layout, IsExplained};
 
+use crate::certificates::{tell_not_certificate, tell_rejected};
 use sk_adt::AdtFault;
 use sk_app::{Ending, TextFault};
 use sk_base::{Name, Span};
@@ -11,7 +12,7 @@ use sk_explain_causes::{
     tell_not_lowered, tell_not_run, tell_not_tagged, tell_size, tell_skipped, tell_spent,
     tell_text, tell_type,
 };
-use sk_explain_notes::{Note, Told, tell_not_built, tell_words};
+use sk_explain_notes::{Note, Told, tell_words};
 use sk_explain_places::{Spot, push_excerpt, push_place, spot_of};
 use sk_lexer::LexFault;
 use sk_parser::ParseFault;
@@ -92,11 +93,8 @@ fn span_of(ending: &Ending) -> Option<Span>
         Ending::SpentRounds { .. } | Ending::SpentConflicts { .. } | Ending::ExecDone => None,
         Ending::Lowered | Ending::Listed | Ending::Explained | Ending::Met => None,
         Ending::NotALine | Ending::TooLarge(_) | Ending::NotRun(_) | Ending::NotFilled(_) => None,
-        Ending::NotBuilt
-        | Ending::ReadFault
-        | Ending::WriteFault
-        | Ending::TooLong
-        | Ending::Memory => None,
+        Ending::Accepted | Ending::Rejected(_) | Ending::NotCertificate(_) => None,
+        Ending::ReadFault | Ending::WriteFault | Ending::TooLong | Ending::Memory => None,
     }
 }
 
@@ -167,7 +165,9 @@ fn tell_memory(told: &mut Told) -> Result<(), AllocError> {
 }
 
 fn tell_too_long(told: &mut Told) -> Result<(), AllocError> {
-    told.title(&[b"the text has more than 1048576 bytes"])
+    told.title(&[
+        b"the sketch has more than 1048576 bytes, or the input of check more than 67108864",
+    ])
 }
 
 // Tells of an ending that is no search.
@@ -195,12 +195,13 @@ fn tell_refusal(
         }
         Ending::TooLong => tell_too_long(told),
         Ending::Memory => tell_memory(told),
-        Ending::NotBuilt => tell_not_built(told, words),
+        Ending::Rejected(reason) => tell_rejected(told, reason),
+        Ending::NotCertificate(fault) => tell_not_certificate(alloc, told, *fault),
         Ending::ExecDone => push_passed_over(alloc, told, text),
         Ending::Lowered => push_not_written(alloc, told, text),
         Ending::Completed | Ending::NoCompletion | Ending::HelpShown => Ok(()),
         Ending::SpentRounds { .. } | Ending::SpentConflicts { .. } | Ending::VersionShown => Ok(()),
-        Ending::Listed | Ending::Explained | Ending::Met => Ok(()),
+        Ending::Listed | Ending::Explained | Ending::Met | Ending::Accepted => Ok(()),
     }
 }
 
@@ -215,7 +216,8 @@ fn is_search(ending: &Ending) -> bool {
         Ending::NotText(_) | Ending::NotTyped(_) | Ending::TooLarge(_) => false,
         Ending::NotRun(_) | Ending::NotFilled(_) | Ending::NotLowered(_) => false,
         Ending::NotTagged { .. } | Ending::ReadFault => false,
-        Ending::WriteFault | Ending::TooLong | Ending::Memory | Ending::NotBuilt => false,
+        Ending::Accepted | Ending::Rejected(_) | Ending::NotCertificate(_) => false,
+        Ending::WriteFault | Ending::TooLong | Ending::Memory => false,
     }
 }
 

@@ -1,6 +1,7 @@
 //! What there is to tell people of how the program ended: lines for standard error, behind the message.
 #![tactic(auto)]
 
+mod certificates;
 mod explanation;
 mod kept;
 

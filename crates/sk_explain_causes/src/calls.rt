@@ -58,7 +58,8 @@ fn tell_no_function(
     }
 }
 
-/// Appends words and the place of a part of a text to the notes.
+/// Appends words and the place of a part of a text to the notes. After a refusal title and notes are given up: nothing is
+/// told.
 pub fn push_part(told: &mut Told, text: &[u8], words: &[u8], span: Span) -> Result<(), AllocError>
     ensures { told.new.title ≡ told.old.title }
 {
@@ -288,7 +289,7 @@ fn call_of<'a>(name: &'a Name, values: &'a [Name], is_filled: bool) -> Called<'a
     }
 }
 
-/// Tells why no function of a text is run.
+/// Tells why no function of a text is run. After a refusal title and notes are given up: nothing is told.
 pub fn tell_not_run(
     alloc: Global,
     told: &mut Told,

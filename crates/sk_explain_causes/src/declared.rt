@@ -205,7 +205,7 @@ fn is_called(tokens: &[Token]) -> bool {
 }
 
 /// Tells of the words of a span, in order, as what each is declared and where: of those that are declared once in the whole
-/// text, four at most.
+/// text, four at most. After a refusal title and notes are given up: nothing is told.
 pub fn push_declarations(
     alloc: Global,
     told: &mut Told,

@@ -70,7 +70,8 @@ fn tell_fault(
     }
 }
 
-/// Tells why the numbers of a line do not fill the sketch of a text. Want of memory has an ending of its own.
+/// Tells why the numbers of a line do not fill the sketch of a text. Want of memory has an ending of its own. After a refusal
+/// title and notes are given up: nothing is told.
 pub fn tell_not_filled(
     alloc: Global,
     told: &mut Told,

@@ -94,7 +94,8 @@ fn byte_of(fault: AdtFault) -> u32 {
     }
 }
 
-/// Tells why a text has no plain form. Want of memory has an ending of its own.
+/// Tells why a text has no plain form. Want of memory has an ending of its own. After a refusal title and notes are given up:
+/// nothing is told.
 pub fn tell_not_lowered(
     alloc: Global,
     told: &mut Told,
@@ -157,7 +158,8 @@ fn broken_at(tokens: &[Token], span: Span) -> Broken {
     Broken::Member
 }
 
-/// Tells which rule of tags the plain form of a text breaks at a span.
+/// Tells which rule of tags the plain form of a text breaks at a span. After a refusal title and notes are given up: nothing
+/// is told.
 pub fn tell_not_tagged(
     alloc: Global,
     told: &mut Told,
@@ -168,7 +170,7 @@ pub fn tell_not_tagged(
     tell_broken(told, broken_at(tokens.as_slice(), span))
 }
 
-/// Tells what of a text is not written with its plain form.
+/// Tells what of a text is not written with its plain form. After a refusal title and notes are given up: nothing is told.
 pub fn push_not_written(alloc: Global, told: &mut Told, text: &[u8]) -> Result<(), AllocError>
     ensures { told.new.title ≡ told.old.title }
 {

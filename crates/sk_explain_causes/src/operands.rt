@@ -60,7 +60,8 @@ fn only_operator(tokens: &[Token], span: Span) -> Option<&Token> {
     only
 }
 
-/// Tells what the operands of the operator of a span are, where the span has one operator alone.
+/// Tells what the operands of the operator of a span are, where the span has one operator alone. After a refusal title and
+/// notes are given up: nothing is told.
 pub fn push_operands(
     told: &mut Told,
     text: &[u8],

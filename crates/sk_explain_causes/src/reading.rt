@@ -73,7 +73,8 @@ const MOST_TRIED: usize = 65_536;
 // Parts nest 256 deep with more tokens than these alone.
 const FEW_TOKENS: usize = 50;
 
-/// Tells of a fault of the bytes of a text. Want of memory has an ending of its own.
+/// Tells of a fault of the bytes of a text. Want of memory has an ending of its own. After a refusal the notes are as they
+/// were (`notes`), and the title is given up: nothing is told.
 pub fn tell_lex(told: &mut Told, text: &[u8], fault: &LexFault) -> Result<(), AllocError>
     ensures title { OnOk result (told.new.title.bytes.items ≡ told.old.title.bytes.items ++ lex_title text.now fault.now) }
     ensures notes { told.new.notes ≡ told.old.notes }
@@ -324,7 +325,8 @@ fn tell_parse(
     }
 }
 
-/// Tells what is wrong with a text, for a line with these words.
+/// Tells what is wrong with a text, for a line with these words. After a refusal title and notes are given up: nothing is
+/// told.
 pub fn tell_text(
     alloc: Global,
     told: &mut Told,

@@ -56,7 +56,8 @@ fn push_items(told: &mut Told, tree: &Tree) -> Result<(), AllocError>
     Ok(())
 }
 
-/// Warns of each function with a result whose runs can come to the end of its body.
+/// Warns of each function with a result whose runs can come to the end of its body. After a refusal title and notes are given
+/// up: nothing is told.
 pub fn push_unreturned(alloc: Global, told: &mut Told, tokens: &[Token]) -> Result<(), AllocError>
     ensures { told.new.title ≡ told.old.title }
 {

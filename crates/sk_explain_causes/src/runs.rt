@@ -233,7 +233,7 @@ fn bounds_of(alloc: Global, words: &[String], text: &[u8]) -> Result<Bounds, All
     }
 }
 
-/// Tells what may have failed at the statement of a span.
+/// Tells what may have failed at the statement of a span. After a refusal title and notes are given up: nothing is told.
 pub fn tell_failed(
     alloc: Global,
     told: &mut Told,
@@ -251,7 +251,8 @@ pub fn tell_failed(
     push_perils(&mut causes, perils_of(own_tokens(tokens, form)), &bounds)
 }
 
-/// Tells why a run was skipped.
+/// Tells why a run was skipped. After a refusal the notes are as they were (`notes`), and the title is given up: nothing is
+/// told.
 pub fn tell_skipped(told: &mut Told) -> Result<(), AllocError>
     ensures title { OnOk result (told.new.title.bytes.items ≡ told.old.title.bytes.items ++ skipped_title) }
     ensures notes { told.new.notes ≡ told.old.notes }

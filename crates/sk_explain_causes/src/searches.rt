@@ -165,7 +165,8 @@ fn push_pragmas(
     Ok(())
 }
 
-/// Warns of a text that was run or searched: what its pragmas pass over, and which functions end without a result.
+/// Warns of a text that was run or searched: what its pragmas pass over, and which functions end without a result. After a
+/// refusal title and notes are given up: nothing is told.
 pub fn push_passed_over(alloc: Global, told: &mut Told, text: &[u8]) -> Result<(), AllocError>
     ensures { told.new.title ≡ told.old.title }
 {
@@ -174,7 +175,8 @@ pub fn push_passed_over(alloc: Global, told: &mut Told, text: &[u8]) -> Result<(
     push_unreturned(alloc, told, tokens.as_slice())
 }
 
-/// Warns of a text that a search ended on: that nothing was asked, and what it passes over.
+/// Warns of a text that a search ended on: that nothing was asked, and what it passes over. After a refusal title and notes
+/// are given up: nothing is told.
 pub fn push_warnings(alloc: Global, told: &mut Told, text: &[u8]) -> Result<(), AllocError>
     ensures { told.new.title ≡ told.old.title }
 {
@@ -186,7 +188,7 @@ pub fn push_warnings(alloc: Global, told: &mut Told, text: &[u8]) -> Result<(), 
     push_passed_over(alloc, told, text)
 }
 
-/// Tells that no completion meets what is asked.
+/// Tells that no completion meets what is asked. After a refusal title and notes are given up: nothing is told.
 pub fn tell_none(told: &mut Told) -> Result<(), AllocError>
     ensures title { OnOk result (told.new.title.bytes.items ≡ told.old.title.bytes.items ++ none_title) }
     ensures notes { OnOk result (told.new.notes.bytes.items ≡ told.old.notes.bytes.items ++ none_notes) }
@@ -210,7 +212,7 @@ fn spent_phrase(is_known: bool) -> &'static [u8]
     }
 }
 
-/// Tells that a budget is spent.
+/// Tells that a budget is spent. After a refusal title and notes are given up: nothing is told.
 pub fn tell_spent(told: &mut Told, option: &[u8], is_known: bool) -> Result<(), AllocError>
     ensures title { OnOk result (told.new.title.bytes.items ≡ told.old.title.bytes.items ++ spent_title option.now) }
     ensures notes { OnOk result (told.new.notes.bytes.items ≡ told.old.notes.bytes.items ++ spent_notes is_known) }

@@ -7,7 +7,8 @@ use sk_expand_sizes::SizeFault;
 use sk_explain_notes::Told;
 use std::alloc::AllocError;
 
-/// Tells which limit an expansion passes, and what drives the count. Want of memory has an ending of its own.
+/// Tells which limit an expansion passes, and what drives the count. Want of memory has an ending of its own. After a refusal
+/// title and notes are given up: nothing is told.
 pub fn tell_size(told: &mut Told, reason: SizeFault) -> Result<(), AllocError>
     ensures title { OnOk result (told.new.title.bytes.items ≡ told.old.title.bytes.items ++ size_title reason) }
     ensures notes { OnOk result (told.new.notes.bytes.items ≡ told.old.notes.bytes.items ++ size_notes reason) }

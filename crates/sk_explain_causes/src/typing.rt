@@ -169,7 +169,7 @@ fn push_field(alloc: Global, told: &mut Told, words: &[String]) -> Result<(), Al
     Ok(())
 }
 
-/// Tells which rule a text breaks.
+/// Tells which rule a text breaks. After a refusal title and notes are given up: nothing is told.
 pub fn tell_type(
     alloc: Global,
     told: &mut Told,

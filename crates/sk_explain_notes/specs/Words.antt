@@ -208,29 +208,3 @@ words_title words = slip_title (slip_of words).slip (slip_of words).word
 
 abbrev pub words_notes : List (List ℕ) → List ℕ
 words_notes words = slip_notes (slip_of words).slip (slip_of words).word
-
--- What the program does not do
-
-abbrev pub first_word : List (List ℕ) → List ℕ
-first_word [] = []
-first_word (word ∷ words) = word
-
-abbrev pub no_certificates : List ℕ
-no_certificates = one (codes "this program writes no certificates: leave --cert out")
-
-abbrev pub not_done : List ℕ → List ℕ
-not_done word = said (codes "'" ∷ word ∷ codes "' is a command that this program does not do" ∷ [])
-
-abbrev pub undone_title : Option Command → List ℕ → List ℕ
-undone_title None word = no_certificates
-undone_title (Some command.Check) word = not_done word
-undone_title (Some command.Itself) word = not_done word
-undone_title (Some command.Synth) word = no_certificates
-undone_title (Some command.Exec) word = no_certificates
-undone_title (Some command.Trace) word = no_certificates
-undone_title (Some command.Lower) word = no_certificates
-undone_title (Some command.All) word = no_certificates
-undone_title (Some command.Why) word = no_certificates
-
-abbrev pub not_built_title : List (List ℕ) → List ℕ
-not_built_title words = undone_title (command_of (first_word words)) (first_word words)

@@ -11,4 +11,4 @@ mod words;
 pub use near::{near_by, nearest};
 pub use note::{Note, Told};
 pub use options::{CHOICES, Choice, Command, Range, Takes};
-pub use words::{tell_not_built, tell_words};
+pub use words::tell_words;

@@ -55,7 +55,8 @@ impl Note {
         Ok(())
     }
 
-    /// Appends a word: a question mark for each byte that is no printable ASCII.
+    /// Appends a word: a question mark for each byte that is no printable ASCII. After a refusal the note is given up: nothing
+    /// is told.
     pub fn word(&mut self, word: &[u8]) -> Result<(), AllocError>
         ensures { OnOk result (self.new.bytes.items ≡ self.old.bytes.items ++ map plain word.now) }
     {
@@ -65,7 +66,7 @@ impl Note {
         Ok(())
     }
 
-    /// Appends words, one directly behind another.
+    /// Appends words, one directly behind another. After a refusal the note is given up: nothing is told.
     pub fn say(&mut self, words: &[&[u8]]) -> Result<(), AllocError>
         ensures { OnOk result (self.new.bytes.items ≡ self.old.bytes.items ++ flat_map (λ word. map plain word.now) words.now) }
     {
@@ -75,7 +76,7 @@ impl Note {
         Ok(())
     }
 
-    /// Appends a number in decimal.
+    /// Appends a number in decimal. After a refusal the note is given up: nothing is told.
     #[tactic(auto, using(crate::proofs::NoteLemmas::plain_decimal))]
     pub fn number(&mut self, number: u64) -> Result<(), AllocError>
         ensures { OnOk result (self.new.bytes.items ≡ self.old.bytes.items ++ decimal number) }
@@ -85,7 +86,7 @@ impl Note {
         Ok(())
     }
 
-    /// Appends the numbers of a place, as `LINE:COLUMN`.
+    /// Appends the numbers of a place, as `LINE:COLUMN`. After a refusal the note is given up: nothing is told.
     pub fn place(&mut self, place: Place) -> Result<(), AllocError>
         ensures { OnOk result (self.new.bytes.items ≡ self.old.bytes.items ++ place_text place) }
     {
@@ -95,14 +96,14 @@ impl Note {
         Ok(())
     }
 
-    /// Ends a line.
+    /// Ends a line. After a refusal the note is given up: nothing is told.
     pub fn end(&mut self) -> Result<(), AllocError>
         ensures { OnOk result (self.new.bytes.items ≡ self.old.bytes.items ++ 10 ∷ []) }
     {
         self.put(b'\n')
     }
 
-    /// Appends words, and ends the line.
+    /// Appends words, and ends the line. After a refusal the note is given up: nothing is told.
     pub fn line(&mut self, words: &[&[u8]]) -> Result<(), AllocError>
         ensures { OnOk result (self.new.bytes.items ≡ self.old.bytes.items ++ flat_map (λ word. map plain word.now) words.now ++ 10 ∷ []) }
     {
@@ -131,7 +132,8 @@ impl Told {
         }
     }
 
-    /// Appends words to the title.
+    /// Appends words to the title. After a refusal the notes are as they were (`notes`), and the title is given up: nothing is
+    /// told.
     pub fn title(&mut self, words: &[&[u8]]) -> Result<(), AllocError>
         ensures title { OnOk result (self.new.title.bytes.items ≡ self.old.title.bytes.items ++ flat_map (λ word. map plain word.now) words.now) }
         ensures notes { self.new.notes ≡ self.old.notes }
@@ -140,7 +142,8 @@ impl Told {
         Ok(())
     }
 
-    /// Appends a line to the notes.
+    /// Appends a line to the notes. After a refusal the title is as it was (`title`), and the notes are given up: nothing is
+    /// told.
     pub fn note(&mut self, words: &[&[u8]]) -> Result<(), AllocError>
         ensures notes { OnOk result (self.new.notes.bytes.items ≡ self.old.notes.bytes.items ++ flat_map (λ word. map plain word.now) words.now ++ 10 ∷ []) }
         ensures title { self.new.title ≡ self.old.title }

@@ -5,7 +5,7 @@ ghost use Rattle.std.specs.String.{string_bytes};
 ghost use Rattle.sk_explain_notes.specs.Near.{nearest};
 ghost use Rattle.sk_explain_notes.specs.Options.{choice_name, command_has};
 ghost use Rattle.sk_explain_notes.specs.declared.slips.Slip.TheVariants as slip;
-ghost use Rattle.sk_explain_notes.specs.Words.{command_lines, one_number, listing_notes, usage, question, command_names, names_of, no_command_title, no_others, wants_number, unknown_notes, value_title, value_notes, early_title, is_below_zero, takes_values, is_value, range_text, takes_text, wants_text, not_text, unknown_title, no_option_title, extra_words, extra_title, missing_title, slip_title, alone_notes, no_option_notes, input_notes, extra_notes, missing_notes, slip_notes, words_title, words_notes, first_word, not_built_title};
+ghost use Rattle.sk_explain_notes.specs.Words.{command_lines, one_number, listing_notes, usage, question, command_names, names_of, no_command_title, no_others, wants_number, unknown_notes, value_title, value_notes, early_title, is_below_zero, takes_values, is_value, range_text, takes_text, wants_text, not_text, unknown_title, no_option_title, extra_words, extra_title, missing_title, slip_title, alone_notes, no_option_notes, input_notes, extra_notes, missing_notes, slip_notes, words_title, words_notes};
 
 use crate::near::nearest;
 use crate::note::Told;
@@ -451,7 +451,7 @@ fn tell_not_alone(told: &mut Told, word: &[u8]) -> Result<(), AllocError>
     }
 }
 
-/// Tells why words are no command line.
+/// Tells why words are no command line. After a refusal title and notes are given up: nothing is told.
 pub fn tell_words(alloc: Global, told: &mut Told, words: &[String]) -> Result<(), AllocError>
     ensures title { OnOk result (told.new.title.bytes.items ≡ told.old.title.bytes.items ++ words_title (map string_bytes words.now)) }
     ensures notes { OnOk result (told.new.notes.bytes.items ≡ told.old.notes.bytes.items ++ words_notes (map string_bytes words.now)) }
@@ -546,41 +546,5 @@ fn tell_slip(alloc: Global, told: &mut Told, slip: Slip, word: &[u8]) -> Result<
             push_usage(told)?;
             Ok(())
         }
-    }
-}
-
-/// Tells what of a line the program does not do.
-pub fn tell_not_built(told: &mut Told, words: &[String]) -> Result<(), AllocError>
-    ensures title { OnOk result (told.new.title.bytes.items ≡ told.old.title.bytes.items ++ not_built_title (map string_bytes words.now)) }
-    ensures notes { told.new.notes ≡ told.old.notes }
-{
-    let first = first_word(words);
-    match Command::of(first) {
-        Some(Command::Check | Command::Itself) => {
-            told.title(&[b"'", first, b"' is a command that this program does not do"])?;
-            Ok(())
-        }
-        Some(
-            Command::Synth
-            | Command::Exec
-            | Command::Trace
-            | Command::Lower
-            | Command::All
-            | Command::Why,
-        )
-        | None => {
-            told.title(&[b"this program writes no certificates: leave --cert out"])?;
-            Ok(())
-        }
-    }
-}
-
-// The first of some words; no bytes where there is none.
-fn first_word<'a>(words: &'a [String]) -> &'a [u8]
-    ensures { result.now ≡ first_word (map string_bytes words.now) }
-{
-    match words.split_first() {
-        Some((word, _)) => word.as_bytes(),
-        None => b"",
     }
 }

@@ -43,7 +43,7 @@ impl Met {
         }
     }
 
-    /// Notes that a function is called.
+    /// Notes that a function is called. After a refusal what was met is given up with the walk that holds it.
     pub fn call(&mut self, f: u32) -> Result<(), AllocError>
         ensures called { OnOk result (self.new.called ≡ self.old.called ++ f ∷ []) }
         ensures payments { OnOk result (self.new.payments ≡ self.old.payments) }
@@ -52,7 +52,7 @@ impl Met {
         Ok(())
     }
 
-    /// Notes what a minrepeat pays.
+    /// Notes what a minrepeat pays. After a refusal what was met is given up with the walk that holds it.
     pub fn pay(&mut self, span: Span, amount: u32) -> Result<(), AllocError>
         ensures called { OnOk result (self.new.called ≡ self.old.called) }
         ensures payments { OnOk result (self.new.payments ≡ self.old.payments ++ record { span = span; amount = amount } ∷ []) }

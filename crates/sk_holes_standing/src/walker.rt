@@ -417,7 +417,8 @@ impl Walker<'_> {
         }
     }
 
-    /// Statements that stand, one after another.
+    /// Statements that stand, one after another. After a refusal the place and what was met are given up with the walk that
+    /// holds them.
     #[cycle(stmt)]
     pub fn stmts(&self, at: &mut usize, met: &mut Met, ss: &[PStmt]) -> Result<(), AllocError>
         requires { Has self.now at.old ((stmts self.now ss.now).count) }

@@ -39,7 +39,7 @@ impl Log {
     ///
     /// # Errors
     ///
-    /// Where memory is wanting.
+    /// Where memory is wanting. After a refusal the log is given up with the run that it is of.
     pub fn keep(&mut self, step: Step) -> Result<(), AllocError>
         ensures { OnOk result (self.new ≡ kept self.old step) }
     {

@@ -131,7 +131,7 @@ impl Checker {
         })
     }
 
-    /// Takes a clause among the known ones.
+    /// Takes a clause among the known ones. After a refusal the checker is given up with the check of the log that holds it.
     pub fn add(&mut self, clause: &[Lit]) -> Result<(), AllocError>
         requires ready { IsReady self.old }
         requires within { IsWithin (length self.old.trail.values.items) clause.now }
@@ -148,7 +148,8 @@ impl Checker {
         Ok(())
     }
 
-    /// Whether a clause follows from the known ones.
+    /// Whether a clause follows from the known ones. After a refusal the checker is given up with the check of the log that
+    /// holds it.
     pub fn follows(&mut self, clause: &[Lit]) -> Result<bool, AllocError>
         requires ready { IsReady self.old }
         requires within { IsWithin (length self.old.trail.values.items) clause.now }

@@ -142,7 +142,7 @@ impl Lists {
         })
     }
 
-    /// Has a clause watch a literal.
+    /// Has a clause watch a literal. After a refusal the lists are given up with the checker that holds them.
     pub fn push(&mut self, code: u32, watch: Watch) -> Result<(), AllocError> {
         let c = code as usize;
         if c >= self.blocks.len() {

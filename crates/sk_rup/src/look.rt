@@ -21,7 +21,8 @@ pub enum Look {
     Settled(Lit, Lit),
 }
 
-/// Looks at a clause, and makes its literal true where only one is left.
+/// Looks at a clause, and makes its literal true where only one is left. After a refusal the trail is given up with the
+/// checker that holds it.
 #[tactic(auto, using(crate::proofs::LookLemmas::looks))]
 pub fn look_at(trail: &mut Trail, known: &Store, i: usize) -> Result<Look, AllocError>
     requires covers { Covers trail.old.values.items trail.old.lits.items }
@@ -51,7 +52,7 @@ pub enum Pass {
     Done,
 }
 
-/// Looks at each clause once.
+/// Looks at each clause once. After a refusal the trail is given up with the checker that holds it.
 #[tactic(auto, using(crate::proofs::PassLemmas::passes))]
 pub fn look_at_all(trail: &mut Trail, known: &Store) -> Result<Pass, AllocError>
     requires covers { Covers trail.old.values.items trail.old.lits.items }

@@ -96,7 +96,7 @@ impl Store {
         part(&self.lits, &self.ends, i)
     }
 
-    /// Adds a clause at the end. For want of memory the list stays as it was.
+    /// Adds a clause at the end. After a refusal the list stays as it was (`err`).
     pub fn push(&mut self, clause: &[Lit]) -> Result<(), AllocError>
         ensures ok { OnOk result (self.new ≡ self.old ++ clause.now ∷ []) }
         ensures err { OnErr result (self.new ≡ self.old) }

@@ -33,7 +33,7 @@ impl Trail {
         Ok(Trail { values, lits })
     }
 
-    /// Makes a literal true.
+    /// Makes a literal true. After a refusal the trail is given up with the checker that holds it.
     #[tactic(auto, using(crate::proofs::TrailLemmas::forces))]
     pub fn force(&mut self, l: Lit) -> Result<(), AllocError>
         requires open { IsOpen self.old.values.items l }

@@ -208,7 +208,8 @@ impl Watches {
         Ok(place)
     }
 
-    /// Has clause i watch two literals of it, if they are two.
+    /// Has clause i watch two literals of it, if they are two. After a refusal the watches are given up with the checker that
+    /// holds them.
     pub fn add(&mut self, i: usize, clause: &[Packed], a: Lit, b: Lit) -> Result<(), AllocError> {
         if a.is(b) {
             return Ok(());
@@ -389,7 +390,8 @@ impl Watches {
         self.done_idle = len;
     }
 
-    /// Makes literals true that clauses force, as far as the watches show it. Whether a false clause was found.
+    /// Makes literals true that clauses force, as far as the watches show it. Whether a false clause was found. After a
+    /// refusal the watches and the trail are given up with the checker that holds them.
     #[tactic(auto, using(crate::proofs::WatchLemmas::spreads))]
     pub fn propagate(&mut self, trail: &mut Trail, known: &Store) -> Result<bool, AllocError>
         requires covers { Covers trail.old.values.items trail.old.lits.items }

@@ -61,6 +61,7 @@ fn run(
 ///
 /// Memory is wanting, statements and expressions nest more than 2,048 deep over all active calls (a turn of a loop, a string of a
 /// pattern and an argument whose final value goes back are a level each), no call may be active by the bounds, there is no such function, or its result or the final value of a `ref` parameter names a record.
+/// After a refusal the graph has all nodes that it had (`keeps`).
 pub fn execute(
     alloc: Global,
     dag: &mut Dag,

@@ -57,7 +57,8 @@ fn is_met(
 ///
 /// # Errors
 ///
-/// Memory is wanting, or a site that is tested is not one of these.
+/// Memory is wanting, or a site that is tested is not one of these. After a refusal the graph has all nodes that it had
+/// (`keeps`).
 pub fn all_met(
     dag: &mut Dag,
     sites: &[Site],

@@ -136,7 +136,7 @@ pub(crate) fn copies_of(
 ///
 /// # Errors
 ///
-/// Memory is wanting, or the place of a site is 2^32 or more.
+/// Memory is wanting, or the place of a site is 2^32 or more. After a refusal the graph has all nodes that it had (`keeps`).
 ///
 /// [`arrange`]: sk_model
 pub fn turns_of(

@@ -23,7 +23,7 @@ use std::alloc::{AllocError, Global};
 ///
 /// # Errors
 ///
-/// Memory is wanting, or the place of a site is 2^32 or more.
+/// Memory is wanting, or the place of a site is 2^32 or more. After a refusal the graph has all nodes that it had (`keeps`).
 pub fn payments(
     alloc: Global,
     dag: &mut Dag,
@@ -81,7 +81,8 @@ fn test_sizes(sites: &[Site], first: usize, count: usize) -> Result<(), AllocErr
 ///
 /// # Errors
 ///
-/// Memory is wanting, the place of a site is 2^32 or more, or the sites there are not those of such a `reorder`.
+/// Memory is wanting, the place of a site is 2^32 or more, or the sites there are not those of such a `reorder`. After a
+/// refusal the graph has all nodes that it had (`keeps`).
 pub fn orders(
     alloc: Global,
     dag: &mut Dag,

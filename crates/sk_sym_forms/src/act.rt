@@ -91,7 +91,8 @@ fn declare_value(
 ///
 /// # Errors
 ///
-/// Memory is wanting, or the shape is of a form that no typed program has there.
+/// Memory is wanting, or the shape is of a form that no typed program has there. After a refusal the graph has all nodes that
+/// it had (`keeps`); the state is given up with the walk that holds it.
 pub fn perform(
     setting: &Setting<'_>,
     dag: &mut Dag,

@@ -16,7 +16,8 @@ use sk_sym_literals::zero_of;
 use sk_sym_state::{Setting, SymState};
 use std::alloc::AllocError;
 
-/// Returns without a value.
+/// Returns without a value. After a refusal the graph has all nodes that it had (`keeps`); the state is given up with the walk
+/// that holds it.
 pub fn give_nothing(
     setting: &Setting<'_>,
     dag: &mut Dag,
@@ -31,7 +32,8 @@ pub fn give_nothing(
 }
 
 /// Brings a variable of a type into scope that is 0. A slot past the variables in scope, which no typed program declares,
-/// counts as want of memory.
+/// counts as want of memory. After a refusal the graph has all nodes that it had (`keeps`); the state is given up with the
+/// walk that holds it.
 pub fn declare_zero(
     setting: &Setting<'_>,
     dag: &mut Dag,
@@ -49,7 +51,8 @@ pub fn declare_zero(
     Ok(())
 }
 
-/// Fails wherever the run goes on.
+/// Fails wherever the run goes on. After a refusal the graph has all nodes that it had (`keeps`); the state is given up with
+/// the walk that holds it.
 pub fn fail_here(
     setting: &Setting<'_>,
     dag: &mut Dag,

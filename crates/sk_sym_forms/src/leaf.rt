@@ -27,7 +27,7 @@ fn has_width(dag: &Dag, width: u32) -> Result<(), AllocError>
     }
 }
 
-/// A written number at a type.
+/// A written number at a type. After a refusal the graph has all nodes that it had (`keeps`).
 pub fn number(
     setting: &Setting<'_>,
     dag: &mut Dag,
@@ -46,7 +46,7 @@ pub fn number(
     Ok(r)
 }
 
-/// A truth value.
+/// A truth value. After a refusal the graph has all nodes that it had (`keeps`).
 pub fn truth(
     setting: &Setting<'_>,
     dag: &mut Dag,
@@ -78,7 +78,7 @@ fn constant_at(prog: &Prog, id: ConstId) -> Option<&ConstDef>
     prog.consts.as_slice().get(id.index as usize)
 }
 
-/// A constant of the program.
+/// A constant of the program. After a refusal the graph has all nodes that it had (`keeps`).
 pub fn constant(
     setting: &Setting<'_>,
     dag: &mut Dag,
@@ -95,7 +95,8 @@ pub fn constant(
     Ok(r)
 }
 
-/// The value of a hole at its type, of which the first site has this place.
+/// The value of a hole at its type, of which the first site has this place. After a refusal the graph has all nodes that it
+/// had (`keeps`).
 pub fn hole_here(
     setting: &Setting<'_>,
     dag: &mut Dag,

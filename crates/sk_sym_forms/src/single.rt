@@ -53,7 +53,8 @@ fn pad(
 ///
 /// # Errors
 ///
-/// Memory is wanting, or the shape is of a form that no typed program has there.
+/// Memory is wanting, or the shape is of a form that no typed program has there. After a refusal the graph has all nodes that
+/// it had (`keeps`); the state is given up with the walk that holds it.
 pub fn apply(
     setting: &Setting<'_>,
     dag: &mut Dag,

@@ -29,7 +29,8 @@ pub struct Caller {
     pub frame: Frame,
 }
 
-/// Begins a call: its variables are the arguments, and it has not returned.
+/// Begins a call: its variables are the arguments, and it has not returned. After a refusal the graph has all nodes that it
+/// had (`keeps`); the state is given up with the walk that holds it.
 pub fn enter(
     setting: &Setting<'_>,
     dag: &mut Dag,
@@ -73,7 +74,8 @@ fn path_behind(dag: &mut Dag, state: &SymState, caller: &Caller) -> Result<BoolI
     Ok(r)
 }
 
-/// Ends a call of a function, and goes on in its caller. The answer is what the call gives.
+/// Ends a call of a function, and goes on in its caller. The answer is what the call gives. After a refusal the graph has all
+/// nodes that it had (`keeps`); the state is given up with the walk that holds it.
 pub fn leave(
     setting: &Setting<'_>,
     dag: &mut Dag,
@@ -106,7 +108,8 @@ pub fn leave(
     Ok(r)
 }
 
-/// Returns from the active call, with a value where one is given.
+/// Returns from the active call, with a value where one is given. After a refusal the graph has all nodes that it had
+/// (`keeps`); the state is given up with the walk that holds it.
 pub fn give(
     setting: &Setting<'_>,
     dag: &mut Dag,

@@ -14,7 +14,8 @@ use sk_sym_state::{Setting, SymState};
 use std::alloc::AllocError;
 
 /// An element of an array by an index. It fails where there is none. Shapes that are no array of elements of one form and
-/// no word, which no typed program has there, count as want of memory.
+/// no word, which no typed program has there, count as want of memory. After a refusal the graph has all nodes that it had
+/// (`keeps`); the state is given up with the walk that holds it.
 pub fn element(
     setting: &Setting<'_>,
     dag: &mut Dag,
@@ -36,7 +37,8 @@ pub fn element(
 
 /// So many elements of an array from an index on, as an array. It fails where they leave the range. Shapes that are no
 /// array of elements of one form and no word, and a count that is 0 or above the array's length, which no typed program
-/// has there, count as want of memory.
+/// has there, count as want of memory. After a refusal the graph has all nodes that it had (`keeps`); the state is given up
+/// with the walk that holds it.
 pub fn slice(
     setting: &Setting<'_>,
     dag: &mut Dag,

@@ -25,7 +25,8 @@ fn width_is(dag: &Dag, width: u32) -> Result<(), AllocError>
     Err(AllocError)
 }
 
-/// An operator on two shapes. It fails where the operator does.
+/// An operator on two shapes. It fails where the operator does. After a refusal the graph has all nodes that it had (`keeps`);
+/// the state is given up with the walk that holds it.
 pub fn operate(
     setting: &Setting<'_>,
     dag: &mut Dag,
@@ -48,7 +49,8 @@ pub fn operate(
     Ok(made.value)
 }
 
-/// An operator before a shape.
+/// An operator before a shape. After a refusal the graph has all nodes that it had (`keeps`); the state is given up with the
+/// walk that holds it.
 pub fn operate_one(
     setting: &Setting<'_>,
     dag: &mut Dag,
@@ -69,7 +71,8 @@ pub fn operate_one(
     Ok(made.value)
 }
 
-/// The coercion of a bit to an integer.
+/// The coercion of a bit to an integer. After a refusal the graph has all nodes that it had (`keeps`); the state is given up
+/// with the walk that holds it.
 pub fn convert(
     setting: &Setting<'_>,
     dag: &mut Dag,

@@ -21,7 +21,7 @@ use std::alloc::{AllocError, Global};
 ///
 /// # Errors
 ///
-/// Memory is wanting.
+/// Memory is wanting. After a refusal the graph has all nodes that it had (`keeps`).
 pub fn bit(dag: &mut Dag, b: bool) -> Result<Shape, AllocError>
     ensures keeps { Keeps dag.old dag.new }
     ensures given { IfOk result (λ r. IsGiven dag.new (value.Bit b) r) }

@@ -163,7 +163,7 @@ fn hole_at(
 /// # Errors
 ///
 /// Memory is wanting, the place of a site is 2^32 or more, or the type is another, or the site of a bit has more than
-/// two values: no hole of a typed program does.
+/// two values: no hole of a typed program does. After a refusal the graph has all nodes that it had (`keeps`).
 pub fn hole_value(
     alloc: Global,
     dag: &mut Dag,

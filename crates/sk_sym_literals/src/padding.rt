@@ -192,7 +192,8 @@ fn padded_to(alloc: Global, dag: &mut Dag, ty: Ty, a: Shape) -> Result<Shape, Al
 ///
 /// # Errors
 ///
-/// Memory is wanting, or the value is longer than the type, or of other forms than its zero.
+/// Memory is wanting, or the value is longer than the type, or of other forms than its zero. After a refusal the graph has all
+/// nodes that it had (`keeps`).
 pub fn padded_at(
     alloc: Global,
     dag: &mut Dag,

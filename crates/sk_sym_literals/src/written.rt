@@ -21,7 +21,7 @@ use std::alloc::{AllocError, Global};
 ///
 /// # Errors
 ///
-/// Memory is wanting.
+/// Memory is wanting. After a refusal the graph has all nodes that it had (`keeps`).
 pub fn zero_of(alloc: Global, dag: &mut Dag, ty: Ty) -> Result<Shape, AllocError>
     ensures keeps { Keeps dag.old dag.new }
     ensures given { IfOk result (λ r. IsGiven dag.new (zero_of_type ty) r) }
@@ -79,7 +79,8 @@ fn literal_grid(
 ///
 /// # Errors
 ///
-/// Memory is wanting, or the type is of arrays without elements.
+/// Memory is wanting, or the type is of arrays without elements. After a refusal the graph has all nodes that it had
+/// (`keeps`).
 pub fn literal(alloc: Global, dag: &mut Dag, ty: Option<Ty>, n: u32) -> Result<Shape, AllocError>
     ensures keeps { Keeps dag.old dag.new }
     ensures given { IfOk result (λ r. IsGiven dag.new (literal_of dag.old.bits ty n) r) }
@@ -134,7 +135,8 @@ fn whole(dag: &mut Dag, z: i64) -> Result<Shape, AllocError>
 ///
 /// # Errors
 ///
-/// Memory is wanting, or the number is out of range of the width.
+/// Memory is wanting, or the number is out of range of the width. After a refusal the graph has all nodes that it had
+/// (`keeps`).
 pub fn const_value(dag: &mut Dag, found: Option<&ConstDef>) -> Result<Shape, AllocError>
     ensures keeps { Keeps dag.old dag.new }
     ensures given { IfOk result (λ r. IsGiven dag.new (const_value_of (option_copied found.entry)) r) }

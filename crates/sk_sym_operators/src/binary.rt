@@ -71,7 +71,8 @@ fn on_forms(
 ///
 /// # Errors
 ///
-/// Memory is wanting, or the shapes are of forms to which no typed program applies the operator.
+/// Memory is wanting, or the shapes are of forms to which no typed program applies the operator. After a refusal the graph has
+/// all nodes that it had (`keeps`).
 pub fn operator(
     alloc: Global,
     dag: &mut Dag,

@@ -79,7 +79,8 @@ fn element(
 ///
 /// # Errors
 ///
-/// Memory is wanting, or the shapes are no array of elements of one form and no word.
+/// Memory is wanting, or the shapes are no array of elements of one form and no word. After a refusal the graph has all nodes
+/// that it had (`keeps`).
 #[tactic(auto, using(sk_arr::proofs::Standing::inside))]
 pub fn indexed(
     alloc: Global,
@@ -127,7 +128,7 @@ fn elements_from(
 /// # Errors
 ///
 /// Memory is wanting, the shapes are no array of elements of one form and no word, or the count is 0 or above the array's
-/// length.
+/// length. After a refusal the graph has all nodes that it had (`keeps`).
 #[tactic(auto, using(sk_arr::proofs::Standing::inside))]
 pub fn sliced(
     alloc: Global,

@@ -44,7 +44,8 @@ fn flip(alloc: Global, dag: &mut Dag, a: &Shape) -> Result<Operated, AllocError>
 ///
 /// # Errors
 ///
-/// Memory is wanting, or the shape is of a form to which no typed program applies the operator.
+/// Memory is wanting, or the shape is of a form to which no typed program applies the operator. After a refusal the graph has
+/// all nodes that it had (`keeps`).
 #[tactic(auto, using(sk_arr::proofs::Standing::inside))]
 pub fn unary(alloc: Global, dag: &mut Dag, op: UnOp, a: &Shape) -> Result<Operated, AllocError>
     requires a { Stands dag.old a.now }
@@ -91,7 +92,7 @@ fn digit(dag: &mut Dag, x: BoolId) -> Result<WordId, AllocError>
 ///
 /// # Errors
 ///
-/// Memory is wanting, or the shape is no bit.
+/// Memory is wanting, or the shape is no bit. After a refusal the graph has all nodes that it had (`keeps`).
 #[tactic(auto, using(sk_arr::proofs::Standing::inside))]
 pub fn to_int(dag: &mut Dag, a: &Shape) -> Result<Operated, AllocError>
     requires a { Stands dag.old a.now }

@@ -124,7 +124,8 @@ fn put_either(
 ///
 /// # Errors
 ///
-/// Memory is wanting, or the shapes are not of the forms and structs that a typed program has there.
+/// Memory is wanting, or the shapes are not of the forms and structs that a typed program has there. After a refusal the graph
+/// has all nodes that it had (`keeps`); the state is given up with the walk that holds it.
 pub fn assign(
     setting: &Setting<'_>,
     dag: &mut Dag,

@@ -109,7 +109,8 @@ fn slots_behind(
 }
 
 impl SymState {
-    /// Goes the way where a condition holds. The other one waits.
+    /// Goes the way where a condition holds. The other one waits. After a refusal the graph has all nodes that it had
+    /// (`keeps`); the state is given up with the walk that holds it.
     pub fn fork(
         &mut self,
         setting: &Setting<'_>,
@@ -151,7 +152,8 @@ impl SymState {
         }
     }
 
-    /// Goes on behind a branch, of which one way is gone and this is the end of the other.
+    /// Goes on behind a branch, of which one way is gone and this is the end of the other. After a refusal the graph has all
+    /// nodes that it had (`keeps`); the state is given up with the walk that holds it.
     pub fn join(
         &mut self,
         setting: &Setting<'_>,

@@ -68,7 +68,7 @@ fn all_alike(list: &[Shape], others: &[Shape]) -> bool
 }
 
 /// The shape that is `a` where `c` holds, and `b` where it does not. They have to be of one form, as two values of one
-/// variable are.
+/// variable are. After a refusal the graph has all nodes that it had (`keeps`).
 pub fn join_shapes(
     alloc: Global,
     dag: &mut Dag,

@@ -33,7 +33,7 @@ impl SymState {
     }
 
     /// Brings a variable into scope. Those from its slot on leave it. A slot past the variables in scope, which no typed
-    /// program declares, counts as want of memory.
+    /// program declares, counts as want of memory. After a refusal the state is given up with the walk that holds it.
     pub fn declare(&mut self, slot: u32, value: Shape) -> Result<(), AllocError>
         ensures { OnOk result (IsDeclared self.old self.new slot value) }
     {
@@ -46,7 +46,7 @@ impl SymState {
     }
 
     /// Puts another value into a variable in scope. Any other, which no typed program assigns to, counts as want of
-    /// memory.
+    /// memory. After a refusal the state is given up with the walk that holds it.
     pub fn assign(&mut self, slot: u32, value: Shape) -> Result<(), AllocError>
         ensures { OnOk result (IsAssigned self.old self.new slot value) }
     {

@@ -41,7 +41,8 @@ fn end_where(dag: &mut Dag, path: BoolId, ended: BoolId, cond: BoolId) -> Result
 }
 
 impl SymState {
-    /// Fails where a condition holds.
+    /// Fails where a condition holds. After a refusal the graph has all nodes that it had (`keeps`); the state is given up
+    /// with the walk that holds it.
     pub fn fail_where(
         &mut self,
         setting: &Setting<'_>,
@@ -59,7 +60,8 @@ impl SymState {
         Ok(())
     }
 
-    /// Is skipped where a condition holds.
+    /// Is skipped where a condition holds. After a refusal the graph has all nodes that it had (`keeps`); the state is given
+    /// up with the walk that holds it.
     pub fn skip_where(
         &mut self,
         setting: &Setting<'_>,

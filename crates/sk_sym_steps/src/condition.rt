@@ -14,7 +14,8 @@ use sk_sym_folds::not;
 use sk_sym_state::{Setting, SymState};
 use std::alloc::AllocError;
 
-/// Fails where a condition does not hold. One that is no bit, which no typed program has, counts as want of memory.
+/// Fails where a condition does not hold. One that is no bit, which no typed program has, counts as want of memory. After a
+/// refusal the graph has all nodes that it had (`keeps`); the state is given up with the walk that holds it.
 pub fn assert_that(
     setting: &Setting<'_>,
     dag: &mut Dag,
@@ -35,7 +36,8 @@ pub fn assert_that(
     Ok(())
 }
 
-/// Is skipped where a condition does not hold. One that is no bit, which no typed program has, counts as want of memory.
+/// Is skipped where a condition does not hold. One that is no bit, which no typed program has, counts as want of memory. After
+/// a refusal the graph has all nodes that it had (`keeps`); the state is given up with the walk that holds it.
 pub fn assume_that(
     setting: &Setting<'_>,
     dag: &mut Dag,

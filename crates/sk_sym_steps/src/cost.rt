@@ -28,7 +28,8 @@ fn is_negative(dag: &mut Dag, amount: WordId) -> Result<BoolId, AllocError>
     Ok(r)
 }
 
-/// Pays an amount. It fails where that is negative.
+/// Pays an amount. It fails where that is negative. After a refusal the graph has all nodes that it had (`keeps`); the state
+/// is given up with the walk that holds it.
 pub fn pay(
     setting: &Setting<'_>,
     dag: &mut Dag,

@@ -61,6 +61,7 @@ pub fn are_kind(structs: &[StructId], s: StructId, targets: &[(u32, BoolId)]) ->
 }
 
 /// A new record of a struct in which each field is 0, and a reference to it. A heap that is full counts as want of memory.
+/// After a refusal the graph has all nodes that it had (`keeps`); the state is given up with the walk that holds it.
 pub fn allocate(
     setting: &Setting<'_>,
     dag: &mut Dag,
@@ -82,7 +83,8 @@ pub fn allocate(
 }
 
 /// A field of the record that a reference is at. It fails where the reference is null. A shape that is no reference to
-/// records of the struct, which no typed program has there, counts as want of memory.
+/// records of the struct, which no typed program has there, counts as want of memory. After a refusal the graph has all nodes
+/// that it had (`keeps`); the state is given up with the walk that holds it.
 pub fn read_field(
     setting: &Setting<'_>,
     dag: &mut Dag,

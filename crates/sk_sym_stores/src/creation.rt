@@ -84,7 +84,8 @@ fn set_fields(
 ///
 /// # Errors
 ///
-/// Memory is wanting, the heap is full, or the shapes are not of the forms and structs of the fields.
+/// Memory is wanting, the heap is full, or the shapes are not of the forms and structs of the fields. After a refusal the
+/// graph has all nodes that it had (`keeps`); the state is given up with the walk that holds it.
 pub fn make(
     setting: &Setting<'_>,
     dag: &mut Dag,

@@ -13,7 +13,7 @@ use sk_sym_state::{Setting, SymState};
 use std::alloc::AllocError;
 
 /// Brings a variable into scope with a value. Those from its slot on leave it. A slot past the variables in scope, which no
-/// typed program declares, counts as want of memory.
+/// typed program declares, counts as want of memory. After a refusal the state is given up with the walk that holds it.
 pub fn declare(
     setting: &Setting<'_>,
     dag: &Dag,

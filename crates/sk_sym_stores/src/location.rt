@@ -55,7 +55,7 @@ impl Location {
     }
 
     /// The element of it that an index names. An index that is no word, which no typed program has, counts as want of
-    /// memory.
+    /// memory. After a refusal the location is given up with the walk that holds it.
     pub fn push_index(&mut self, index: &Shape) -> Result<(), AllocError>
         ensures { OnOk result (IsIndexed self.old self.new index.now) }
     {

@@ -175,7 +175,8 @@ fn store_field(
 ///
 /// # Errors
 ///
-/// Memory is wanting, or the shapes are not of the forms and structs that a typed program has there.
+/// Memory is wanting, or the shapes are not of the forms and structs that a typed program has there. After a refusal the graph
+/// has all nodes that it had (`keeps`); the state is given up with the walk that holds it.
 pub fn store(
     setting: &Setting<'_>,
     dag: &mut Dag,

@@ -1225,7 +1225,8 @@ impl Activation<'_> {
     ///
     /// # Errors
     ///
-    /// Want of memory.
+    /// Want of memory. After a refusal the graph has all nodes that it had (`keeps`); the state and the place are given up
+    /// with the walk that holds them.
     #[cycle(run)]
     pub fn exec_all(
         &self,

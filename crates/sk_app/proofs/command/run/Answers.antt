@@ -43,9 +43,6 @@ returns-clause-type_place g c = laws.type_place c.answer-ending.ensures
 pub returns-clause-too_large : goal.returns-clause-too_large
 returns-clause-too_large g c = laws.too_large c.answer-ending.ensures
 
-pub returns-clause-not_built : goal.returns-clause-not_built
-returns-clause-not_built g c = laws.not_built c.answer-ending.ensures
-
 pub returns-clause-too_long : goal.returns-clause-too_long
 returns-clause-too_long g c = laws.too_long c.answer-ending.ensures
 
@@ -75,9 +72,6 @@ returns-clause-unread g c = laws.unread c.answer-ending.ensures
 
 pub returns-clause-ends_no_line : goal.returns-clause-ends_no_line
 returns-clause-ends_no_line g c = laws.ends_no_line c.answer-ending.ensures
-
-pub returns-clause-ends_unbuilt_line : goal.returns-clause-ends_unbuilt_line
-returns-clause-ends_unbuilt_line g c = laws.ends_unbuilt_line c.answer-ending.ensures
 
 pub returns-clause-ends_help : goal.returns-clause-ends_help
 returns-clause-ends_help g c = laws.ends_help c.answer-ending.ensures
@@ -168,3 +162,39 @@ returns-clause-ends_explained g c = laws.ends_explained c.answer-ending.ensures
 
 pub returns-clause-ends_met : goal.returns-clause-ends_met
 returns-clause-ends_met g c = laws.ends_met c.answer-ending.ensures
+
+pub returns-clause-accepted : goal.returns-clause-accepted
+returns-clause-accepted g c = laws.accepted c.answer-ending.ensures
+
+pub returns-clause-ends_checked : goal.returns-clause-ends_checked
+returns-clause-ends_checked g c = laws.ends_checked c.answer-ending.ensures
+
+pub returns-clause-ends_accepted : goal.returns-clause-ends_accepted
+returns-clause-ends_accepted g c = laws.ends_accepted c.answer-ending.ensures
+
+pub returns-clause-rejected : goal.returns-clause-rejected
+returns-clause-rejected g c = laws.rejected c.answer-ending.ensures
+
+pub returns-clause-ends_rejected : goal.returns-clause-ends_rejected
+returns-clause-ends_rejected g c = laws.ends_rejected c.answer-ending.ensures
+
+pub returns-clause-not_certificate : goal.returns-clause-not_certificate
+returns-clause-not_certificate g c = laws.not_certificate c.answer-ending.ensures
+
+pub returns-clause-ends_not_certificate : goal.returns-clause-ends_not_certificate
+returns-clause-ends_not_certificate g c = laws.ends_not_certificate c.answer-ending.ensures
+
+pub returns-clause-long_input : goal.returns-clause-long_input
+returns-clause-long_input g c = laws.long_input c.answer-ending.ensures
+
+pub returns-clause-ends_long_input : goal.returns-clause-ends_long_input
+returns-clause-ends_long_input g c = laws.ends_long_input c.answer-ending.ensures
+
+pub returns-clause-ends_refused_input : goal.returns-clause-ends_refused_input
+returns-clause-ends_refused_input g c = laws.ends_refused_input c.answer-ending.ensures
+
+pub returns-clause-ends_self : goal.returns-clause-ends_self
+returns-clause-ends_self g c = laws.ends_self c.answer-ending.ensures
+
+pub returns-clause-prefix_self : goal.returns-clause-prefix_self
+returns-clause-prefix_self g c = laws.prefix_self c.answer-ending.ensures

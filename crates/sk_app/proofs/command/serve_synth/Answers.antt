@@ -1,10 +1,9 @@
-use Rattle.sk_app.proofs.EffectLaws.{serves_search}
 use Rattle.sk_app.proofs.command.serve_synth.Goals as goal
 
 pub returns : goal.returns
 returns g c =
     let s = c.synth.ensures in
-    serves_search c.args.set c.args.budget c.args.cert c.synth.result _ c.if-cert.false (record {
+    record {
       ends = s.ends;
       completed = s.completed;
       none = s.none;
@@ -17,4 +16,4 @@ returns g c =
       prefix = s.prefix;
       kept = s.kept;
       few = s.few;
-    })
+    }

@@ -1,9 +1,0 @@
-use Rattle.std.proofs.Common.{length, ◌-◌}
-use Rattle.sk_app.proofs.StreamLemmas.{HasRead}
-use Rattle.sk_app.proofs.text.read_text.Given as goal
-
-abbrev pub invariant-reading : goal.invariant-reading
-invariant-reading g l = HasRead l.text.items (g.S.Source.left l.fn.source) (g.S.Source.left l.source) (g.S.Source.faults l.fn.source) (g.S.Source.faults l.source)
-
-abbrev pub decreases-reading : goal.decreases-reading
-decreases-reading g l = 1048577 - length l.text.items

@@ -1,0 +1,3 @@
+pub mod FirstMark
+pub mod Answering
+pub mod Answered

@@ -1,0 +1,4 @@
+pub mod Inputs
+pub mod Known
+pub mod Parts
+pub mod Whole

@@ -1,0 +1,2 @@
+pub mod Certifications
+pub mod Claims

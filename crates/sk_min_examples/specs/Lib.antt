@@ -1,0 +1,4 @@
+pub mod Programs
+pub mod Asked
+pub mod Paired
+pub mod Cheapest
