@@ -260,7 +260,8 @@ fn tell_list(
 }
 
 /// Tells of the answer of a line `all`, where it lists two completions or more: in which numbers these differ, where their open parts
-/// stand in the text, and which values they have. At most 20 numbers are told, and how many more there are, and so of the values.
+/// stand in the text, and which values they have. At most 20 numbers are told, and how many more there are, and so of the values. After a
+/// refusal what is told is given up.
 pub fn tell_differences(
     alloc: Global,
     told: &mut Told,

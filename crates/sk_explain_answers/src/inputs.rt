@@ -261,7 +261,7 @@ fn tell_known(
 }
 
 /// Tells of the answer of a line `why` that has inputs: each of them with the names of its parameters, and what the filling with
-/// zeros does on it. At most 20 are told, and how many more there are.
+/// zeros does on it. At most 20 are told, and how many more there are. After a refusal what is told is given up.
 #[tactic(auto, using(crate::proofs::Telling::nothing_told))]
 pub fn tell_inputs(
     alloc: Global,
