@@ -4,7 +4,7 @@ use crate::settings::{Settings, Stream};
 use row_files::{Ended, head_of, words_of};
 use sk_app::{Ending, StdSink, StdSource, message, run, status};
 use sk_base::{List, MemSink, MemSource};
-use sk_explain::{KeptSource, explain};
+use sk_explain::{KeptSink, KeptSource, explain};
 use std::alloc::{AllocError, Global};
 
 /// Runs a line on a text.
@@ -70,12 +70,13 @@ fn run_explained(
 ) -> Result<Ended, AllocError> {
     let source = MemSource::new(List::from_vec(text), source.fails, source.step);
     let mut source = KeptSource::new(alloc, source);
-    let mut sink = MemSink::new(alloc, sink.fails, sink.step);
+    let sink = MemSink::new(alloc, sink.fails, sink.step);
+    let mut sink = KeptSink::new(alloc, sink);
     let ending = run(alloc, words, &mut source, &mut sink);
-    let Some(kept) = source.kept() else {
+    let (Some(text), Some(answer)) = (source.kept(), sink.kept()) else {
         return Err(AllocError);
     };
-    let told_of = explain(alloc, words, kept, &ending)?;
+    let told_of = explain(alloc, words, text, answer, &ending)?;
     let body = Vec::from_slice(alloc, told_of.as_bytes())?;
     told(alloc, &ending, body)
 }

@@ -6,6 +6,7 @@ use crate::certificates::{tell_not_certificate, tell_rejected};
 use sk_adt::AdtFault;
 use sk_app::{Ending, TextFault};
 use sk_base::{Name, Span};
+use sk_explain_answers::{tell_differences, tell_inputs};
 use sk_explain_causes::{
     push_not_written, push_passed_over, push_warnings, tell_failed, tell_none, tell_not_filled,
     tell_not_lowered, tell_not_run, tell_not_tagged, tell_size, tell_skipped, tell_spent,
@@ -122,11 +123,29 @@ fn named_spot(alloc: Global, text: &[u8], ending: &Ending) -> Result<Option<Spot
     }
 }
 
+// Tells of what was written at an ending for which a search is done.
+fn tell_answer(
+    alloc: Global,
+    told: &mut Told,
+    words: &[String],
+    text: &[u8],
+    answer: &[u8],
+    ending: &Ending,
+) -> Result<(), AllocError> {
+    match ending {
+        Ending::Listed => tell_differences(alloc, told, words, text, answer),
+        Ending::Explained => tell_inputs(alloc, told, words, text, answer),
+        _ => Ok(()),
+    }
+}
+
 // Tells of an ending for which a search is done.
 fn tell_search(
     alloc: Global,
     told: &mut Told,
+    words: &[String],
     text: &[u8],
+    answer: &[u8],
     ending: &Ending,
 ) -> Result<(), AllocError> {
     match ending {
@@ -135,6 +154,7 @@ fn tell_search(
         Ending::SpentConflicts { best, .. } => tell_spent(told, b"--conflicts", best.is_some())?,
         _ => {}
     }
+    tell_answer(alloc, told, words, text, answer, ending)?;
     push_warnings(alloc, told, text)
 }
 
@@ -221,28 +241,30 @@ fn told_of(
     alloc: Global,
     words: &[String],
     text: &[u8],
+    answer: &[u8],
     ending: &Ending,
 ) -> Result<Told, AllocError> {
     let mut told = Told::new(alloc);
     if is_search(ending) && !reads_nothing(words) {
-        tell_search(alloc, &mut told, text, ending)?;
+        tell_search(alloc, &mut told, words, text, answer, ending)?;
     } else {
         tell_refusal(alloc, &mut told, words, text, ending)?;
     }
     Ok(told)
 }
 
-/// What there is to tell of an ending: of the words of a line and the text that was read, as `run` ended on them. The place
-/// that it shows is that of the bytes that the ending names.
+/// What there is to tell of an ending: of the words of a line, the text that was read and the answer that was written, as `run`
+/// ended on them. The place that it shows is that of the bytes that the ending names.
 pub fn explanation_of(
     alloc: Global,
     words: &[String],
     text: &[u8],
+    answer: &[u8],
     ending: &Ending,
 ) -> Result<Explanation, AllocError>
     ensures { IfOk result (IsExplanation text.now ending.now) }
 {
-    let Told { title, notes } = told_of(alloc, words, text, ending)?;
+    let Told { title, notes } = told_of(alloc, words, text, answer, ending)?;
     let spot = named_spot(alloc, text, ending)?;
     Ok(Explanation { title, spot, notes })
 }
@@ -298,18 +320,19 @@ pub fn written(alloc: Global, explanation: &Explanation) -> Result<Name, AllocEr
     Ok(Name::from_vec(out))
 }
 
-/// The lines that tell people of an ending: of the words of a line and the text that was read, as `run` ended on them. There
-/// are none where there is nothing to tell.
+/// The lines that tell people of an ending: of the words of a line, the text that was read and the answer that was written, as
+/// `run` ended on them. There are none where there is nothing to tell.
 #[tactic(auto, using(crate::proofs::AsciiLaws::explained))]
 pub fn explain(
     alloc: Global,
     words: &[String],
     text: &[u8],
+    answer: &[u8],
     ending: &Ending,
 ) -> Result<Name, AllocError>
     ensures { IfOk result (IsExplained text.now ending.now) }
 {
-    let explanation = explanation_of(alloc, words, text, ending)?;
+    let explanation = explanation_of(alloc, words, text, answer, ending)?;
     let out = written(alloc, &explanation)?;
     Ok(out)
 }

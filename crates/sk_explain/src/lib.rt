@@ -6,4 +6,4 @@ mod explanation;
 mod kept;
 
 pub use explanation::{Explanation, explain, explanation_of, written};
-pub use kept::KeptSource;
+pub use kept::{KeptSink, KeptSource};

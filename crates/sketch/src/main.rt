@@ -3,7 +3,7 @@
 #![tactic(auto)]
 
 use sk_app::{Ending, StdSink, StdSource, message, run, status};
-use sk_explain::{KeptSource, explain};
+use sk_explain::{KeptSink, KeptSource, explain};
 use std::env;
 use std::io::{IsTerminal, Write};
 use std::process::ExitCode;
@@ -39,11 +39,17 @@ fn is_explained(rt: &HostRuntime) -> bool {
     }
 }
 
-/// Writes the lines for people, where there was memory for the text that was read. They change nothing else: where they
-/// cannot be made or written, there are none.
-fn say_more(rt: &HostRuntime, words: &[String], text: Option<&[u8]>, ending: &Ending) {
-    if let Some(text) = text {
-        if let Ok(lines) = explain(rt.alloc(), words, text, ending) {
+/// Writes the lines for people, where there was memory for the text that was read and the answer that was written. They change
+/// nothing else: where they cannot be made or written, there are none.
+fn say_more(
+    rt: &HostRuntime,
+    words: &[String],
+    text: Option<&[u8]>,
+    answer: Option<&[u8]>,
+    ending: &Ending,
+) {
+    if let (Some(text), Some(answer)) = (text, answer) {
+        if let Ok(lines) = explain(rt.alloc(), words, text, answer, ending) {
             let _ = rt.stderr().write_all(lines.as_bytes());
         }
     }
@@ -56,11 +62,11 @@ fn main(rt: HostRuntime) -> ExitCode {
         return ExitCode::from(NO_WORDS);
     };
     let mut source = KeptSource::new(alloc, StdSource::new(rt.stdin()));
-    let mut sink = StdSink::new(rt.stdout());
+    let mut sink = KeptSink::new(alloc, StdSink::new(rt.stdout()));
     let ending = run(alloc, words.as_slice(), &mut source, &mut sink);
     tell(&rt, &ending);
     if is_explained(&rt) {
-        say_more(&rt, words.as_slice(), source.kept(), &ending);
+        say_more(&rt, words.as_slice(), source.kept(), sink.kept(), &ending);
     }
     ExitCode::from(status(&ending))
 }

@@ -1,0 +1,6 @@
+pub mod CallLemmas
+pub mod DifferenceLemmas
+pub mod Fillable
+pub mod PieceLemmas
+pub mod RowLemmas
+pub mod Telling

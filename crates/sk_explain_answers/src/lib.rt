@@ -1,0 +1,17 @@
+//! What there is to tell people of answers: what a filling does on the inputs that explain why there is no completion, and in which
+//! numbers listed completions differ.
+#![tactic(auto)]
+
+mod calls;
+mod differences;
+mod fates;
+mod fillings;
+mod inputs;
+mod more;
+mod pieces;
+mod places;
+mod rows;
+mod runs;
+
+pub use differences::tell_differences;
+pub use inputs::tell_inputs;
