@@ -1,0 +1,98 @@
+#!/usr/bin/env python3
+"""Rows of lines whose streams fail or give and take few bytes at a time, for every command of the program.
+
+  damage.py > crates/rows_commands/data/stream_faults.txt
+
+Of a call with a text of n bytes and steps of s bytes, the source is asked once for each s bytes and once behind them; the sink takes what is
+written s bytes at a time. A line whose read fails writes nothing. One whose write fails has written what the writes before it took. The
+whole results below are known apart: from the rows of the other files, by hand."""
+import sys
+
+DOUBLED = "harness void doublesketch(int x){\n  int t = x * ??;\n  assert t == x + x;\n}\n"
+DONE = "harness void doublesketch(int x) {\n    int t = x * 2;\n    assert t == x + x;\n}\n//@ completion\n//@ value 0\n//@ holes 2\n"
+
+# (title, words, text, status, what is written)
+LINES = [
+    ("synth, a completion", "synth", DOUBLED, 0, DONE),
+    ("synth, none", "synth", "harness void f(int x) { assert x + ?? == x + 40; }\n", 1, "//@ none\n"),
+    ("synth, spent", "synth --rounds 1", "harness void main(int x) { assert x != 7; }\n", 2, "//@ spent rounds 1\n//@ choice\n//@ input 0 7\n"),
+    (
+        "synth, spent with a completion",
+        "synth --bnd-inbits 1 --rounds 1",
+        "harness void m(int x) { minimize(x); }\n",
+        3,
+        "harness void m(int x) {\n    minimize(x);\n}\n//@ completion\n//@ holes\n//@ spent rounds 1\n//@ choice\n//@ input 0 1\n",
+    ),
+    ("exec, done", "exec twice 5", "int twice(int x) {\n    minimize(x);\n    return x + x;\n}\n", 0, "result 10\ncost 5\n"),
+    ("exec, failed", "exec f 2", "void f(int x) { assert x > 2; }\n", 4, "failed 16 29\n"),
+    ("exec, skipped", "exec f 2", "void f(int x) { assume x > 2; }\n", 5, "skipped 16 29\n"),
+    (
+        "trace, done",
+        "trace f 3",
+        "int f(int x) { int y = x + 1; assert y > 3; return y; }\n",
+        0,
+        "1 15 29 store 4\n1 30 43 true\n1 44 53 go\nresult 4\ncost 0\n",
+    ),
+    ("trace, failed", "trace main 1 --holes 0", "harness void main(int x) { assert x + ?? == x * 2; }\n", 4, "1 27 50 false\nfailed 27 50\n"),
+    ("lower", "lower", "int f(int x){return x+1;}\n", 0, "int f(int x) {\n    return x + 1;\n}\n"),
+    ("all", "all 5", "harness void main(int x) { int n = ??(2); assert n > 1; minimize(n / 2); }\n", 0, "//@ holes 2\n//@ holes 3\n//@ all\n"),
+    ("why, an input", "why", "harness void main(int x) { assert x != 7; }\n", 0, "//@ input 0 7\n//@ why 1\n"),
+    ("why, a choice", "why", DOUBLED, 7, "//@ met\n//@ holes 2\n"),
+    ("the version", "--version", "", 0, "sketch 0.1.0\n"),
+]
+
+
+def row(title, words, settings, text, status, message, out):
+    """One row, its text and what is written with escapes."""
+    escaped = text.replace("\\", "\\\\").replace("\n", "\\n").replace("{", "{")
+    said = out.replace("\\", "\\\\").replace("\n", "\\n")
+    lines = [f"=== {title}", words, "escaped", *settings, "--- no line feed" if text else "---"]
+    lines += [escaped] if text else []
+    lines += [f"--- {status}{message}" + (" no line feed" if out else "")]
+    lines += [said] if out else []
+    print("\n".join(lines) + "\n")
+
+
+def both(title, words, settings, *rest):
+    """The row over streams in memory, and behind the adapters of standard input and output."""
+    row(title, words, settings, *rest)
+    row(f"{title}, behind the adapters", words, [*settings, "adapted"], *rest)
+
+
+def calls(length, step):
+    return -(-length // step)
+
+
+def reads(title, words, text, step):
+    if words.startswith("--"):
+        return
+    count = calls(len(text), step) + 1
+    for k in range(count):
+        both(f"{title}: read {k + 1} of {count} fails", words, [f"source {step} fails {k}"], text, 14, " read fault", "")
+
+
+def writes(title, words, text, out, step):
+    count = calls(len(out), step)
+    for k in range(count):
+        both(f"{title}: write {k + 1} of {count} fails", words, [f"sink {step} fails {k}"], text, 15, " write fault", out[: step * k])
+
+
+def shorts(title, words, text, status, out):
+    for r in range(1, 10):
+        both(f"{title}: {r} bytes a read, {10 - r} a write", words, [f"source {r}", f"sink {10 - r}"], text, status, "", out)
+
+
+def main():
+    print("# Written by bench/reference/damage.py, which says how: lines whose reads and writes fail in turn, and streams of a few bytes a call.\n")
+    print("# A completion: each read and each write of a byte fails in turn.\n")
+    reads("one byte a call", "synth", DOUBLED, 1)
+    writes("one byte a call", "synth", DOUBLED, DONE, 1)
+    for title, words, text, status, out in LINES:
+        print(f"# {title}\n")
+        reads(title, words, text, 8)
+        writes(title, words, text, out, 10)
+        shorts(title, words, text, status, out)
+
+
+if __name__ == "__main__":
+    sys.exit(main())
