@@ -54,9 +54,6 @@ one_set : (words : List (List ℕ)) (s t : Set) → IsWords words s → IsWords 
 one_set words s t a b = some_same (ap set_in (lines_are_one (codes "check" ∷ words) (line.Check s) (line.Check t) a b))
 
 module _ (words : List (List ℕ)) (r : Ending) (f : Effect) where
-  abbrev this : Call
-  this = record { words = words; ending = r; effect = f }
-
   -- an ending that comes only of the source
   for_words : (P : Set → Type 0) → (r ≡ ending.NotALine → ⊥) → (r ≡ ending.Memory → ⊥) → ((set : Set) → Judges set r f → P set) → Answers words r f → ForWords words P
   for_words P a b k (no_line n d) = absurd (a d.is)

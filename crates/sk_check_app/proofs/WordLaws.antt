@@ -1,12 +1,40 @@
--- Words behind the word `check`.
+-- The lines that are written, and words behind the word `check`.
 use Rattle.std.proofs.Common.{◌≡◌, ℕ, List, [], ◌∷◌, ◌++◌, refl, sym, ap, subst, ◌∙◌}
 use Rattle.std.specs.Prelude.{map, String, string_bytes, codes}
+use Rattle.std.specs.Fmt.{digits}
+use Rattle.sk_app_texts.specs.CheckTexts.{Values, Inputs, Upper, Lower, Text, Formula, rejected_text}
 use Rattle.sk_opts.specs.declared.line.Set.{Set}
 use Rattle.sk_opts.specs.declared.line.Line.{Line}
 use Rattle.sk_opts.specs.declared.line.Line.TheVariants as line
 use Rattle.sk_opts.specs.CommandLine.{IsLine}
 use Rattle.sk_opts.specs.Ranges.{IsInRanges, LineIsInRanges}
 use Rattle.sk_check_app.specs.Call.{IsWords, IsNoWords}
+
+-- the lines that are written
+
+pub values_line : codes "rejected 1\n" ≡ rejected_text Values
+unfolding digits
+values_line = refl
+
+pub inputs_line : codes "rejected 2\n" ≡ rejected_text Inputs
+unfolding digits
+inputs_line = refl
+
+pub upper_line : codes "rejected 3\n" ≡ rejected_text Upper
+unfolding digits
+upper_line = refl
+
+pub lower_line : codes "rejected 4\n" ≡ rejected_text Lower
+unfolding digits
+lower_line = refl
+
+pub text_line : codes "rejected 5\n" ≡ rejected_text Text
+unfolding digits
+text_line = refl
+
+pub formula_line : codes "rejected 6\n" ≡ rejected_text Formula
+unfolding digits
+formula_line = refl
 
 -- one word more
 

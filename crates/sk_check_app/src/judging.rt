@@ -37,7 +37,6 @@ fn refusal(fault: CheckFault) -> Ending
 }
 
 /// The line that is written of a certificate that is rejected.
-#[tactic(auto, unfolding(std::specs::Fmt::digits))]
 fn rejected_line(reason: &Reason) -> &'static [u8]
     ensures { result.now ≡ rejected_line reason.now }
 {

@@ -4,6 +4,7 @@ ghost use Rattle.std.specs.Prelude.{◌≡◌, ◌∷◌, map, string_bytes, cod
 ghost use Rattle.sk_opts.specs.declared.line.Set.{Set};
 ghost use Rattle.sk_opts.specs.declared.line.Line.TheVariants as line;
 ghost use Rattle.sk_opts.specs.Ranges.{IsInRanges};
+ghost use Rattle.sk_opts.specs.Told.{IsTold};
 ghost use Rattle.sk_check_app.specs.Call.{IsWords, IsToldOfWords};
 
 use sk_opts::{Line, Set, Usage, options};
@@ -37,7 +38,7 @@ fn options_of(found: Line) -> Option<Set>
 }
 
 /// The options that the words are.
-#[tactic(auto, using(crate::proofs::WordLaws::are_words, crate::proofs::WordLaws::other_words, crate::proofs::WordLaws::no_words, crate::proofs::WordLaws::in_ranges))]
+#[tactic(auto, using(crate::proofs::WordLaws::are_words, crate::proofs::WordLaws::other_words, crate::proofs::WordLaws::in_ranges))]
 pub(crate) fn set_of(alloc: Global, words: &[String]) -> Result<Set, Usage>
     ensures found { IfOk result (IsWords (map string_bytes words.now)) }
     ensures usage { IfErr result (IsToldOfWords (map string_bytes words.now)) }
