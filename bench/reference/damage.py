@@ -44,7 +44,7 @@ LINES = [
 
 def row(title, words, settings, text, status, message, out):
     """One row, its text and what is written with escapes."""
-    escaped = text.replace("\\", "\\\\").replace("\n", "\\n").replace("{", "{")
+    escaped = text.replace("\\", "\\\\").replace("\n", "\\n")
     said = out.replace("\\", "\\\\").replace("\n", "\\n")
     lines = [f"=== {title}", words, "escaped", *settings, "--- no line feed" if text else "---"]
     lines += [escaped] if text else []
