@@ -4,6 +4,7 @@ ghost use Rattle.std.specs.Str.{bytes_eq};
 ghost use Rattle.sk_adt.specs.Branches.{token, sign, keyword, name, number, made_name};
 
 use sk_base::{Name, Span, push_number};
+use sk_limits::too_many;
 use sk_parser_exprs::token::copy;
 use sk_tree::{Key, Kind, Mark, Token};
 use sk_tree_spell::copy_token;
@@ -71,7 +72,7 @@ pub(crate) fn push_count(out: &mut Vec<Token>, n: usize, span: Span) -> Result<(
     ensures { OnOk result (out.new.items ≡ out.old.items ++ number n span) }
 {
     if n > 0xffff_ffff {
-        return Err(AllocError);
+        return Err(too_many());
     }
     push_kind(out, Kind::Number(n as u32), span)
 }

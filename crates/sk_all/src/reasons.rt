@@ -47,8 +47,7 @@ fn wanted(alloc: Global, kept: &[Input], others: &[Input]) -> Result<Query, Allo
     })
 }
 
-/// Whether some choice passes the inputs kept and the others. That the solver gives up, which it does not without a budget,
-/// counts as want of memory.
+/// Whether some choice passes the inputs kept and the others.
 fn is_passed(
     alloc: Global,
     expanded: &Expanded,
@@ -65,7 +64,7 @@ fn is_passed(
     match refuted(alloc, &encoded, 0)? {
         Answer::Sat(_) => Ok(true),
         Answer::Unsat(_) => Ok(false),
-        Answer::Spent(_) => Err(AllocError),
+        Answer::Spent(_) => unreachable!(),
     }
 }
 
@@ -149,7 +148,7 @@ pub fn why(alloc: Global, expanded: &Expanded, bounds: &Bounds) -> Result<Why, A
             let kept = thin(alloc, expanded, bounds, inputs.as_slice())?;
             Ok(Why::Inputs(kept))
         }
-        Found::Rounds => Err(AllocError),
-        Found::Conflicts { .. } => Err(AllocError),
+        Found::Rounds => unreachable!(),
+        Found::Conflicts { .. } => unreachable!(),
     }
 }

@@ -39,8 +39,7 @@ fn wanted(alloc: Global, inputs: &[Input]) -> Result<Query, AllocError>
     })
 }
 
-/// A choice that passes the inputs and agrees with none that is listed where its sites stand. That the solver gives up, which
-/// it does not without a budget, counts as want of memory.
+/// A choice that passes the inputs and agrees with none that is listed where its sites stand.
 #[tactic(auto, using(crate::proofs::Proposals::proposing))]
 pub fn propose(
     alloc: Global,
@@ -62,6 +61,6 @@ pub fn propose(
             Ok(Some(choice))
         }
         Answer::Unsat(_) => Ok(None),
-        Answer::Spent(_) => Err(AllocError),
+        Answer::Spent(_) => unreachable!(),
     }
 }

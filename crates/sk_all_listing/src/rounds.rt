@@ -13,6 +13,7 @@ use crate::proposing::propose;
 use sk_all_exclusions::Listed;
 use sk_base::{Bounds, List};
 use sk_holes_marks::{canonical, marks_of};
+use sk_limits::too_many;
 use sk_loop::{Countered, counter};
 use sk_loop_copies::copy_choice;
 use sk_model::{Choice, Expanded, Input};
@@ -51,7 +52,6 @@ fn list(
 }
 
 /// One round: a choice is proposed, and an input is kept that speaks against it, or else it is listed. A refusal ends the rounds.
-/// That the solver gives up, which it does not without a budget, counts as want of memory.
 #[tactic(auto, using(crate::proofs::Lists::turning))]
 fn take_turn(
     alloc: Global,
@@ -92,7 +92,7 @@ fn take_turn(
             list(alloc, expanded, bounds, listed, &choice)?;
             Ok(Turn::Again)
         }
-        Countered::Conflicts { .. } => Err(AllocError),
+        Countered::Conflicts { .. } => unreachable!(),
     }
 }
 
@@ -141,5 +141,5 @@ pub fn all(
             }
         }
     }
-    Err(AllocError)
+    Err(too_many())
 }

@@ -6,6 +6,7 @@ ghost use Rattle.sk_cert_inputs.specs.Inputs.{as_listed, scalars};
 
 use sk_base::List;
 use sk_cert::CertInput;
+use sk_limits::never;
 use sk_model::Input;
 use sk_prog::Value;
 use std::alloc::{AllocError, Global};
@@ -43,7 +44,7 @@ fn push_all(list: &mut List<i64>, values: &[Value]) -> Result<(), AllocError>
     Ok(())
 }
 
-// The scalars of an argument. One without scalars, which no typed program has, counts as want of memory.
+// The scalars of an argument, which in a typed program has some.
 fn scalars_of(alloc: Global, value: &Value) -> Result<List<i64>, AllocError>
     ensures are { IfOk result (λ list. list ≡ scalars value.now) }
     ensures some { IfOk result (λ list. list ≢ []) }
@@ -51,7 +52,7 @@ fn scalars_of(alloc: Global, value: &Value) -> Result<List<i64>, AllocError>
     let mut list = List::new(alloc);
     push_scalars(&mut list, value)?;
     if list.is_empty() {
-        return Err(AllocError);
+        return Err(never());
     }
     Ok(list)
 }
@@ -68,7 +69,7 @@ fn args_of(alloc: Global, values: &[Value]) -> Result<List<List<i64>>, AllocErro
     Ok(args)
 }
 
-/// How a certificate lists an input. An argument without scalars, which no typed program has, counts as want of memory.
+/// How a certificate lists an input. Each argument of a typed program has a scalar.
 pub fn listed(alloc: Global, input: &Input) -> Result<CertInput, AllocError>
     ensures is { IfOk result (λ c. c ≡ as_listed input.now) }
     ensures scalars { IfOk result (λ c. HasScalars c) }

@@ -9,6 +9,7 @@ ghost use Rattle.sk_cert_inputs.specs.Reading.{all_listed, args_listed, array_li
 
 use sk_base::{Bounds, List};
 use sk_cert::CertInput;
+use sk_limits::too_many;
 use sk_model::{Input, Obligation};
 use sk_oblig_queries::obligations;
 use sk_prog::{Elem, Fun, FunId, ParamDef, Prog, Ty, Value};
@@ -210,7 +211,7 @@ fn fun_of(obligation: Obligation) -> FunId
     }
 }
 
-// The input of a function. An obligation's number of more than 32 bits, which none has, counts as want of memory.
+// The input of a function. An obligation's number of more than 32 bits, which none has, has no room.
 fn input_of_fun(
     alloc: Global,
     inbits: u32,
@@ -225,7 +226,7 @@ fn input_of_fun(
     };
     match u32::try_from(input.obligation) {
         Ok(obligation) => Ok(Some(Input { obligation, args })),
-        Err(_) => Err(AllocError),
+        Err(_) => Err(too_many()),
     }
 }
 

@@ -6,20 +6,11 @@ ghost use Rattle.sk_check_laws.specs.Parts.{lower_limit, lower_query, upper_quer
 
 use sk_base::List;
 use sk_cert::Certificate;
+use sk_limits::number_of;
 use sk_loop_copies::copy_choice;
 use sk_model::{Choice, Input};
 use sk_oblig_queries::Query;
 use std::alloc::{AllocError, Global};
-
-// The number by which a query names an obligation. More than can be named count as want of memory.
-fn number_of(place: usize) -> Result<u32, AllocError>
-    ensures { IfOk result (λ n. n ≡ place) }
-{
-    match u32::try_from(place) {
-        Ok(number) => Ok(number),
-        Err(_) => Err(AllocError),
-    }
-}
 
 // The query for an input of the obligation at a place that speaks against the choice within the value.
 fn query_at(alloc: Global, choice: &Choice, place: usize, value: u64) -> Result<Query, AllocError>

@@ -4,6 +4,7 @@ ghost use Rattle.std.specs.Prelude.{◌↔◌, All, IfOk, IsTrue};
 ghost use Rattle.sk_check_laws.specs.Parts.{Refuting};
 
 use sk_cert::Proof;
+use sk_limits::too_many;
 use sk_rup::refutes;
 use std::alloc::{AllocError, Global};
 
@@ -16,7 +17,7 @@ pub(crate) fn is_refuted(alloc: Global, proof: &Proof) -> Result<bool, AllocErro
     ensures { IfOk result (λ refuted. IsTrue refuted ↔ Refuting proof.now) }
 {
     if proof.formula.clauses.vars() > MOST_VARS {
-        return Err(AllocError);
+        return Err(too_many());
     }
     let refuted = refutes(alloc, &proof.formula.clauses, &proof.log)?;
     Ok(refuted)

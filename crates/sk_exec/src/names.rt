@@ -7,6 +7,7 @@ ghost use Rattle.sk_model.specs.Expand.{is_generator};
 ghost use Rattle.sk_exec.specs.Direct.{IsCalleeAt};
 
 use sk_base::Name;
+use sk_limits::behind;
 use sk_prog::{Fun, FunId, FunKind, Prog};
 use std::alloc::AllocError;
 
@@ -44,10 +45,8 @@ fn after(number: u32, fun: &Fun) -> Result<u32, AllocError>
     if !is_ordinary(fun) {
         return Ok(number);
     }
-    match number.checked_add(1) {
-        Some(next) => Ok(next),
-        None => Err(AllocError),
-    }
+    let next = behind(number)?;
+    Ok(next)
 }
 
 /// The first function of this name, where the program has one.

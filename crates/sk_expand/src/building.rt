@@ -4,6 +4,7 @@ ghost use Rattle.sk_expand.specs.Made.{Taken, Pushed};
 
 use crate::stop::Stop;
 use sk_base::List;
+use sk_limits::number_of;
 use sk_prog::Fun;
 use std::alloc::{AllocError, Global};
 use std::marker::Model;
@@ -53,11 +54,8 @@ impl Building {
     pub fn count(&self) -> Result<u32, AllocError>
         ensures { IfOk result (λ n. n ≡ length self.now.copies) }
     {
-        let count = self.copies.len();
-        if count > u32::MAX as usize {
-            return Err(AllocError);
-        }
-        Ok(count as u32)
+        let count = number_of(self.copies.len())?;
+        Ok(count)
     }
 
     /// One copy more.

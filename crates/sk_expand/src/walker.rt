@@ -16,6 +16,7 @@ use crate::repeats::{copies_held, most_copies};
 use crate::stop::Stop;
 use sk_base::{Bounds, Boxed, List, Name, Span, at};
 use sk_expand_copies::{copy_expr, copy_name};
+use sk_limits::too_many;
 use sk_prog::{BinOp, Fun, FunId, PEForm, PExpr, PField, PForm, PStmt, StructId, Ty};
 use std::alloc::{AllocError, Global};
 
@@ -39,7 +40,7 @@ fn sum(ordinary: u32, before: u32) -> Result<u32, AllocError>
 {
     match ordinary.checked_add(before) {
         Some(n) => Ok(n),
-        None => Err(AllocError),
+        None => Err(too_many()),
     }
 }
 

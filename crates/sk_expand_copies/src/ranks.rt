@@ -3,6 +3,7 @@ ghost use Rattle.std.specs.Prelude.{◌≡◌, ◌+◌, IfOk};
 ghost use Rattle.sk_model.specs.Parts.{one_if};
 ghost use Rattle.sk_expand_copies.specs.Ranks.{ranks_from, count_true};
 
+use sk_limits::behind;
 use std::alloc::{AllocError, Global};
 
 /// The new number of each function, and the number of those that stand.
@@ -20,10 +21,8 @@ fn after(number: u32, stands: bool) -> Result<u32, AllocError>
     if !stands {
         return Ok(number);
     }
-    match number.checked_add(1) {
-        Some(next) => Ok(next),
-        None => Err(AllocError),
-    }
+    let next = behind(number)?;
+    Ok(next)
 }
 
 /// The new numbers of functions, given which of them stand.

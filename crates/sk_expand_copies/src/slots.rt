@@ -3,6 +3,7 @@ ghost use Rattle.std.specs.Prelude.{◌≡◌, suc, max, IfOk, option_map};
 ghost use Rattle.sk_model.specs.Slots.{any_slots, stmt_slots, stmts_slots};
 
 use sk_base::Boxed;
+use sk_limits::{behind, number_of};
 use sk_prog::{PForm, PStmt};
 use std::alloc::AllocError;
 
@@ -11,26 +12,6 @@ fn larger(a: u32, b: u32) -> u32
     ensures { result ≡ max a b }
 {
     if a < b { b } else { a }
-}
-
-/// One slot more. No memory holds so many variables that they cannot be numbered.
-fn behind(slot: u32) -> Result<u32, AllocError>
-    ensures { IfOk result (λ more. more ≡ suc slot) }
-{
-    match slot.checked_add(1) {
-        Some(more) => Ok(more),
-        None => Err(AllocError),
-    }
-}
-
-/// A number of parameters. No memory holds so many that they cannot be numbered.
-fn counted(params: usize) -> Result<u32, AllocError>
-    ensures { IfOk result (λ count. count ≡ params) }
-{
-    if params > u32::MAX as usize {
-        return Err(AllocError);
-    }
-    Ok(params as u32)
 }
 
 #[cycle(slots)]
@@ -117,7 +98,7 @@ fn slots_of_all(ss: &[PStmt]) -> Result<u32, AllocError>
 pub fn slots_needed(params: usize, body: &[PStmt]) -> Result<u32, AllocError>
     ensures { IfOk result (λ n. n ≡ max params (stmts_slots body.now)) }
 {
-    let params = counted(params)?;
+    let params = number_of(params)?;
     let slots = slots_of_all(body)?;
     Ok(larger(params, slots))
 }

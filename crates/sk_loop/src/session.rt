@@ -21,6 +21,7 @@ use crate::turn::{Proposed, Turn};
 use sk_base::{Bounds, Budget, List};
 use sk_clause::{Assignment, Log};
 use sk_cnf::Encoded;
+use sk_limits::too_many;
 use sk_model::{Choice, Expanded, Pair};
 use sk_oblig_asking::Asking;
 use sk_oblig_queries::{Query, choice_of};
@@ -260,7 +261,7 @@ impl Session {
                 Turn::Again => {}
             }
         }
-        Err(AllocError)
+        Err(too_many())
     }
 
     // Asks for the inputs of all pairs within a limit.

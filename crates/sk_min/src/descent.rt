@@ -13,6 +13,7 @@ use crate::answer::Least;
 use crate::raise::raise;
 use crate::search::{Raised, State, Turn};
 use sk_base::{Bounds, Budget, List};
+use sk_limits::too_many;
 use sk_loop::{Found, Session};
 use sk_min_costs::is_free;
 use sk_model::{Choice, Expanded, Pair};
@@ -123,8 +124,7 @@ fn descend(
             Turn::Ended(answer) => return Ok(answer),
         }
     }
-    // so many turns count as want of memory
-    Err(AllocError)
+    Err(too_many())
 }
 
 // The first choice that meets every obligation is the best one where nothing costs anything.

@@ -13,6 +13,7 @@ ghost use Rattle.sk_min.specs.Search.{IsCheapest, IsCostlier, IsCostly, IsRaised
 use crate::answer::Least;
 use crate::search::{Costlier, Raised};
 use sk_base::{Bounds, Budget, List};
+use sk_limits::too_many;
 use sk_loop::{Countered, counter};
 use sk_loop_copies::copy_choice;
 use sk_model::{Choice, Expanded, Input, Pair};
@@ -158,6 +159,5 @@ pub(crate) fn raise(
             }
         }
     }
-    // so many turns count as want of memory
-    Err(AllocError)
+    Err(too_many())
 }

@@ -13,7 +13,7 @@ use crate::listing::listed_apart;
 use sk_base::{Bounds, List, Name};
 use sk_cert::{CertInput, Certificate};
 use sk_cert_layouts::layouts_are_program_texts;
-use sk_holes::fill;
+use sk_holes::{FillFault, fill};
 use sk_loop_copies::copy_choice;
 use sk_model::{Choice, Expanded, Input, Pair};
 use sk_print::print;
@@ -41,7 +41,8 @@ fn layout_of(
             let text = printed?;
             Ok(Name::from_vec(text))
         }
-        Err(_) => Err(AllocError),
+        Err(FillFault::Memory) => Err(AllocError),
+        Err(_) => unreachable!(),
     }
 }
 

@@ -13,20 +13,11 @@ use crate::proving::proof_of;
 use crate::stop::Stop;
 use sk_base::{Bounds, List};
 use sk_cert::Proof;
+use sk_limits::number_of;
 use sk_loop_copies::copy_choice;
 use sk_model::{Choice, Expanded};
 use sk_oblig_queries::{Query, obligations};
 use std::alloc::{AllocError, Global};
-
-// The number by which a query names an obligation. More than can be named count as want of memory.
-fn number_of(place: usize) -> Result<u32, AllocError>
-    ensures { IfOk result (λ n. n ≡ place) }
-{
-    match u32::try_from(place) {
-        Ok(number) => Ok(number),
-        Err(_) => Err(AllocError),
-    }
-}
 
 // A proof that no input of the obligation at a place speaks against the choice.
 #[tactic(auto, using(crate::proofs::Above::above))]

@@ -9,19 +9,20 @@ ghost use Rattle.sk_oblig.specs.Nodes.{SaysFine};
 
 use sk_base::Bounds;
 use sk_dag::{BoolId, Dag};
+use sk_limits::never;
 use sk_model::{Expanded, Input};
 use sk_oblig::is_fine;
 use sk_oblig_queries::obligations;
 use sk_simplify::simplify;
 use std::alloc::{AllocError, Global};
 
-// The one root of a simpler graph. Another number of roots, which is never, counts as want of memory.
+// The one root of a simpler graph of one root.
 fn single(roots: &[BoolId]) -> Result<BoolId, AllocError>
     ensures { IfOk result (λ r. roots.now ≡ r ∷ []) }
 {
     match roots {
         [root] => Ok(*root),
-        _ => Err(AllocError),
+        _ => Err(never()),
     }
 }
 

@@ -6,6 +6,7 @@ ghost use Rattle.sk_print.specs.Layout.{ty_layout, expr_layout, initial_layout, 
 use crate::expr::push_expr;
 use crate::name::push_ty;
 use sk_base::Boxed;
+use sk_limits::too_many;
 use sk_prog::{PExpr, PForm, PStmt, Prog, Ty};
 use std::alloc::{AllocError, Global};
 
@@ -35,7 +36,7 @@ fn deeper(depth: u64) -> Result<u64, AllocError>
 {
     match depth.checked_add(1) {
         Some(more) => Ok(more),
-        None => Err(AllocError),
+        None => Err(too_many()),
     }
 }
 

@@ -6,6 +6,7 @@ ghost use Rattle.sk_rup.specs.Checker.{IsReady};
 
 use crate::checker::Checker;
 use sk_clause::{ClauseList, Clauses, Lit, Log};
+use sk_limits::too_many;
 use std::alloc::{AllocError, Global};
 
 // A number that is at least this one, and that the variable is below.
@@ -16,7 +17,7 @@ fn vars_with(least: usize, var: usize) -> Result<usize, AllocError>
         return Ok(least);
     }
     if var == usize::MAX {
-        return Err(AllocError);
+        return Err(too_many());
     }
     Ok(var + 1)
 }

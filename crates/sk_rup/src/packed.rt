@@ -2,6 +2,7 @@
 ghost use Rattle.std.specs.Prelude.{◌≡◌, ◌<◌, ◌/◌, ◌%◌, ◌^◌, ◌==◌, IfOk};
 
 use sk_clause::Lit;
+use sk_limits::too_many;
 use std::alloc::AllocError;
 use std::marker::Model;
 
@@ -43,7 +44,7 @@ impl Packed {
         ensures { IfOk result (λ p. p ≡ l) }
     {
         if l.var >= VARS {
-            return Err(AllocError);
+            return Err(too_many());
         }
         Ok(Packed {
             code: twice(l.var as u32, l.neg),

@@ -6,16 +6,17 @@ ghost use Rattle.sk_app_texts.specs.SelfTexts.{summary_of, self_text};
 
 use sk_base::{Bounds, push_number};
 use sk_expand_sizes::sizes;
+use sk_limits::never;
 use sk_model::Expanded;
 use std::alloc::{AllocError, Global};
 
-/// The steps of the runs of an expansion. More than there may be count as want of memory.
+/// The steps of the runs of an expansion within the limits of sizes.
 fn steps(alloc: Global, expanded: &Expanded, bounds: &Bounds) -> Result<u64, AllocError>
     ensures { IfOk result (λ count. count ≡ steps bounds.now expanded.now) }
 {
     match sizes(alloc, expanded, bounds) {
         Ok(found) => Ok(u64::from(found.steps)),
-        Err(_) => Err(AllocError),
+        Err(_) => Err(never()),
     }
 }
 
