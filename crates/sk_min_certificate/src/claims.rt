@@ -14,6 +14,7 @@ use sk_base::{Bounds, List, Name};
 use sk_cert::{CertInput, Certificate};
 use sk_cert_layouts::layouts_are_program_texts;
 use sk_holes::{FillFault, fill};
+use sk_limits::never;
 use sk_loop_copies::copy_choice;
 use sk_model::{Choice, Expanded, Input, Pair};
 use sk_print::print;
@@ -42,7 +43,7 @@ fn layout_of(
             Ok(Name::from_vec(text))
         }
         Err(FillFault::Memory) => Err(AllocError),
-        Err(_) => unreachable!(),
+        Err(_) => Err(never()),
     }
 }
 
