@@ -8,7 +8,6 @@ import sys
 CALLS = 127
 INSIDE = {
     "minus": "- %s",
-    "paren": "(%s)",
     "right": "x + (%s)",
     "left": "(%s) + x",
     "then": "b ? %s : x",

@@ -161,6 +161,17 @@ result_given {d} t u given r is at stands = record {
     by g e heap None h has = absurd has
     by g e heap (Some v) h has = h
 
+-- a function with a result that gives none has not ended
+pub result_absent : {d : Graph} (t : Option Ty) (u : Ty) (given : Option Shape) (r : Shape) → t ≡ Some u → given ≡ None → Stands d r → IsResultShape d t given r
+result_absent {d} t u given r is at stands = record {
+  stands = stands;
+  worth = λ g e heap v more h has. by g e heap v (subst (λ o. ResultIs g e heap o v) at h) (subst (λ o. HasResult o v) is has);
+}
+  where
+    by : (g : Graph) (e : Env) (heap : List Slot) (v : Option Value) → ResultIs g e heap None v → HasResult (Some u) v → IsWorth g e heap r (result_value v)
+    by g e heap None h has = absurd has
+    by g e heap (Some v) h has = absurd h
+
 pub result_blank : {d : Graph} (t : Option Ty) (given : Option Shape) (r : Shape) → t ≡ None → IsGiven d blank r → IsResultShape d t given r
 result_blank {d} t given r is nought = record {
   stands = nought.stands;

@@ -36,7 +36,7 @@ use Rattle.sk_sym_forms.specs.declared.act.Act.TheVariants as act
 use Rattle.sk_sym_forms.specs.declared.double.Double.TheVariants as double
 use Rattle.sk_sym_forms.specs.declared.single.Single.TheVariants as single
 use Rattle.sk_sym_walk.specs.Walk.{prog_of, values_at, calls_at, expr_part, stmt_part, all_part, eval_part, exec_all_at}
-use Rattle.sk_sym_walk.specs.Parts.{siteless, then_parts, either_part, given, hole_part, single_part, double_part, binary_part, braces_part, cond_part, act_part, branch_part}
+use Rattle.sk_sym_walk.specs.Parts.{siteless, then_parts, either_part, given, IsAs, hole_part, single_part, double_part, binary_part, braces_part, cond_part, act_part, branch_part}
 use Rattle.sk_sym_walk.specs.Calls.{call_part}
 use Rattle.sk_sym_walk.proofs.Sequences.{SamePart, same_part}
 
@@ -76,8 +76,12 @@ module _ (a : Activation) (span : Span) (x : PExpr) where
   pub same_hole : (bits : Option ℕ) → x.form ≡ eform.Hole bits → SamePart (hole_part a x.ty) (eval_part a span x)
   same_hole bits is = same_part (λ env. ap (with_form env) is ∙ ap valued (layer_hole (Option Ty → Part Does) (Part Does) (Part (ℕ × Does)) (step env) (λ e. e.form e.ty) (field_step env) x.span x.ty bits))
 
-  pub same_paren : (y : PExpr) → x.form ≡ eform.Paren y → SamePart (eval_part a span y) (eval_part a span x)
-  same_paren y is = same_part (λ env. ap (with_form env) is ∙ ap valued (layer_paren (Option Ty → Part Does) (Part Does) (Part (ℕ × Does)) (step env) (λ e. e.form e.ty) (field_step env) x.span x.ty y))
+  pub paren_is : (y : PExpr) → x.form ≡ eform.Paren y → (env : Env) → eval_part a span x env ≡ eval_part a span y env
+  paren_is y is env = ap (with_form env) is ∙ ap valued (layer_paren (Option Ty → Part Does) (Part Does) (Part (ℕ × Does)) (step env) (λ e. e.form e.ty) (field_step env) x.span x.ty y)
+
+  -- what stands inside more of them
+  pub same_inside : (y z : PExpr) → x.form ≡ eform.Paren y → IsAs y z → SamePart (eval_part a span z) (eval_part a span x)
+  same_inside y z is h = same_part (λ env. paren_is y is env ∙ h.same a span env)
 
   pub same_unary : (o : UnOp) (y : PExpr) → x.form ≡ eform.Unary o y → SamePart (single_part a span (single.Unary o) y) (eval_part a span x)
   same_unary o y is = same_part (λ env. ap (with_form env) is ∙ ap valued (layer_unary (Option Ty → Part Does) (Part Does) (Part (ℕ × Does)) (step env) (λ e. e.form e.ty) (field_step env) x.span x.ty o y))

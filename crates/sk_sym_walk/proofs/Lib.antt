@@ -1,4 +1,5 @@
 pub mod Sequences
+pub mod Conditions
 pub mod Ways
 pub mod Places
 pub mod Layers

@@ -1,10 +1,13 @@
--- Where a part ends whose sites are passed.
-use Rattle.std.proofs.Common.{◌≡◌, ℕ, ◌+◌, Option, Some, None, sym, ap, ◌∙◌}
+-- Where a part ends whose sites are passed, and sites that are not there.
+use Rattle.std.proofs.Common.{◌≡◌, ◌≤◌, ℕ, zero, suc, ◌+◌, List, [], ◌∷◌, length, Option, Some, None, refl, sym, ap, ◌∙◌, arith}
 use Rattle.std.specs.Prelude.{option_map}
 use Rattle.sk_base.specs.declared.span.Span.{Span}
 use Rattle.sk_dag.specs.declared.env.Env.{Env}
 use Rattle.sk_prog.specs.declared.expr.PExpr.{PExpr}
 use Rattle.sk_prog.specs.declared.stmt.PStmt.{PStmt}
+use Rattle.sk_model.specs.declared.expanded.Site.{Site}
+use Rattle.sk_model.specs.Parts.{value}
+use Rattle.sk_model.specs.Fill.{Fits}
 use Rattle.sk_sym_sites.specs.Counts.{expr_count, stmt_count, any_count}
 use Rattle.sk_sym_sites.proofs.Trees.{counts_expr, counts_stmt}
 use Rattle.sk_sym_walk.specs.declared.activation.Activation.{Activation}
@@ -20,3 +23,11 @@ stmt_behind i a s p e = p ∙ ap (λ n. i + n) (sym (counts_stmt (prog_of a) a.b
 pub other_behind : {j : ℕ} (i : ℕ) (a : Activation) (o : Option PStmt) → j ≡ i + any_count (option_map stmt_count o) → (e : Env) → j ≡ i + (other_part a o e).count
 other_behind i a None p e = p
 other_behind i a (Some s) p e = stmt_behind i a s p e
+
+-- a site that is not there has the value 0
+pub past_sites : (sites : List Site) (values : List ℕ) → Fits sites values → (i : ℕ) → length sites ≤ i → value values i ≡ 0
+past_sites [] [] h i l = refl
+past_sites [] (v ∷ vs) h i l = elim h [ ]
+past_sites (s ∷ ss) [] h i l = elim h [ ]
+past_sites (s ∷ ss) (v ∷ vs) h zero l = absurd (omega (arith, l))
+past_sites (s ∷ ss) (v ∷ vs) h (suc i) l = past_sites ss vs h.1 i (omega (arith, l))

@@ -3,7 +3,6 @@ use Rattle.std.proofs.Common.{◌≡◌, ℕ, zero, suc, ◌+◌, true, false, r
 use Rattle.sk_base.specs.declared.span.Span.{Span}
 use Rattle.sk_dag.specs.declared.env.Env.{Env}
 use Rattle.sk_dag.specs.declared.node.BoolId.{BoolId}
-use Rattle.sk_dag.specs.declared.shape.Shape.TheVariants as shape
 use Rattle.sk_dag.specs.Graph.{Graph, Grows}
 use Rattle.sk_dag.specs.Eval.{bool_value}
 use Rattle.sk_prog.specs.declared.expr.PExpr.{PExpr}
@@ -26,9 +25,10 @@ use Rattle.sk_sym_state.proofs.Ends.{executes_same}
 use Rattle.sk_sym_state.proofs.Following.{executes_then}
 use Rattle.sk_sym_walk.specs.declared.activation.Activation.{Activation}
 use Rattle.sk_sym_walk.specs.Walk.{expr_part, eval_part, stmt_part, IsBehind}
-use Rattle.sk_sym_walk.specs.Parts.{siteless, IsEvaluated, IsExecuted, IsExecutedOn}
+use Rattle.sk_sym_walk.specs.Parts.{siteless, IsTested, IsExecuted, IsExecutedOn}
 use Rattle.sk_sym_walk.specs.Turns.{turns_part, turn_does, turn_part, decided_part}
-use Rattle.sk_sym_walk.proofs.Sequences.{SamePart, same_part, bit_worth, executed_parts, executed_none}
+use Rattle.sk_sym_walk.proofs.Sequences.{SamePart, same_part, executed_none}
+use Rattle.sk_sym_walk.proofs.Conditions.{executed_by}
 use Rattle.sk_sym_walk.proofs.Ways.{first_executed, second_executed, both_executed}
 use Rattle.sk_sym_walk.proofs.Places.{expr_behind, stmt_behind}
 use Rattle.sk_sym_walk.proofs.Layers.{stmt_step}
@@ -51,9 +51,9 @@ module _ (a : Activation) (span : Span) (left : ℕ) (c : PExpr) (s : PStmt) whe
 
   module _ {d0 d1 d2 : Graph} {s0 s1 s2 : SymState} {i j k : ℕ} where
     -- the condition, and what is done by it
-    pub turns_executed : {bit : BoolId} → IsEvaluated a d0 d1 s0 s1 i j (eval_part a span c) (shape.Bit bit) → IsExecutedOn a d1 d2 s1 s2 j k (IsBit bit) (decided_part a span left i c s) → IsExecuted a d0 d2 s0 s2 i k (turns_part a span left c s)
+    pub turns_executed : {bit : BoolId} → IsTested a d0 d1 s0 s1 i j span (eval_part a span c) bit → IsExecutedOn a d1 d2 s1 s2 j k (IsBit bit) (decided_part a span left i c s) → IsExecuted a d0 d2 s0 s2 i k (turns_part a span left c s)
     turns_executed first next =
-        let h = executed_parts {q = decided_part a span left i c s} (λ g e v w. bit_worth w) first next in
+        let h = executed_by (turn_part a span left i c s) (siteless (λ e. pure Onward)) first next in
         record {
           executes = executes_same (λ e at. turns_by left span ((expr_part a c e).at i) ((stmt_part a s e).at (i + (expr_part a c e).count)) at) h.executes;
           place = record { place = λ e. omega (arith, h.place.place e) };

@@ -58,6 +58,10 @@ one_turn_part a first count n ss e = record { count = (all_part a ss e).count; a
 abbrev pub AreOrders : Activation → Graph → ℕ → ℕ → List (List BoolId) → Type 0
 AreOrders a d first count columns = AreColumns d a.setting.expanded.now (option_copied a.setting.choice) first count count columns
 
+-- the nodes for the statement with number k have one for the turn with number n
+abbrev pub HasTurn : List (List BoolId) → ℕ → ℕ → Type 0
+HasTurn columns k n = (column : List BoolId) → column ≡ get_or columns k column → n < length column
+
 -- of the nodes for the statement with number k the one for the turn with number n
 pub record IsNodeOf (columns : List (List BoolId)) (k n : ℕ) (node : BoolId) : Type 0 where
   pub column : List BoolId

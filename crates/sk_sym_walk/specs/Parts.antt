@@ -1,5 +1,5 @@
 -- Parts that are put together from smaller ones, and what the walk answers for a part.
-use Rattle.std.specs.Prelude.{◌≡◌, ℕ, ◌+◌, ◌&&◌, Bool, false, List, map, Option, Some, None}
+use Rattle.std.specs.Prelude.{◌≡◌, ℕ, ◌+◌, ◌&&◌, Bool, true, false, List, map, Option, Some, None}
 use Rattle.sk_base.specs.declared.span.Span.{Span}
 use Rattle.sk_dag.specs.declared.env.Env.{Env}
 use Rattle.sk_dag.specs.declared.node.BoolId.{BoolId}
@@ -12,6 +12,8 @@ use Rattle.sk_prog.specs.declared.value.Value.{Value}
 use Rattle.sk_prog.specs.declared.value.Value.TheVariants as value
 use Rattle.sk_prog.specs.declared.expr.BinOp.{BinOp}
 use Rattle.sk_prog.specs.declared.expr.PExpr.{PExpr}
+use Rattle.sk_prog.specs.declared.expr.PEForm.{PEForm}
+use Rattle.sk_prog.specs.declared.expr.PEForm.TheVariants as eform
 use Rattle.sk_prog.specs.declared.stmt.PStmt.{PStmt}
 use Rattle.sk_model.specs.Parts.{Part, counts, in_turn}
 use Rattle.sk_model.specs.Step.{Comp, ◌>>=◌, pure}
@@ -22,7 +24,7 @@ use Rattle.sk_model.specs.Stands.{hole_count}
 use Rattle.sk_sym_state.specs.declared.branch.Side.{Side}
 use Rattle.sk_sym_state.specs.declared.setting.Setting.{Setting}
 use Rattle.sk_sym_state.specs.declared.state.SymState.{SymState}
-use Rattle.sk_sym_state.specs.Meaning.{DoesOn, Executes, ExecutesOn, Evaluates}
+use Rattle.sk_sym_state.specs.Meaning.{Does, DoesOn, Executes, ExecutesOn, Evaluates}
 use Rattle.sk_sym_state.specs.Branching.{IsBit, AreJoined}
 use Rattle.sk_sym_steps.specs.Steps.{EvaluatesOn}
 use Rattle.sk_sym_leaves.specs.Lists.{EvaluateAll}
@@ -51,15 +53,33 @@ then_parts p q e = record { count = (p e).count + (q e).count; at = λ i. (p e).
 abbrev pub either_part : {A : Type 0} → Span → (Env → Part (Comp A)) → (Env → Part (Comp A)) → Env → Part (Value → Comp A)
 either_part span p q e = record { count = (p e).count + (q e).count; at = λ i. choose span ((p e).at i) ((q e).at (i + (p e).count)) }
 
+-- a bit as it is, where anything else fails
+abbrev pub as_bit : Span → Value → Comp Value
+as_bit span = choose span (pure (value.Bit true)) (pure (value.Bit false))
+
 -- the bit that is given
 abbrev pub given : Bool → Env → Part (Comp Value)
 given b = siteless (λ e. pure (value.Bit b))
 
 -- ---- forms
 
+-- whether a form has neither a part nor a site
+abbrev pub is_leaf : PEForm → Bool
+is_leaf (eform.Number n) = true
+is_leaf eform.True = true
+is_leaf eform.False = true
+is_leaf eform.Null = true
+is_leaf (eform.Var slot x) = true
+is_leaf (eform.Const c) = true
+is_leaf _ = false
+
 -- a hole at a type
 abbrev pub hole_part : Activation → Option Ty → Env → Part (Comp Value)
 hole_part a t e = record { count = hole_count t; at = λ i. pure (hole_value (values_at a e) a.bounds.int_bits t i) }
+
+-- an expression has the sites of another one, and does what that does
+pub record IsAs (x y : PExpr) : Type 0 where
+  pub same : (a : Activation) (span : Span) (e : Env) → eval_part a span x e ≡ eval_part a span y e
 
 abbrev pub single_part : Activation → Span → Single → PExpr → Env → Part (Comp Value)
 single_part a span what x = then_part (eval_part a span x) (λ e. single_does a.bounds.int_bits span what)
@@ -116,6 +136,12 @@ pub record IsExecuted (a : Activation) (d0 d1 : Graph) (s0 s1 : SymState) (i j :
 
 pub record IsExecutedOn {A : Type 0} (a : Activation) (d0 d1 : Graph) (s0 s1 : SymState) (i j : ℕ) (Given : Graph → Env → A → Type 0) (part : Env → Part (A → Comp Flow)) : Type 0 where
   pub executes : ExecutesOn a.setting d0 d1 s0 s1 Given (λ e. (part e).at i)
+  pub place : IsBehind part i j
+
+-- the part has been evaluated as a condition: it gives the bit of a node, and fails where it gives anything else
+pub record IsTested (a : Activation) (d0 d1 : Graph) (s0 s1 : SymState) (i j : ℕ) (span : Span) (part : Env → Part (Comp Value)) (c : BoolId) : Type 0 where
+  pub does : Does a.setting d0 d1 s0 s1 (IsBit c) (λ e. (part e).at i >>= as_bit span)
+  pub there : HasBool d1.nodes c
   pub place : IsBehind part i j
 
 -- a value that is the bit where both nodes hold

@@ -1,6 +1,6 @@
 //! The walk over the expressions and statements of an active call.
 
-ghost use Rattle.std.specs.Prelude.{◌≡◌, length, IfOk, OnOk, Some, false, true};
+ghost use Rattle.std.specs.Prelude.{◌≡◌, ◌<◌, length, IfOk, OnOk, Some, false, true};
 ghost use Rattle.std.specs.Option.{option_copied};
 ghost use Rattle.sk_dag.specs.Graph.{HasBool};
 ghost use Rattle.sk_dag.specs.Eval.{Keeps};
@@ -12,7 +12,7 @@ ghost use Rattle.sk_sym_steps.specs.Steps.{EvaluatesOn};
 ghost use Rattle.sk_sym_state.specs.Meaning.{Executes};
 ghost use Rattle.sk_sym_state.specs.Branching.{IsBit};
 ghost use Rattle.sk_sym_walk.specs.Walk.{exec_all_at, eval_part, stmt_part, all_part, IsBehind};
-ghost use Rattle.sk_sym_walk.specs.Parts.{IsEvaluated, IsEvaluatedOn, IsGuarded, IsExecuted, IsExecutedOn, AreEvaluated, given, either_part, single_part, double_part, binary_part, pick_part, cond_part, act_part, other_part, ways_part, branch_part, list_part, braces_part};
+ghost use Rattle.sk_sym_walk.specs.Parts.{IsEvaluated, IsEvaluatedOn, IsTested, IsGuarded, IsExecuted, IsExecutedOn, AreEvaluated, given, either_part, single_part, double_part, binary_part, pick_part, cond_part, act_part, other_part, ways_part, branch_part, list_part, braces_part};
 ghost use Rattle.sk_sym_walk.specs.Calls.{callee, value_called, call_part, ends, copied_at, copied_first, AreCopiedBack, IsCopiedBack, HasResult, IsInside, IsCalled};
 ghost use Rattle.sk_sym_walk.specs.Turns.{turns_part, turn_part, decided_part};
 ghost use Rattle.sk_sym_walk.specs.Copies.{some_part, copies_part, copy_part, repeat_part};
@@ -23,13 +23,16 @@ ghost use Rattle.sk_sym_walk.specs.Targets.{target_part, field_target, index_tar
 use crate::calling::{
     absent, count_of, first_param, first_shape, pays_nothing, value_of, with_function,
 };
+use crate::failing::{bit_of, fail_nowhere, fail_without};
 use crate::leaf::{hole, leaf};
 use crate::pattern::{first_expr, is_at_most, number_behind};
 use crate::step::{
-    exceeds, is_hole, is_over, joined, pass_digits, pass_loop, pass_other, pass_site, turn_node,
+    exceeds, inside, is_hole, is_over, joined, pass_digits, pass_loop, pass_other, pass_site,
+    turn_node,
 };
 use sk_base::{Bounds, Boxed, List, Span};
 use sk_dag::{BoolId, Dag, Shape};
+use sk_limits::{never, too_deep};
 use sk_prog::{BinOp, Fun, FunId, PEForm, PExpr, PField, PForm, PStmt, ParamDef, StructId, Ty};
 use sk_sym_choices::orders;
 use sk_sym_folds::{and, known_bool, not, or};
@@ -71,7 +74,7 @@ impl Activation<'_> {
         ensures evaluated { IfOk result (λ r. IsEvaluated self.now dag.old dag.new state.old state.new at.old at.new (eval_part self.now span e.now) r) }
     {
         if room == 0 {
-            return Err(AllocError);
+            return Err(too_deep());
         }
         let room = room - 1;
         match &e.form {
@@ -82,7 +85,7 @@ impl Activation<'_> {
             | PEForm::Var { slot: _, name: _ }
             | PEForm::Const(_) => leaf(self, dag, state, *at, span, e),
             PEForm::Hole(_) => hole(self, dag, state, at, span, e),
-            PEForm::Paren(of) => self.eval(room, dag, state, at, span, of.get()),
+            PEForm::Paren(of) => self.eval(room, dag, state, at, span, inside(of.get())),
             PEForm::Unary { op, of } => {
                 self.single(room, dag, state, at, span, Single::Unary(*op), of.get())
             }
@@ -229,17 +232,11 @@ impl Activation<'_> {
     {
         match op {
             BinOp::AndThen => {
-                let v = self.eval(room, dag, state, at, span, left)?;
-                let Shape::Bit(c) = v else {
-                    return Err(AllocError);
-                };
+                let c = self.test(room, dag, state, at, span, left)?;
                 self.also(room, dag, state, at, span, c, right)
             }
             BinOp::OrElse => {
-                let v = self.eval(room, dag, state, at, span, left)?;
-                let Shape::Bit(c) = v else {
-                    return Err(AllocError);
-                };
+                let c = self.test(room, dag, state, at, span, left)?;
                 self.otherwise(room, dag, state, at, span, c, right)
             }
             _ => self.double(
@@ -344,11 +341,32 @@ impl Activation<'_> {
         let waits = state.fork(&self.setting, dag, cond)?;
         let v = self.eval(room, dag, state, at, span, e)?;
         let Shape::Bit(y) = v else {
-            return Err(AllocError);
+            return Err(never());
         };
         let gone = state.turn(waits);
         state.join(&self.setting, dag, cond, gone)?;
         Ok(y)
+    }
+
+    /// The bit of a condition. The run fails where its value is none.
+    #[cycle(run)]
+    #[inline(never)]
+    fn test(
+        &self,
+        room: u32,
+        dag: &mut Dag,
+        state: &mut SymState,
+        at: &mut usize,
+        span: Span,
+        e: &PExpr,
+    ) -> Result<BoolId, AllocError>
+        requires stands { StateStands dag.old self.now.setting.expanded.now.prog state.old }
+        ensures keeps { Keeps dag.old dag.new }
+        ensures tested { IfOk result (λ c. IsTested self.now dag.old dag.new state.old state.new at.old at.new span (eval_part self.now span e.now) c) }
+    {
+        let v = self.eval(room, dag, state, at, span, e)?;
+        let c = bit_of(&self.setting, dag, state, span, &v)?;
+        Ok(c)
     }
 
     /// The one value or the other by a condition.
@@ -369,10 +387,7 @@ impl Activation<'_> {
         ensures keeps { Keeps dag.old dag.new }
         ensures evaluated { IfOk result (λ r. IsEvaluated self.now dag.old dag.new state.old state.new at.old at.new (cond_part self.now span cond.now a.now b.now) r) }
     {
-        let v = self.eval(room, dag, state, at, span, cond)?;
-        let Shape::Bit(c) = v else {
-            return Err(AllocError);
-        };
+        let c = self.test(room, dag, state, at, span, cond)?;
         self.pick(room, dag, state, at, span, c, a, b)
     }
 
@@ -586,7 +601,7 @@ impl Activation<'_> {
         ensures evaluates { IfOk result (λ r. EvaluatesOn self.now.setting dag.old dag.new state.old state.new (λ g e vs. AreWorth g e state.old.heap values vs) r (value_called self.now span f args.now first)) }
     {
         if room == 0 {
-            return Err(AllocError);
+            return Err(too_deep());
         }
         pays_nothing(fun)?;
         let start = start_of(&self.setting.expanded.prog, f)?;
@@ -656,7 +671,7 @@ impl Activation<'_> {
         ensures copied { OnOk result (AreCopiedBack self.now dag.old dag.new state.old state.new refs.now (copied_at self.now span params.now args.now first)) }
     {
         if room == 0 {
-            return Err(AllocError);
+            return Err(too_deep());
         }
         let Some(param) = first_param(params) else {
             return Ok(());
@@ -787,8 +802,8 @@ impl Activation<'_> {
         Ok(r)
     }
 
-    /// The value of one of some strings, whose first has number `k`, by the value of a site. One past the last string, which
-    /// no site has, counts as want of memory.
+    /// The value of one of some strings, whose first has number `k`, by the value of a site. One past the last string
+    /// fails.
     #[cycle(run)]
     #[inline(never)]
     fn strings(
@@ -799,7 +814,7 @@ impl Activation<'_> {
         at: &mut usize,
         span: Span,
         site: usize,
-        k: u64,
+        k: usize,
         list: &[PExpr],
     ) -> Result<Shape, AllocError>
         requires stands { StateStands dag.old self.now.setting.expanded.now.prog state.old }
@@ -807,13 +822,13 @@ impl Activation<'_> {
         ensures evaluated { IfOk result (λ r. IsEvaluated self.now dag.old dag.new state.old state.new at.old at.new (strings_part self.now span site k list.now) r) }
     {
         if room == 0 {
-            return Err(AllocError);
+            return Err(too_deep());
         }
         let Some(found) = first_expr(list) else {
-            return Err(AllocError);
+            return fail_without(&self.setting, dag, state, span);
         };
         let next = number_behind(k)?;
-        let here = is_at_most(&self.setting, dag, site, k)?;
+        let here = is_at_most(&self.setting, dag, site, k as u64)?;
         let r = self.string(
             room - 1,
             dag,
@@ -840,7 +855,7 @@ impl Activation<'_> {
         at: &mut usize,
         span: Span,
         site: usize,
-        next: u64,
+        next: usize,
         here: BoolId,
         first: &PExpr,
         more: &[PExpr],
@@ -876,7 +891,7 @@ impl Activation<'_> {
         at: &mut usize,
         span: Span,
         site: usize,
-        next: u64,
+        next: usize,
         here: BoolId,
         first: &PExpr,
         more: &[PExpr],
@@ -894,7 +909,7 @@ impl Activation<'_> {
         Ok(r)
     }
 
-    /// What an expression names as the target of an assignment. Other forms count as want of memory.
+    /// What an expression names as the target of an assignment: a variable, a field, or an element of a target.
     #[cycle(run)]
     #[inline(never)]
     fn target(
@@ -911,7 +926,7 @@ impl Activation<'_> {
         ensures located { IfOk result (λ l. IsLocated self.now dag.old dag.new state.old state.new at.old at.new (target_part self.now span e.now) l) }
     {
         if room == 0 {
-            return Err(AllocError);
+            return Err(too_deep());
         }
         let room = room - 1;
         match &e.form {
@@ -922,7 +937,7 @@ impl Activation<'_> {
             PEForm::Index { base, index } => {
                 self.index_target(room, dag, state, at, span, base.get(), index.get())
             }
-            _ => Err(AllocError),
+            _ => Err(never()),
         }
     }
 
@@ -1062,8 +1077,7 @@ impl Activation<'_> {
         Ok(p)
     }
 
-    /// What one of some strings names, whose first has number `k`, by the value of a site. One past the last string, which no site has,
-    /// counts as want of memory.
+    /// What one of some strings names, whose first has number `k`, by the value of a site. One past the last string fails.
     #[cycle(run)]
     #[inline(never)]
     fn places(
@@ -1074,7 +1088,7 @@ impl Activation<'_> {
         at: &mut usize,
         span: Span,
         site: usize,
-        k: u64,
+        k: usize,
         list: &[PExpr],
     ) -> Result<Place, AllocError>
         requires stands { StateStands dag.old self.now.setting.expanded.now.prog state.old }
@@ -1082,13 +1096,13 @@ impl Activation<'_> {
         ensures placed { IfOk result (λ p. IsPlaced self.now dag.old dag.new state.old state.new at.old at.new (strings_target self.now span site k list.now) p) }
     {
         if room == 0 {
-            return Err(AllocError);
+            return Err(too_deep());
         }
         let Some(found) = first_expr(list) else {
-            return Err(AllocError);
+            return fail_nowhere(&self.setting, dag, state, span);
         };
         let next = number_behind(k)?;
-        let here = is_at_most(&self.setting, dag, site, k)?;
+        let here = is_at_most(&self.setting, dag, site, k as u64)?;
         let p = self.string_place(
             room - 1,
             dag,
@@ -1115,7 +1129,7 @@ impl Activation<'_> {
         at: &mut usize,
         span: Span,
         site: usize,
-        next: u64,
+        next: usize,
         here: BoolId,
         first: &PExpr,
         more: &[PExpr],
@@ -1151,7 +1165,7 @@ impl Activation<'_> {
         at: &mut usize,
         span: Span,
         site: usize,
-        next: u64,
+        next: usize,
         here: BoolId,
         first: &PExpr,
         more: &[PExpr],
@@ -1262,7 +1276,7 @@ impl Activation<'_> {
         ensures executed { OnOk result (IsExecuted self.now dag.old dag.new state.old state.new at.old at.new (stmt_part self.now stmt.now)) }
     {
         if room == 0 {
-            return Err(AllocError);
+            return Err(too_deep());
         }
         if is_over(dag, state) {
             return pass_stmt(at, stmt);
@@ -1369,10 +1383,7 @@ impl Activation<'_> {
         ensures keeps { Keeps dag.old dag.new }
         ensures executed { OnOk result (IsExecuted self.now dag.old dag.new state.old state.new at.old at.new (branch_part self.now span cond.now a.now other.now)) }
     {
-        let v = self.eval(room, dag, state, at, span, cond)?;
-        let Shape::Bit(c) = v else {
-            return Err(AllocError);
-        };
+        let c = self.test(room, dag, state, at, span, cond)?;
         self.ways(room, dag, state, at, span, c, a, other)
     }
 
@@ -1479,10 +1490,7 @@ impl Activation<'_> {
             return pass_loop(at, cond, body);
         }
         let start = *at;
-        let v = self.eval(room, dag, state, at, span, cond)?;
-        let Shape::Bit(c) = v else {
-            return Err(AllocError);
-        };
+        let c = self.test(room, dag, state, at, span, cond)?;
         self.decided(room, dag, state, at, span, left, start, c, cond, body)
     }
 
@@ -1570,7 +1578,7 @@ impl Activation<'_> {
             return pass_stmt(at, body);
         }
         if room == 0 {
-            return Err(AllocError);
+            return Err(too_deep());
         }
         let room = room - 1;
         self.exec(room, dag, state, at, body)?;
@@ -1769,12 +1777,13 @@ impl Activation<'_> {
     ) -> Result<(), AllocError>
         requires stands { StateStands dag.old self.now.setting.expanded.now.prog state.old }
         requires columns { AreOrders self.now dag.old first (length stmts.now) columns.now }
+        requires turn { n < length stmts.now }
         ensures keeps { Keeps dag.old dag.new }
         ensures executed { OnOk result (IsExecuted self.now dag.old dag.new state.old state.new at.old at.new (one_turn_part self.now first (length stmts.now) n stmts.now)) }
     {
         let mut k = 0;
         for stmt in stmts {
-            let node = turn_node(columns, k, n)?;
+            let node = turn_node(columns, k, n);
             self.ways(room, dag, state, at, span, node, stmt, &None)?;
             k += 1;
         }

@@ -7,6 +7,7 @@ ghost use Rattle.sk_sym_state.specs.Stands.{AnyStands};
 ghost use Rattle.sk_sym_walk.specs.Calls.{PaysNothing, IsResultShape, AreParams, AreShapes};
 
 use sk_dag::{Dag, Shape};
+use sk_limits::never;
 use sk_prog::{Elem, Fun, FunKind, ParamDef, Ty};
 use sk_sym_literals::zero_of;
 use std::alloc::{AllocError, Global};
@@ -48,14 +49,14 @@ pub(crate) fn first_shape<'a>(shapes: &'a [Shape]) -> Option<Shapes<'a>>
     }
 }
 
-/// Refuses a harness, which no typed program calls, as by want of memory. Any other function pays nothing before its body.
+/// Refuses a harness, which no typed program calls. Any other function pays nothing before its body.
 pub(crate) fn pays_nothing(fun: &Fun) -> Result<(), AllocError>
     ensures { OnOk result (PaysNothing fun.now) }
 {
     match fun.kind {
         FunKind::Plain => Ok(()),
         FunKind::Generator => Ok(()),
-        FunKind::Harness => Err(AllocError),
+        FunKind::Harness => Err(never()),
     }
 }
 
@@ -84,8 +85,7 @@ pub(crate) fn absent(alloc: Global, dag: &mut Dag, ty: Option<Ty>) -> Result<Sha
     Ok(r)
 }
 
-/// What a call gives as a value, of a function with this result type: 0 where it has no result. A result that is not there
-/// counts as want of memory.
+/// What a call gives as a value, of a function with this result type: 0 where it has no result.
 pub(crate) fn value_of(
     alloc: Global,
     dag: &mut Dag,
@@ -103,7 +103,7 @@ pub(crate) fn value_of(
         }
         Some(_) => match given {
             Some(r) => Ok(r),
-            None => Err(AllocError),
+            None => absent(alloc, dag, ty),
         },
     }
 }

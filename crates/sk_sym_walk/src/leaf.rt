@@ -1,10 +1,11 @@
 //! Expressions without parts.
 
-ghost use Rattle.std.specs.Prelude.{IfOk};
+ghost use Rattle.std.specs.Prelude.{◌≡◌, true, IfOk};
+ghost use Rattle.sk_model.specs.Sites.{is_hole as has_site};
 ghost use Rattle.sk_dag.specs.Eval.{Keeps};
 ghost use Rattle.sk_sym_state.specs.Stands.{StateStands};
 ghost use Rattle.sk_sym_walk.specs.Walk.{eval_part};
-ghost use Rattle.sk_sym_walk.specs.Parts.{IsEvaluated};
+ghost use Rattle.sk_sym_walk.specs.Parts.{is_leaf, IsEvaluated};
 
 use crate::activation::Activation;
 use sk_base::Span;
@@ -16,7 +17,7 @@ use sk_sym_sites::pass_expr;
 use sk_sym_state::SymState;
 use std::alloc::AllocError;
 
-/// The value of an expression without parts and without a site, at its place. Any other counts as want of memory.
+/// The value of an expression without parts and without a site, at its place.
 pub(crate) fn leaf(
     active: &Activation<'_>,
     dag: &mut Dag,
@@ -26,6 +27,7 @@ pub(crate) fn leaf(
     e: &PExpr,
 ) -> Result<Shape, AllocError>
     requires stands { StateStands dag.old active.now.setting.expanded.now.prog state.now }
+    requires leaf { is_leaf e.now.form ≡ true }
     ensures keeps { Keeps dag.old dag.new }
     ensures evaluated { IfOk result (λ r. IsEvaluated active.now dag.old dag.new state.now state.now at at (eval_part active.now span e.now) r) }
 {
@@ -38,11 +40,11 @@ pub(crate) fn leaf(
         PEForm::Null => Ok(nothing(setting, dag, state)),
         PEForm::Var { slot, name: _ } => variable(setting, dag, state, *slot),
         PEForm::Const(id) => constant(setting, dag, state, *id),
-        _ => Err(AllocError),
+        _ => unreachable!(),
     }
 }
 
-/// The value of a hole. Any other expression counts as want of memory.
+/// The value of a hole.
 pub(crate) fn hole(
     active: &Activation<'_>,
     dag: &mut Dag,
@@ -52,11 +54,12 @@ pub(crate) fn hole(
     e: &PExpr,
 ) -> Result<Shape, AllocError>
     requires stands { StateStands dag.old active.now.setting.expanded.now.prog state.now }
+    requires hole { has_site e.now.form ≡ true }
     ensures keeps { Keeps dag.old dag.new }
     ensures evaluated { IfOk result (λ r. IsEvaluated active.now dag.old dag.new state.now state.now at.old at.new (eval_part active.now span e.now) r) }
 {
     let PEForm::Hole(_) = &e.form else {
-        return Err(AllocError);
+        unreachable!()
     };
     let _span = span;
     let r = hole_here(

@@ -3,6 +3,7 @@
 
 mod activation;
 mod calling;
+mod failing;
 mod leaf;
 mod pattern;
 mod step;

@@ -8,7 +8,7 @@ ghost use Rattle.sk_model.specs.Parts.{value};
 ghost use Rattle.sk_sym_state.specs.Meaning.{IsLater, choice_at};
 ghost use Rattle.sk_sym_walk.specs.Patterns.{AreExprs};
 
-use crate::step::size_of;
+use crate::step::{pass_site, size_of};
 use sk_dag::{BoolId, Dag};
 use sk_prog::PExpr;
 use sk_sym_folds::{flag, not, site_above};
@@ -33,13 +33,12 @@ pub(crate) fn first_expr<'a>(list: &'a [PExpr]) -> Option<Exprs<'a>>
 }
 
 /// The number behind another one.
-pub(crate) fn number_behind(k: u64) -> Result<u64, AllocError>
+pub(crate) fn number_behind(k: usize) -> Result<usize, AllocError>
     ensures { IfOk result (λ next. next ≡ k + 1) }
 {
-    match k.checked_add(1) {
-        None => Err(AllocError),
-        Some(next) => Ok(next),
-    }
+    let mut next = k;
+    pass_site(&mut next)?;
+    Ok(next)
 }
 
 /// Whether the value of a site is at most `k`, which needs no test where the site has no value above it.
@@ -54,7 +53,7 @@ pub(crate) fn is_at_most(
     ensures value { IfOk result (λ r. (g : Graph) (e : Env) → IsLater setting.now dag.new g e →
         bool_value g e r ≡ opposite (nat_lt k (value (choice_at setting.now e).values site))) }
 {
-    let size = size_of(setting.expanded.sites.as_slice(), site)?;
+    let size = size_of(setting.expanded.sites.as_slice(), site);
     if size.saturating_sub(1) <= k {
         let r = flag(dag, true)?;
         return Ok(r);

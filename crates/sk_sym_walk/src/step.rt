@@ -1,6 +1,6 @@
 //! Steps of the walk that run no part.
 
-ghost use Rattle.std.specs.Prelude.{◌≡◌, ◌+◌, ◌-◌, ◌<◌, ℕ, List, nat_lt, IfOk, OnOk, IsTrue, false, option_map};
+ghost use Rattle.std.specs.Prelude.{◌≡◌, ◌+◌, ◌-◌, ◌<◌, ℕ, List, length, nat_lt, IfOk, OnOk, IsTrue, false, option_map};
 ghost use Rattle.sk_dag.specs.declared.env.Env.{Env};
 ghost use Rattle.sk_dag.specs.Graph.{Graph, Grows, HasBool};
 ghost use Rattle.sk_dag.specs.Eval.{bool_value, Keeps};
@@ -8,15 +8,16 @@ ghost use Rattle.sk_arr.specs.Shapes.{Stands};
 ghost use Rattle.sk_sym_sites.specs.Counts.{any_count, expr_count, stmt_count};
 ghost use Rattle.sk_sym_state.specs.Stands.{StateStands};
 ghost use Rattle.sk_sym_state.specs.Branching.{SideStands};
-ghost use Rattle.sk_sym_walk.specs.Parts.{AreJoinedWith};
+ghost use Rattle.sk_sym_walk.specs.Parts.{IsAs, AreJoinedWith};
 ghost use Rattle.sk_model.specs.Sites.{is_hole as has_site};
 ghost use Rattle.sk_model.specs.Fill.{Fits};
 ghost use Rattle.sk_model.specs.Parts.{value};
 ghost use Rattle.sk_sym_state.specs.Meaning.{IsLater, choice_at};
-ghost use Rattle.sk_sym_walk.specs.Orders.{IsNodeOf};
+ghost use Rattle.sk_sym_walk.specs.Orders.{HasTurn, IsNodeOf};
 
 use sk_base::{Boxed, List};
 use sk_dag::{BoolId, Dag, Shape};
+use sk_limits::never;
 use sk_model::Site;
 use sk_prog::{PEForm, PExpr, PStmt};
 use sk_sym_folds::{known_bool, site_above};
@@ -58,6 +59,16 @@ pub(crate) fn joined(
     Ok(r)
 }
 
+/// What stands inside parentheses, however many there are.
+pub(crate) fn inside(e: &PExpr) -> &PExpr
+    ensures { IsAs e.now result.now }
+{
+    match &e.form {
+        PEForm::Paren(of) => inside(of.get()),
+        _ => e,
+    }
+}
+
 /// Passes the sites of a statement that may not be there.
 pub(crate) fn pass_other(at: &mut usize, other: &Option<Boxed<PStmt>>) -> Result<(), AllocError>
     ensures { OnOk result (at.new ≡ at.old + any_count (option_map stmt_count other.now)) }
@@ -77,12 +88,12 @@ pub(crate) fn pass_loop(at: &mut usize, cond: &PExpr, body: &PStmt) -> Result<()
     Ok(())
 }
 
-/// Passes one site.
-pub(crate) fn pass_site(at: &mut usize) -> Result<(), AllocError>
-    ensures { OnOk result (at.new ≡ at.old + 1) }
+/// Passes so many sites.
+fn pass(at: &mut usize, count: usize) -> Result<(), AllocError>
+    ensures { OnOk result (at.new ≡ at.old + count) }
 {
-    match at.checked_add(1) {
-        None => Err(AllocError),
+    match at.checked_add(count) {
+        None => Err(never()),
         Some(next) => {
             *at = next;
             Ok(())
@@ -90,14 +101,21 @@ pub(crate) fn pass_site(at: &mut usize) -> Result<(), AllocError>
     }
 }
 
-/// How many values a site may have. One that is not there counts as want of memory.
-pub(crate) fn size_of(sites: &[Site], site: usize) -> Result<u64, AllocError>
-    ensures { IfOk result (λ size. (values : List ℕ) → Fits sites.now values → value values site < size) }
+/// Passes one site.
+pub(crate) fn pass_site(at: &mut usize) -> Result<(), AllocError>
+    ensures { OnOk result (at.new ≡ at.old + 1) }
+{
+    pass(at, 1)
+}
+
+/// How many values a site may have. One that is not there has the value 0.
+pub(crate) fn size_of(sites: &[Site], site: usize) -> u64
+    ensures { (values : List ℕ) → Fits sites.now values → value values site < result }
 {
     if site >= sites.len() {
-        return Err(AllocError);
+        return 1;
     }
-    Ok(sites[site].size)
+    sites[site].size
 }
 
 /// Whether the value of a site is above `k`.
@@ -112,7 +130,7 @@ pub(crate) fn exceeds(
     ensures value { IfOk result (λ r. (g : Graph) (e : Env) → IsLater setting.now dag.new g e →
         bool_value g e r ≡ nat_lt k (value (choice_at setting.now e).values site)) }
 {
-    let size = size_of(setting.expanded.sites.as_slice(), site)?;
+    let size = size_of(setting.expanded.sites.as_slice(), site);
     let r = site_above(dag, site, size, k, setting.choice)?;
     Ok(r)
 }
@@ -131,29 +149,15 @@ pub(crate) fn is_hole(count: &PExpr) -> bool
 pub(crate) fn pass_digits(at: &mut usize, count: usize) -> Result<(), AllocError>
     ensures { OnOk result (at.new ≡ at.old + (count - 1)) }
 {
-    match at.checked_add(count.saturating_sub(1)) {
-        None => Err(AllocError),
-        Some(next) => {
-            *at = next;
-            Ok(())
-        }
-    }
+    pass(at, count.saturating_sub(1))
 }
 
-/// The node that says whether a turn is that of a statement. One that is not there counts as want of memory.
-pub(crate) fn turn_node(
-    columns: &[List<BoolId>],
-    k: usize,
-    turn: usize,
-) -> Result<BoolId, AllocError>
-    ensures { IfOk result (λ r. IsNodeOf columns.now k turn r) }
+/// The node that says whether a turn is that of a statement.
+pub(crate) fn turn_node(columns: &[List<BoolId>], k: usize, turn: usize) -> BoolId
+    requires statement { k < length columns.now }
+    requires turn { HasTurn columns.now k turn }
+    ensures { IsNodeOf columns.now k turn result }
 {
-    if k >= columns.len() {
-        return Err(AllocError);
-    }
     let column = columns[k].as_slice();
-    if turn >= column.len() {
-        return Err(AllocError);
-    }
-    Ok(column[turn])
+    column[turn]
 }

@@ -10,4 +10,4 @@ pub returns-then-saturating_sub-k-clause-value : goal.returns-then-saturating_su
 returns-then-saturating_sub-k-clause-value c = λ g e l.
     let values = (choice_at c.args.setting.now e).values in
     let v = value values c.args.site in
-    c.in_ok-r.ensures.value g l.grows e ∙ sym (ap not (le-ltb c.args.k v (omega (arith, c.in_ok-size.ensures values (subst (λ sites. Fits sites values) (sym c.as_slice.ensures) l.range.fits)))))
+    c.in_ok-r.ensures.value g l.grows e ∙ sym (ap not (le-ltb c.args.k v (omega (arith, c.size_of-size.ensures values (subst (λ sites. Fits sites values) (sym c.as_slice.ensures) l.range.fits)))))

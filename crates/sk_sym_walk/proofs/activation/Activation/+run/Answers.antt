@@ -9,11 +9,13 @@ use Rattle.sk_arr.proofs.Standing.{Stands-keeps, bit_there, bit_stands, array_st
 use Rattle.sk_sym_state.proofs.Standing.{AnyStands-keeps, StateStands-keeps, SideStands-keeps, turned_stands, gone_stands}
 use Rattle.sk_sym_walk.specs.Walk.{eval_part, exec_all_at, stmt_part, all_part}
 use Rattle.sk_sym_walk.specs.Parts.{given, list_part, AreEvaluated, other_part}
-use Rattle.sk_sym_walk.proofs.Sequences.{ok_more, evaluated_as, bit_worth, evaluated_then, evaluated_parts, two_evaluated, given_evaluated, on_ok, same_part, executed_as, executed_parts, executed_none, executed_over, siteless_executed, executes_cut, executes_nothing, executed_then}
+use Rattle.sk_sym_walk.proofs.Sequences.{ok_more, evaluated_as, bit_worth, evaluated_then, evaluated_parts, two_evaluated, given_evaluated, on_ok, same_part, executed_as, executed_parts, executed_none, executed_over, siteless_executed, siteless_evaluated, executes_cut, executes_nothing, executed_then}
 use Rattle.sk_sym_walk.proofs.Ways.{first_evaluated, second_evaluated, both_evaluated, guarded_is, also_evaluated, otherwise_evaluated, first_executed, second_executed, both_executed}
-use Rattle.sk_sym_walk.proofs.Layers.{same_paren, same_unary, same_to_int, same_pad, same_member, same_index, same_slice, same_braces, same_binary, same_cond, same_eager, same_also, same_otherwise, same_block, same_assert, same_assume, same_minimize, same_call, same_return, same_end, same_zero, same_declare, same_branch, all_count, all_more, same_calling}
+use Rattle.sk_sym_walk.proofs.Layers.{same_inside, same_unary, same_to_int, same_pad, same_member, same_index, same_slice, same_braces, same_binary, same_cond, same_eager, same_also, same_otherwise, same_block, same_assert, same_assume, same_minimize, same_call, same_return, same_end, same_zero, same_declare, same_branch, all_count, all_more, same_calling}
+use Rattle.sk_sym_walk.proofs.Conditions.{tested_is, evaluated_by, executed_by, no_string, no_string_target, siteless_placed}
 use Rattle.sk_sym_walk.proofs.Lists.{list_none, list_more, braces_evaluated}
 use Rattle.sk_sym_walk.proofs.Places.{expr_behind, stmt_behind, other_behind}
+use Rattle.sk_model.specs.Sites.{is_hole}
 use Rattle.sk_model.specs.Step.{and_then, pure}
 use Rattle.sk_model.specs.Exec.{Onward, unless_returned}
 use Rattle.sk_sym_state.specs.Meaning.{Executes}
@@ -47,6 +49,9 @@ use Rattle.sk_sym_walk.proofs.activation.Activation.+run.Goals as goal
 
 -- ---- forms
 
+pub eval-hole-requires-clause-hole : goal.eval-hole-requires-clause-hole
+eval-hole-requires-clause-hole t c = ap is_hole c.in-Hole.is
+
 pub eval-eval-requires : goal.eval-eval-requires
 eval-eval-requires t c = (omega arith, c.requires.stands)
 
@@ -68,7 +73,7 @@ eval-cond-requires t c = (omega arith, c.requires.stands)
 pub eval-returns-in-Paren-clause-evaluated : goal.eval-returns-in-Paren-clause-evaluated
 eval-returns-in-Paren-clause-evaluated t c =
     let is = rw (← c.get.ensures) at c.in-Paren.is in
-    ok_more c.eval.result (λ r. evaluated_as (same_paren c.args.self.now c.args.span c.args.e.now c.get.result.now is)) c.eval.ensures.evaluated
+    ok_more c.eval.result (λ r. evaluated_as (same_inside c.args.self.now c.args.span c.args.e.now c.get.result.now c.inside.result.now is c.inside.ensures)) c.eval.ensures.evaluated
 
 pub eval-returns-in-Unary-clause-evaluated : goal.eval-returns-in-Unary-clause-evaluated
 eval-returns-in-Unary-clause-evaluated t c =
@@ -201,36 +206,34 @@ double-returns-clause-evaluated t c = two_evaluated c.in_ok-a.ensures.evaluated 
 
 -- ---- operators
 
-pub binary-eval-requires : goal.binary-eval-requires
-binary-eval-requires t c = (omega arith, c.requires.stands)
+pub binary-test-requires : goal.binary-test-requires
+binary-test-requires t c = (omega arith, c.requires.stands)
 
-pub binary-eval-requires-in-OrElse : goal.binary-eval-requires-in-OrElse
-binary-eval-requires-in-OrElse t c = (omega arith, c.requires.stands)
+pub binary-test-requires-in-OrElse : goal.binary-test-requires-in-OrElse
+binary-test-requires-in-OrElse t c = (omega arith, c.requires.stands)
 
 pub binary-double-requires : goal.binary-double-requires
 binary-double-requires t c = (omega arith, c.requires.stands)
 
 pub binary-also-requires : goal.binary-also-requires
-binary-also-requires t c = let v = c.in_ok-v-in-AndThen.ensures.evaluated.evaluates in (omega arith, (v.does.moves.stands, bit_there v.there c.in-Bit.is))
+binary-also-requires t c = let v = c.in_ok-c-in-AndThen.ensures.tested in (omega arith, (v.does.moves.stands, v.there))
 
 pub binary-otherwise-requires : goal.binary-otherwise-requires
-binary-otherwise-requires t c = let v = c.in_ok-v-in-OrElse.ensures.evaluated.evaluates in (omega arith, (v.does.moves.stands, bit_there v.there c.in-Bit-v.is))
+binary-otherwise-requires t c = let v = c.in_ok-c-in-OrElse.ensures.tested in (omega arith, (v.does.moves.stands, v.there))
 
-pub binary-returns-in-Bit-clause-keeps : goal.binary-returns-in-Bit-clause-keeps
-binary-returns-in-Bit-clause-keeps t c = Keeps-trans c.in_ok-v-in-AndThen.ensures.keeps c.also.ensures.keeps
+pub binary-returns-in_ok-c-in-AndThen-clause-keeps : goal.binary-returns-in_ok-c-in-AndThen-clause-keeps
+binary-returns-in_ok-c-in-AndThen-clause-keeps t c = Keeps-trans c.in_ok-c-in-AndThen.ensures.keeps c.also.ensures.keeps
 
-pub binary-returns-in-Bit-clause-evaluated : goal.binary-returns-in-Bit-clause-evaluated
-binary-returns-in-Bit-clause-evaluated t c =
-    let v = rw c.in-Bit.is at c.in_ok-v-in-AndThen.ensures.evaluated in
-    ok_more c.also.result (λ r h. evaluated_as (same_also c.args.self.now c.args.span c.args.op c.args.left.now c.args.right.now c.in-AndThen.is) (evaluated_parts (λ g e v w. bit_worth w) v h)) c.also.ensures.evaluated
+pub binary-returns-in_ok-c-in-AndThen-clause-evaluated : goal.binary-returns-in_ok-c-in-AndThen-clause-evaluated
+binary-returns-in_ok-c-in-AndThen-clause-evaluated t c =
+    ok_more c.also.result (λ r h. evaluated_as (same_also c.args.self.now c.args.span c.args.op c.args.left.now c.args.right.now c.in-AndThen.is) (evaluated_by (eval_part c.args.self.now c.args.span c.args.right.now) (given false) c.in_ok-c-in-AndThen.ensures.tested h)) c.also.ensures.evaluated
 
-pub binary-returns-in-Bit-v-clause-keeps : goal.binary-returns-in-Bit-v-clause-keeps
-binary-returns-in-Bit-v-clause-keeps t c = Keeps-trans c.in_ok-v-in-OrElse.ensures.keeps c.otherwise.ensures.keeps
+pub binary-returns-in_ok-c-in-OrElse-clause-keeps : goal.binary-returns-in_ok-c-in-OrElse-clause-keeps
+binary-returns-in_ok-c-in-OrElse-clause-keeps t c = Keeps-trans c.in_ok-c-in-OrElse.ensures.keeps c.otherwise.ensures.keeps
 
-pub binary-returns-in-Bit-v-clause-evaluated : goal.binary-returns-in-Bit-v-clause-evaluated
-binary-returns-in-Bit-v-clause-evaluated t c =
-    let v = rw c.in-Bit-v.is at c.in_ok-v-in-OrElse.ensures.evaluated in
-    ok_more c.otherwise.result (λ r h. evaluated_as (same_otherwise c.args.self.now c.args.span c.args.op c.args.left.now c.args.right.now c.in-OrElse.is) (evaluated_parts (λ g e v w. bit_worth w) v h)) c.otherwise.ensures.evaluated
+pub binary-returns-in_ok-c-in-OrElse-clause-evaluated : goal.binary-returns-in_ok-c-in-OrElse-clause-evaluated
+binary-returns-in_ok-c-in-OrElse-clause-evaluated t c =
+    ok_more c.otherwise.result (λ r h. evaluated_as (same_otherwise c.args.self.now c.args.span c.args.op c.args.left.now c.args.right.now c.in-OrElse.is) (evaluated_by (given true) (eval_part c.args.self.now c.args.span c.args.right.now) c.in_ok-c-in-OrElse.ensures.tested h)) c.otherwise.ensures.evaluated
 
 pub binary-returns-in_default-clause-evaluated : goal.binary-returns-in_default-clause-evaluated
 binary-returns-in_default-clause-evaluated t c = ok_more c.double.result (λ r. evaluated_as (same_eager c.args.self.now c.args.span c.args.op c.args.left.now c.args.right.now c.in_default.not-AndThen c.in_default.not-OrElse)) c.double.ensures.evaluated
@@ -325,19 +328,29 @@ guarded-returns-clause-guarded t c =
 
 -- ---- `?:`
 
-pub cond-eval-requires : goal.cond-eval-requires
-cond-eval-requires t c = (omega arith, c.requires.stands)
+pub test-eval-requires : goal.test-eval-requires
+test-eval-requires t c = (omega arith, c.requires.stands)
+
+pub test-returns-in_err-c-clause-keeps : goal.test-returns-in_err-c-clause-keeps
+test-returns-in_err-c-clause-keeps t c = Keeps-trans c.in_ok-v.ensures.keeps c.bit_of.ensures.keeps
+
+pub test-returns-clause-keeps : goal.test-returns-clause-keeps
+test-returns-clause-keeps t c = Keeps-trans c.in_ok-v.ensures.keeps c.in_ok-c.ensures.keeps
+
+pub test-returns-clause-tested : goal.test-returns-clause-tested
+test-returns-clause-tested t c = tested_is c.args.span c.in_ok-v.ensures.evaluated c.in_ok-c.ensures.does c.in_ok-c.ensures.there
+
+pub cond-test-requires : goal.cond-test-requires
+cond-test-requires t c = (omega arith, c.requires.stands)
 
 pub cond-pick-requires : goal.cond-pick-requires
-cond-pick-requires t c = let v = c.in_ok-v.ensures.evaluated.evaluates in (omega arith, (v.does.moves.stands, bit_there v.there c.in-Bit.is))
+cond-pick-requires t c = let v = c.in_ok-c.ensures.tested in (omega arith, (v.does.moves.stands, v.there))
 
 pub cond-returns-clause-keeps : goal.cond-returns-clause-keeps
-cond-returns-clause-keeps t c = Keeps-trans c.in_ok-v.ensures.keeps c.pick.ensures.keeps
+cond-returns-clause-keeps t c = Keeps-trans c.in_ok-c.ensures.keeps c.pick.ensures.keeps
 
 pub cond-returns-clause-evaluated : goal.cond-returns-clause-evaluated
-cond-returns-clause-evaluated t c =
-    let v = rw c.in-Bit.is at c.in_ok-v.ensures.evaluated in
-    ok_more c.pick.result (λ r. evaluated_parts (λ g e v w. bit_worth w) v) c.pick.ensures.evaluated
+cond-returns-clause-evaluated t c = ok_more c.pick.result (λ r. evaluated_by (eval_part c.args.self.now c.args.span c.args.a.now) (eval_part c.args.self.now c.args.span c.args.b.now) c.in_ok-c.ensures.tested) c.pick.ensures.evaluated
 
 pub pick-eval-requires : goal.pick-eval-requires
 pick-eval-requires t c = (omega arith, c.requires.stands)
@@ -450,8 +463,8 @@ act-returns-clause-keeps t c = Keeps-trans c.in_ok-v.ensures.keeps c.in_ok-perfo
 pub act-returns-clause-executed : goal.act-returns-clause-executed
 act-returns-clause-executed t c = executed_then c.in_ok-v.ensures.evaluated c.in_ok-perform.ensures.executes
 
-pub branches-eval-requires : goal.branches-eval-requires
-branches-eval-requires t c = (omega arith, c.requires.stands)
+pub branches-test-requires : goal.branches-test-requires
+branches-test-requires t c = (omega arith, c.requires.stands)
 
 pub exec-act-requires : goal.exec-act-requires
 exec-act-requires t c = (omega arith, c.requires.stands)
@@ -524,15 +537,13 @@ pub both_ways-returns-clause-executed : goal.both_ways-returns-clause-executed
 both_ways-returns-clause-executed t c = both_executed c.args.span c.in_ok-waits.ensures.forked c.in_ok-exec.ensures.executed c.turn-gone.ensures c.in_ok-other.ensures.executed c.in_ok-join.ensures.joined
 
 pub branches-ways-requires : goal.branches-ways-requires
-branches-ways-requires t c = let v = c.in_ok-v.ensures.evaluated.evaluates in (omega arith, (v.does.moves.stands, bit_there v.there c.in-Bit.is))
+branches-ways-requires t c = let v = c.in_ok-c.ensures.tested in (omega arith, (v.does.moves.stands, v.there))
 
 pub branches-returns-clause-keeps : goal.branches-returns-clause-keeps
-branches-returns-clause-keeps t c = Keeps-trans c.in_ok-v.ensures.keeps c.ways.ensures.keeps
+branches-returns-clause-keeps t c = Keeps-trans c.in_ok-c.ensures.keeps c.ways.ensures.keeps
 
 pub branches-returns-clause-executed : goal.branches-returns-clause-executed
-branches-returns-clause-executed t c =
-    let v = rw c.in-Bit.is at c.in_ok-v.ensures.evaluated in
-    on_ok c.ways.result (executed_parts (λ g e v w. bit_worth w) v) c.ways.ensures.executed
+branches-returns-clause-executed t c = on_ok c.ways.result (executed_by (stmt_part c.args.self.now c.args.a.now) (other_part c.args.self.now c.args.other.now) c.in_ok-c.ensures.tested) c.ways.ensures.executed
 
 pub exec-returns-then-is_over-clause-executed : goal.exec-returns-then-is_over-clause-executed
 exec-returns-then-is_over-clause-executed t c = on_ok c.pass_stmt.result (λ p. executed_over c.requires.stands (c.is_over.ensures c.if-is_over.true) (stmt_behind _ c.args.self.now c.args.stmt.now p)) c.pass_stmt.ensures
@@ -678,19 +689,17 @@ exec-returns-in-MinRepeat-clause-executed t c =
 
 pub turns-decided-requires : goal.turns-decided-requires
 turns-decided-requires t c =
-    let v = c.in_ok-v.ensures.evaluated in
-    (omega arith, (v.evaluates.does.moves.stands, (bit_there v.evaluates.there c.in-Bit.is, v.place)))
+    let v = c.in_ok-c.ensures.tested in
+    (omega arith, (v.does.moves.stands, (v.there, v.place)))
 
 pub turns-returns-then-is_over-clause-executed : goal.turns-returns-then-is_over-clause-executed
 turns-returns-then-is_over-clause-executed t c = on_ok c.pass_loop.result (λ p. executed_over c.requires.stands (c.is_over.ensures c.if-is_over.true) (loop_behind c.args.self.now c.args.span c.args.left c.args.cond.now c.args.body.now _ p)) c.pass_loop.ensures
 
 pub turns-returns-clause-keeps : goal.turns-returns-clause-keeps
-turns-returns-clause-keeps t c = Keeps-trans c.in_ok-v.ensures.keeps c.decided.ensures.keeps
+turns-returns-clause-keeps t c = Keeps-trans c.in_ok-c.ensures.keeps c.decided.ensures.keeps
 
 pub turns-returns-clause-executed : goal.turns-returns-clause-executed
-turns-returns-clause-executed t c =
-    let v = rw c.in-Bit.is at c.in_ok-v.ensures.evaluated in
-    on_ok c.decided.result (turns_executed c.args.self.now c.args.span c.args.left c.args.cond.now c.args.body.now v) c.decided.ensures.executed
+turns-returns-clause-executed t c = on_ok c.decided.result (turns_executed c.args.self.now c.args.span c.args.left c.args.cond.now c.args.body.now c.in_ok-c.ensures.tested) c.decided.ensures.executed
 
 pub decided-turn-requires : goal.decided-turn-requires
 decided-turn-requires t c = (omega arith, (c.requires.stands, c.requires.start))
@@ -864,7 +873,7 @@ ordered-returns-clause-executed t c = on_ok c.pass_stmts.result (λ p. record { 
 pub all_turns-one_turn-requires : goal.all_turns-one_turn-requires
 all_turns-one_turn-requires t c =
     let m = c.loop-n.invariant.executes.moves in
-    (omega arith, (m.stands, orders_keep c.args.self.now m.keeps c.requires.columns))
+    (omega arith, (m.stands, (orders_keep c.args.self.now m.keeps c.requires.columns, c.loop-n-test.true)))
 
 pub all_turns-loop-n-init : goal.all_turns-loop-n-init
 all_turns-loop-n-init t c = record { executes = executes_nothing {x = c.args.self.now.setting} c.requires.stands; within = omega arith }
@@ -891,7 +900,7 @@ all_turns-returns-clause-executes t c =
 pub one_turn-ways-requires : goal.one_turn-ways-requires
 one_turn-ways-requires t c =
     let m = c.loop-stmt.invariant.executes.moves in
-    (omega arith, (m.stands, (is_turn c.args.self.now (orders_keep c.args.self.now m.keeps c.requires.columns) c.in_ok-node.ensures).there))
+    (omega arith, (m.stands, (is_turn c.args.self.now (orders_keep c.args.self.now m.keeps c.requires.columns) c.turn_node-node.ensures).there))
 
 pub one_turn-loop-stmt-init : goal.one_turn-loop-stmt-init
 one_turn-loop-stmt-init t c = record {
@@ -907,7 +916,7 @@ one_turn-loop-stmt-preserved t c =
     let self = c.args.self.now in
     let list = c.args.stmts.now in
     let stmt = c.stmt-item.result in
-    let turn = is_turn self (orders_keep self inv.executes.moves.keeps c.requires.columns) c.in_ok-node.ensures in
+    let turn = is_turn self (orders_keep self inv.executes.moves.keeps c.requires.columns) c.turn_node-node.ensures in
     let h = c.in_ok-ways.ensures.executed in
     record {
       executes = executes_same (λ e s.
@@ -919,8 +928,13 @@ one_turn-loop-stmt-preserved t c =
       count = omega (arith, inv.count);
     }
 
-pub one_turn-returns-in_err-node-clause-keeps : goal.one_turn-returns-in_err-node-clause-keeps
-one_turn-returns-in_err-node-clause-keeps t c = c.loop-stmt.invariant.executes.moves.keeps
+pub one_turn-turn_node-node-requires-clause-statement : goal.one_turn-turn_node-node-requires-clause-statement
+one_turn-turn_node-node-requires-clause-statement t c = omega (arith, c.loop-stmt.invariant.count, c.loop-stmt-test.true, c.requires.columns.long)
+
+pub one_turn-turn_node-node-requires-clause-turn : goal.one_turn-turn_node-node-requires-clause-turn
+one_turn-turn_node-node-requires-clause-turn t c = λ column is.
+    let here = (c.requires.columns.each c.loop-stmt.k column (omega (arith, c.loop-stmt.invariant.count, c.loop-stmt-test.true))).long in
+    omega (arith, c.requires.turn, ap (λ ns. length ns) is, here)
 
 pub one_turn-returns-in_err-ways-clause-keeps : goal.one_turn-returns-in_err-ways-clause-keeps
 one_turn-returns-in_err-ways-clause-keeps t c = Keeps-trans c.loop-stmt.invariant.executes.moves.keeps c.ways.ensures.keeps
@@ -938,8 +952,8 @@ one_turn-returns-clause-executed t c =
       place = record { place = λ e. inv.place.place e ∙ ap (λ xs. c.args.at.now + (all_part self xs e).count) whole };
     }
 
-pub turns-eval-requires : goal.turns-eval-requires
-turns-eval-requires t c = (omega arith, c.requires.stands)
+pub turns-test-requires : goal.turns-test-requires
+turns-test-requires t c = (omega arith, c.requires.stands)
 
 -- ---- targets, assignments and new records
 
@@ -1057,6 +1071,9 @@ pattern-returns-clause-evaluated t c = pattern_evaluated c.args.span c.args.list
 
 pub strings-string-requires : goal.strings-string-requires
 strings-string-requires t c = (omega arith, (StateStands-keeps c.in_ok-here.ensures.keeps c.requires.stands, c.in_ok-here.ensures.there))
+
+pub strings-returns-in_default-clause-evaluated : goal.strings-returns-in_default-clause-evaluated
+strings-returns-in_default-clause-evaluated t c = ok_more c.fail_without.result (λ r h. evaluated_as (no_string c.args.self.now c.args.span c.args.site c.args.k c.in_default.ensures) (siteless_evaluated h)) c.fail_without.ensures.evaluates
 
 pub strings-returns-in_err-r-clause-keeps : goal.strings-returns-in_err-r-clause-keeps
 strings-returns-in_err-r-clause-keeps t c = Keeps-trans c.in_ok-here.ensures.keeps c.string.ensures.keeps
@@ -1294,6 +1311,9 @@ pattern_place-returns-clause-placed t c = pattern_placed c.args.span c.args.list
 
 pub places-string_place-requires : goal.places-string_place-requires
 places-string_place-requires t c = (omega arith, (StateStands-keeps c.in_ok-here.ensures.keeps c.requires.stands, c.in_ok-here.ensures.there))
+
+pub places-returns-in_default-clause-placed : goal.places-returns-in_default-clause-placed
+places-returns-in_default-clause-placed t c = ok_more c.fail_nowhere.result (λ p h. placed_as (no_string_target c.args.self.now c.args.span c.args.site c.args.k c.in_default.ensures) (siteless_placed h)) c.fail_nowhere.ensures.places
 
 pub places-returns-in_err-p-clause-keeps : goal.places-returns-in_err-p-clause-keeps
 places-returns-in_err-p-clause-keeps t c = Keeps-trans c.in_ok-here.ensures.keeps c.string_place.ensures.keeps

@@ -74,6 +74,9 @@ invariant-exec_all-loop-stmt l = record {
 abbrev pub decreases-eval : goal.decreases-eval
 decreases-eval l = 8 * l.room
 
+abbrev pub decreases-test : goal.decreases-test
+decreases-test l = 8 * l.room + 1
+
 abbrev pub decreases-single : goal.decreases-single
 decreases-single l = 8 * l.room + 1
 
