@@ -1,6 +1,6 @@
 -- What a run is, and what its outcome says.
 use Rattle.std.proofs.Common.{◌≡◌, ℕ, suc, ◌<◌, List, [], ◌∷◌, map, Option, Some, None, refl, sym, ap, subst, ◌∙◌, if◌then◌else◌}
-use Rattle.std.specs.Prelude.{slice_get}
+use Rattle.std.specs.Prelude.{Bool, true, false, nat_lt, slice_get}
 use Rattle.std.specs.Option.{option_copied}
 use Rattle.std.proofs.lemmas.Bool.{lt-ltb}
 use Rattle.sk_base.specs.declared.span.Span.{Span}
@@ -11,14 +11,17 @@ use Rattle.sk_dag.specs.Graph.{Graph, HasBool, HasCost}
 use Rattle.sk_dag.specs.Eval.{bool_value, cost_value, Keeps}
 use Rattle.sk_arr.specs.Shapes.{AllStand}
 use Rattle.sk_arr.specs.Answers.{AreCopies}
+use Rattle.sk_arr.proofs.Values.{stand_none}
 use Rattle.sk_heap.specs.declared.slot.Slot.{Slot}
 use Rattle.sk_prog.specs.declared.ids.FunId.{FunId}
 use Rattle.sk_prog.specs.declared.ty.Ty.{Ty}
 use Rattle.sk_prog.specs.declared.value.Value.{Value}
 use Rattle.sk_prog.specs.declared.prog.Fun.{Fun}
 use Rattle.sk_prog.specs.declared.prog.Prog.{Prog}
+use Rattle.sk_model.specs.declared.expanded.Choice.{Choice}
 use Rattle.sk_model.specs.declared.expanded.Expanded.{Expanded}
-use Rattle.sk_model.specs.Step.{State, Step, Goes, Fails, Skips, and_then, fail}
+use Rattle.sk_model.specs.declared.outcome.Outcome.TheVariants as outcome
+use Rattle.sk_model.specs.Step.{State, Step, Goes, Fails, Skips, Comp, and_then, fail}
 use Rattle.sk_model.specs.Values.{zero_of}
 use Rattle.sk_model.specs.Eval.{Called}
 use Rattle.sk_model.specs.Exec.{Flow, Onward, Returns, unless_returned, one_by_one, exec_stmt}
@@ -41,7 +44,7 @@ use Rattle.sk_sym.specs.declared.outcome.SymOutcome.{SymOutcome}
 use Rattle.sk_sym.specs.Beginning.{IsBeginning}
 use Rattle.sk_sym.specs.Paying.{pays, program_pays, first_paid}
 use Rattle.sk_sym.specs.Bodies.{body_at, call_at, EndsSo, IsFirst}
-use Rattle.sk_sym.specs.Outcome.{ResultSays, Says, IsResultOf, IsMadeOf, IsOutcome}
+use Rattle.sk_sym.specs.Outcome.{ResultSays, Says, choice_of, IsResultOf, IsMadeOf, IsOutcome, AlwaysFails}
 use Rattle.sk_sym.proofs.Names.{worth_anywhere, all_worth_anywhere, worth_alike}
 use Rattle.sk_sym.proofs.Paid.{all_append, before_pays}
 
@@ -140,3 +143,46 @@ says_run {d1 = d1} {d2 = d2} {s0 = s0} {s1 = s1} {list = list} {args = args} {r 
     any_stands None given o at h = subst (AnyStands d2) (sym at) tt
     any_stands (Some t) None o at h = subst (AnyStands d2) (sym at) tt
     any_stands (Some t) (Some b) o at h = subst (AnyStands d2) (sym at.0) h
+
+-- ---- runs that fail at once
+
+module _ (prog : Prog) (bounds : Bounds) (bodies : Bodies) (f : ℕ) (span : Span) (args : List Value) (s : State) where
+  no_calls : (left : ℕ) → bounds.inline_amnt ≡ 0 → calls prog bounds bodies (suc left) [] span f args s ≡ Fails span
+  unfolding calls
+  no_calls left none = ap (λ n. (if nat_lt 0 n then body_of (bodies (calls prog bounds bodies left (f ∷ [])) f) span (slice_get prog.funs f) args else fail span) s) none
+
+  by_none : (does : Fun → Comp Flow) (few : Bool) (found : Option Fun) → found ≡ None → (if few then body_of does span found args else fail span) s ≡ Fails span
+  by_none does true found none = ap (λ o. body_of does span o args s) none
+  by_none does false found none = refl
+
+  no_function : (left : ℕ) → slice_get prog.funs f ≡ None → calls prog bounds bodies (suc left) [] span f args s ≡ Fails span
+  unfolding calls
+  no_function left none = by_none (bodies (calls prog bounds bodies left (f ∷ [])) f) (nat_lt 0 bounds.inline_amnt) (slice_get prog.funs f) none
+
+module _ (x : Expanded) (choice : Choice) (f : FunId) (args : List Value) (bounds : Bounds) where
+  -- no call may be active
+  run_without_calls : bounds.inline_amnt ≡ 0 → run_open x choice f args bounds ≡ outcome.Failed nowhere
+  unfolding run_open
+  run_without_calls none = ap outcome_of (no_calls x.prog bounds (open_bodies x choice bounds) f.index nowhere args start 127 none)
+
+  -- there is no such function
+  run_without_function : slice_get x.prog.funs f.index ≡ None → run_open x choice f args bounds ≡ outcome.Failed nowhere
+  unfolding run_open
+  run_without_function none = ap outcome_of (no_function x.prog bounds (open_bodies x choice bounds) f.index nowhere args start 127 none)
+
+module _ {d : Graph} {x : Expanded} {given : Option Choice} {f : FunId} {list : List Shape} {bounds : Bounds} {made : SymOutcome} where
+  failed_says : AlwaysFails d made → ((e : Env) (values : List Value) → run_open x (choice_of given e) f values bounds ≡ outcome.Failed nowhere) → IsOutcome d x given f list bounds made
+  failed_says h fails = record {
+    failed = h.failed;
+    skipped = h.skipped;
+    cost = h.cost;
+    result = subst (AnyStands d) (sym h.result) tt;
+    refs = subst (AllStand d) (sym h.refs) (stand_none d);
+    says = λ g e values more range worth. subst (Says g e made) (sym (fails e values)) (h.says g more e);
+  }
+
+  pub says_no_calls : bounds.inline_amnt ≡ 0 → AlwaysFails d made → IsOutcome d x given f list bounds made
+  says_no_calls none h = failed_says h (λ e values. run_without_calls x (choice_of given e) f values bounds none)
+
+  pub says_no_function : slice_get x.prog.funs f.index ≡ None → AlwaysFails d made → IsOutcome d x given f list bounds made
+  says_no_function none h = failed_says h (λ e values. run_without_function x (choice_of given e) f values bounds none)

@@ -92,3 +92,12 @@ pub record IsMadeOf (fun : Fun) (s : SymState) (ended : Ended) (made : SymOutcom
   pub refs : made.refs ≡ ended.refs
   pub unnamed : AllNameNone ended.refs
   pub result : IsResultOf fun.result ended.result made.result
+
+-- in each later graph and each environment the outcome says that the run fails
+pub record AlwaysFails (d : Graph) (made : SymOutcome) : Type 0 where
+  pub failed : HasBool d.nodes made.failed
+  pub skipped : HasBool d.nodes made.skipped
+  pub cost : HasCost d.nodes made.cost
+  pub result : made.result ≡ None
+  pub refs : made.refs ≡ []
+  pub says : (g : Graph) → Grows d g → (e : Env) → SaysEnded g e made true false

@@ -25,7 +25,7 @@ pub struct Constants {
 }
 
 /// The nodes for true, for false and for a cost of 0.
-fn make_constants(dag: &mut Dag) -> Result<Constants, AllocError>
+pub(crate) fn make_constants(dag: &mut Dag) -> Result<Constants, AllocError>
     ensures keeps { Keeps dag.old dag.new }
     ensures are { IfOk result (λ r. AreConstants dag.new r) }
 {

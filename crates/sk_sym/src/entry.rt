@@ -1,6 +1,6 @@
 //! Runs a function over the nodes of a graph.
 
-ghost use Rattle.std.specs.Prelude.{◌≡◌, ◌<◌, IfOk, OnOk, Some, slice_get};
+ghost use Rattle.std.specs.Prelude.{◌≡◌, IfOk, MatchOption, Some, None, slice_get};
 ghost use Rattle.std.specs.Option.{option_copied};
 ghost use Rattle.sk_dag.specs.Eval.{Keeps};
 ghost use Rattle.sk_arr.specs.Shapes.{AllStand};
@@ -10,7 +10,7 @@ ghost use Rattle.sk_sym.specs.Outcome.{IsOutcome};
 
 use crate::begin::{begin, copies};
 use crate::call::call;
-use crate::outcome::{SymOutcome, outcome_of};
+use crate::outcome::{SymOutcome, failed_outcome, outcome_of};
 use sk_base::Bounds;
 use sk_dag::{Dag, Shape};
 use sk_model::{Choice, Expanded};
@@ -22,13 +22,13 @@ use std::alloc::{AllocError, Global};
 /// The most calls that are active above the first.
 const MORE_CALLS: u32 = 127;
 
-/// The function with a number. A number past the functions, which no obligation has, counts as want of memory.
-fn function_at(prog: &Prog, f: FunId) -> Result<&Fun, AllocError>
-    ensures { IfOk result (λ fun. slice_get prog.now.funs f.index ≡ Some fun.now) }
+/// The function with a number, where there is one.
+fn function_at(prog: &Prog, f: FunId) -> Option<&Fun>
+    ensures { MatchOption result (slice_get prog.now.funs f.index ≡ None) (λ fun. slice_get prog.now.funs f.index ≡ Some fun.now) }
 {
     match prog.funs.as_slice().get(f.index as usize) {
-        Some(fun) => Ok(fun),
-        None => Err(AllocError),
+        Some(fun) => Some(fun),
+        None => None,
     }
 }
 
@@ -59,8 +59,8 @@ fn run(
 ///
 /// # Errors
 ///
-/// Memory is wanting, statements and expressions nest more than 2,048 deep over all active calls (a turn of a loop, a string of a
-/// pattern and an argument whose final value goes back are a level each), no call may be active by the bounds, there is no such function, or its result or the final value of a `ref` parameter names a record.
+/// Memory is wanting, or statements and expressions nest more than 2,048 deep over all active calls (a turn of a loop, a string of a
+/// pattern and an argument whose final value goes back are a level each). A result, or a final value of a `ref` parameter, that names a record is refused too: no function of an obligation has one.
 /// After a refusal the graph has all nodes that it had (`keeps`).
 pub fn execute(
     alloc: Global,
@@ -78,9 +78,11 @@ pub fn execute(
     ensures outcome { IfOk result (λ made. IsOutcome dag.new expanded.now (option_copied choice.entry) f args.now bounds.now made) }
 {
     if bounds.inline_amnt == 0 {
-        return Err(AllocError);
+        return failed_outcome(alloc, dag);
     }
-    let fun = function_at(&expanded.prog, f)?;
+    let Some(fun) = function_at(&expanded.prog, f) else {
+        return failed_outcome(alloc, dag);
+    };
     let setting = Setting {
         alloc,
         expanded,
