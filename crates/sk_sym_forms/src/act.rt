@@ -15,7 +15,7 @@ use sk_base::Span;
 use sk_dag::{Dag, Shape};
 use sk_sym_frames::give;
 use sk_sym_state::{Setting, SymState};
-use sk_sym_steps::{assert_that, assume_that, pay};
+use sk_sym_steps::{assert_that, assume_that, fail_now, pay};
 use std::alloc::AllocError;
 
 /// What a statement does with the value of its one expression.
@@ -31,7 +31,7 @@ pub enum Act {
     Declare(u32),
 }
 
-/// Pays a value. One that is no word, which no typed program has, counts as want of memory.
+/// Pays a value. It fails where that is no word.
 fn pay_value(
     setting: &Setting<'_>,
     dag: &mut Dag,
@@ -45,7 +45,8 @@ fn pay_value(
     ensures executes { OnOk result (ExecutesOn setting.now dag.old dag.new state.old state.new (λ g e. IsWorth g e state.old.heap a.now) (λ e. pays span)) }
 {
     let Shape::Int(amount) = a else {
-        return Err(AllocError);
+        fail_now(setting, dag, state)?;
+        return Ok(());
     };
     pay(setting, dag, state, span, *amount)?;
     Ok(())
@@ -67,8 +68,7 @@ fn return_value(
     Ok(())
 }
 
-/// Brings a variable into scope with a value. A slot past the variables in scope, which no typed program declares, counts as
-/// want of memory.
+/// Brings a variable into scope with a value.
 fn declare_value(
     setting: &Setting<'_>,
     dag: &mut Dag,
@@ -91,8 +91,8 @@ fn declare_value(
 ///
 /// # Errors
 ///
-/// Memory is wanting, or the shape is of a form that no typed program has there. After a refusal the graph has all nodes that
-/// it had (`keeps`); the state is given up with the walk that holds it.
+/// Memory is wanting, or a step that this hands on ends as `never`. After a refusal the graph has all nodes that it had
+/// (`keeps`); the state is given up with the walk that holds it.
 pub fn perform(
     setting: &Setting<'_>,
     dag: &mut Dag,

@@ -29,8 +29,8 @@ pub enum Double {
 ///
 /// # Errors
 ///
-/// Memory is wanting, or the shapes are of forms that no typed program has there. After a refusal the graph has all nodes that
-/// it had (`keeps`); the state is given up with the walk that holds it.
+/// Memory is wanting, or a step that this hands on ends as `never`. After a refusal the graph has all nodes that it had
+/// (`keeps`); the state is given up with the walk that holds it.
 pub fn apply_two(
     setting: &Setting<'_>,
     dag: &mut Dag,

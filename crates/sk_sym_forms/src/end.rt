@@ -10,10 +10,10 @@ ghost use Rattle.sk_sym_state.specs.Meaning.{Executes};
 use sk_base::Span;
 use sk_dag::Dag;
 use sk_prog::Ty;
-use sk_sym_folds::flag;
 use sk_sym_frames::give;
 use sk_sym_literals::zero_of;
 use sk_sym_state::{Setting, SymState};
+use sk_sym_steps::fail_now;
 use std::alloc::AllocError;
 
 /// Returns without a value. After a refusal the graph has all nodes that it had (`keeps`); the state is given up with the walk
@@ -31,9 +31,8 @@ pub fn give_nothing(
     Ok(())
 }
 
-/// Brings a variable of a type into scope that is 0. A slot past the variables in scope, which no typed program declares,
-/// counts as want of memory. After a refusal the graph has all nodes that it had (`keeps`); the state is given up with the
-/// walk that holds it.
+/// Brings a variable of a type into scope that is 0. After a refusal the graph has all nodes that it had (`keeps`); the state
+/// is given up with the walk that holds it.
 pub fn declare_zero(
     setting: &Setting<'_>,
     dag: &mut Dag,
@@ -63,7 +62,6 @@ pub fn fail_here(
     ensures keeps { Keeps dag.old dag.new }
     ensures executes { OnOk result (Executes setting.now dag.old dag.new state.old state.new (λ e. fail span)) }
 {
-    let always = flag(dag, true)?;
-    state.fail_where(setting, dag, always)?;
+    fail_now(setting, dag, state)?;
     Ok(())
 }

@@ -1,6 +1,6 @@
 //! Expressions without parts.
 
-ghost use Rattle.std.specs.Prelude.{◌≡◌, OnOk, IfOk, IsTrue, slice_get};
+ghost use Rattle.std.specs.Prelude.{◌≡◌, IfOk, slice_get};
 ghost use Rattle.std.specs.Option.{option_copied};
 ghost use Rattle.sk_dag.specs.Eval.{Keeps};
 ghost use Rattle.sk_prog.specs.declared.value.Value.TheVariants as value;
@@ -12,20 +12,10 @@ ghost use Rattle.sk_sym_state.specs.Meaning.{Evaluates, choice_at};
 
 use sk_dag::{Dag, Shape};
 use sk_prog::{ConstDef, ConstId, Prog, Ty};
+use sk_sym_leaves::width_is;
 use sk_sym_literals::{bit, const_value, hole_value, literal, null};
 use sk_sym_state::{Setting, SymState};
 use std::alloc::AllocError;
-
-// Whether a graph has words of this width. One of another width, which no call hands in, counts as want of memory.
-fn has_width(dag: &Dag, width: u32) -> Result<(), AllocError>
-    ensures { OnOk result (dag.now.bits ≡ width) }
-{
-    if dag.int_bits() == width {
-        Ok(())
-    } else {
-        Err(AllocError)
-    }
-}
 
 /// A written number at a type. After a refusal the graph has all nodes that it had (`keeps`).
 pub fn number(
@@ -41,7 +31,7 @@ pub fn number(
     ensures evaluates { IfOk result (λ r. Evaluates setting.now dag.old dag.new state.now state.now r (λ e. pure (literal_of width ty n))) }
 {
     let _here = state.path;
-    has_width(dag, width)?;
+    width_is(dag, width)?;
     let r = literal(setting.alloc, dag, ty, n)?;
     Ok(r)
 }
@@ -110,7 +100,7 @@ pub fn hole_here(
     ensures evaluates { IfOk result (λ r. Evaluates setting.now dag.old dag.new state.now state.now r (λ e. pure (hole_value_of (choice_at setting.now e).values width ty site))) }
 {
     let _here = state.path;
-    has_width(dag, width)?;
+    width_is(dag, width)?;
     let r = hole_value(
         setting.alloc,
         dag,

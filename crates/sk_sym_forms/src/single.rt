@@ -53,8 +53,8 @@ fn pad(
 ///
 /// # Errors
 ///
-/// Memory is wanting, or the shape is of a form that no typed program has there. After a refusal the graph has all nodes that
-/// it had (`keeps`); the state is given up with the walk that holds it.
+/// Memory is wanting, or a step that this hands on ends as `never`. After a refusal the graph has all nodes that it had
+/// (`keeps`); the state is given up with the walk that holds it.
 pub fn apply(
     setting: &Setting<'_>,
     dag: &mut Dag,

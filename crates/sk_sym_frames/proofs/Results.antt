@@ -25,7 +25,7 @@ use Rattle.sk_heap_laws.proofs.Heaps.{values_are}
 use Rattle.sk_sym_literals.specs.Given.{IsGiven as IsAlwaysWorth}
 use Rattle.sk_sym_state.specs.declared.state.Ended.{Ended}
 use Rattle.sk_sym_state.specs.Seen.{IsWorth, AreWorth}
-use Rattle.sk_sym_state.specs.Stands.{EndedStands}
+use Rattle.sk_sym_state.specs.Stands.{AnyStands, EndedStands}
 use Rattle.sk_sym_state.specs.Shows.{AreFrontOf, ResultIs, EndedIs}
 use Rattle.sk_sym_state.proofs.Standing.{AnyStands-keeps}
 use Rattle.sk_sym_frames.specs.Ended.{AnyWorth, AreRefs, IsResult, IsEnd, IsEitherResult, AreEither, IsEither, IsLatest, IsGiven}
@@ -87,8 +87,19 @@ either_result {d} {c} {a} {b} {r} is = record { stands = is.stands; first = firs
     second g e heap None more off h = tt
     second g e heap (Some v) more off h = choice_second is more off h
 
-pub either_none : {d : Graph} {c : BoolId} → IsEitherResult d c None None None
-either_none = record { stands = tt; first = λ g e heap v more on h. h; second = λ g e heap v more off h. h }
+pub either_first : {d : Graph} {c : BoolId} (a : Shape) → Stands d a → IsEitherResult d c (Some a) None (Some a)
+either_first {d} {c} a there = record { stands = there; first = λ g e heap v more on h. h; second = λ g e heap v more off h. by g e heap v h }
+  where
+    by : (g : Graph) (e : Env) (heap : List Slot) (v : Option Value) → ResultIs g e heap None v → ResultIs g e heap (Some a) v
+    by g e heap None h = tt
+    by g e heap (Some v) h = absurd h
+
+pub either_second : {d : Graph} {c : BoolId} (b : Option Shape) → AnyStands d b → IsEitherResult d c None b b
+either_second {d} {c} b there = record { stands = there; first = λ g e heap v more on h. by g e heap v h; second = λ g e heap v more off h. h }
+  where
+    by : (g : Graph) (e : Env) (heap : List Slot) (v : Option Value) → ResultIs g e heap None v → ResultIs g e heap b v
+    by g e heap None h = tt
+    by g e heap (Some v) h = absurd h
 
 pub either_list : {d : Graph} {c : BoolId} {r : Shape} (a b made : List Shape) → r ≡ shape.Array made → IsChoice d c (shape.Array a) (shape.Array b) r → AreEither d c a b made
 either_list {d} {c} {r} a b made at is = record {
@@ -146,5 +157,7 @@ given_either {fun = fun} k end is = record {
 }
 
 pub ruleset results = (result_none, result_given, result_zero)
+
+pub ruleset eithers = (either_result, either_first, either_second)
 
 pub ruleset latests = (latest_none, latest_either)

@@ -10,14 +10,14 @@ ghost use Rattle.sk_sym_frames.specs.Ended.{AreRefs, IsResult, IsEnd, IsEitherRe
 use sk_arr::copy_shape;
 use sk_base::List;
 use sk_dag::{BoolId, Dag, Shape};
+use sk_limits::never;
 use sk_prog::{Fun, ParamDef, Ty};
 use sk_sym_folds::known_bool;
 use sk_sym_literals::zero_of;
 use sk_sym_state::{Ended, join_shapes};
 use std::alloc::{AllocError, Global};
 
-/// What the `ref` parameters hold, in order. A parameter that is not in scope, which no typed program has, counts as want
-/// of memory.
+/// What the `ref` parameters hold, in order. The parameters of a typed program are in scope (`never`).
 fn refs_of(alloc: Global, params: &[ParamDef], slots: &[Shape]) -> Result<List<Shape>, AllocError>
     ensures { IfOk result (λ made. AreRefs params.now slots.now made) }
 {
@@ -26,7 +26,7 @@ fn refs_of(alloc: Global, params: &[ParamDef], slots: &[Shape]) -> Result<List<S
     for p in params {
         if p.by_ref {
             if slot >= slots.len() {
-                return Err(AllocError);
+                return Err(never());
             }
             let one = copy_shape(alloc, &slots[slot])?;
             made.push(one)?;
@@ -78,8 +78,8 @@ pub(crate) fn end_of(
     Ok(Ended { result, refs })
 }
 
-/// The one result or the other by a condition. Of one function both are there or neither: else it counts as want of
-/// memory.
+/// The one result or the other by a condition. Where one is not there, it is the other.
+#[tactic(auto, using(crate::proofs::Results::eithers))]
 fn either_result(
     alloc: Global,
     dag: &mut Dag,
@@ -94,12 +94,9 @@ fn either_result(
     ensures either { IfOk result (λ r. IsEitherResult dag.new cond a b r) }
 {
     match a {
-        None => match b {
-            None => Ok(None),
-            Some(_) => Err(AllocError),
-        },
+        None => Ok(b),
         Some(a) => match b {
-            None => Err(AllocError),
+            None => Ok(Some(a)),
             Some(b) => {
                 let r = join_shapes(alloc, dag, cond, &a, &b)?;
                 Ok(Some(r))
@@ -108,7 +105,7 @@ fn either_result(
     }
 }
 
-/// The one list or the other by a condition. Lists of unlike shapes count as want of memory.
+/// The one list or the other by a condition.
 fn either_list(
     alloc: Global,
     dag: &mut Dag,
@@ -127,7 +124,7 @@ fn either_list(
     let r = join_shapes(alloc, dag, cond, &first, &second)?;
     match r {
         Shape::Array(made) => Ok(made),
-        _ => Err(AllocError),
+        _ => unreachable!(),
     }
 }
 

@@ -13,9 +13,9 @@ use sk_sym_operators::{indexed, sliced};
 use sk_sym_state::{Setting, SymState};
 use std::alloc::AllocError;
 
-/// An element of an array by an index. It fails where there is none. Shapes that are no array of elements of one form and
-/// no word, which no typed program has there, count as want of memory. After a refusal the graph has all nodes that it had
-/// (`keeps`); the state is given up with the walk that holds it.
+/// An element of an array by an index. It fails where there is none. What the operator has of shapes that no typed program has
+/// there, it hands on. After a refusal the graph has all nodes that it had (`keeps`); the state is given up with the walk that
+/// holds it.
 pub fn element(
     setting: &Setting<'_>,
     dag: &mut Dag,
@@ -35,10 +35,9 @@ pub fn element(
     Ok(made.value)
 }
 
-/// So many elements of an array from an index on, as an array. It fails where they leave the range. Shapes that are no
-/// array of elements of one form and no word, and a count that is 0 or above the array's length, which no typed program
-/// has there, count as want of memory. After a refusal the graph has all nodes that it had (`keeps`); the state is given up
-/// with the walk that holds it.
+/// So many elements of an array from an index on, as an array. It fails where they leave the range. What the operator has of
+/// shapes and a count that no typed program has there, it hands on. After a refusal the graph has all nodes that it had
+/// (`keeps`); the state is given up with the walk that holds it.
 pub fn slice(
     setting: &Setting<'_>,
     dag: &mut Dag,

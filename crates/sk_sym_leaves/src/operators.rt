@@ -10,19 +10,20 @@ ghost use Rattle.sk_sym_steps.specs.Steps.{EvaluatesOn, AreTwo};
 
 use sk_base::Span;
 use sk_dag::{Dag, Shape};
+use sk_limits::never;
 use sk_prog::{BinOp, UnOp};
 use sk_sym_operators::{operator, to_int, unary};
 use sk_sym_state::{Setting, SymState};
 use std::alloc::AllocError;
 
-/// That a graph has words of so many bits. Any other, which no caller has, counts as want of memory.
-fn width_is(dag: &Dag, width: u32) -> Result<(), AllocError>
+/// That a graph has words of so many bits. A walk over a graph has its width (`never`).
+pub fn width_is(dag: &Dag, width: u32) -> Result<(), AllocError>
     ensures { OnOk result (dag.now.bits ≡ width) }
 {
     if dag.int_bits() == width {
         return Ok(());
     }
-    Err(AllocError)
+    Err(never())
 }
 
 /// An operator on two shapes. It fails where the operator does. After a refusal the graph has all nodes that it had (`keeps`);

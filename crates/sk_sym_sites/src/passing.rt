@@ -5,6 +5,7 @@ ghost use Rattle.sk_model.specs.Stands.{hole_count};
 ghost use Rattle.sk_sym_sites.specs.Counts.{expr_count, exprs_count, fields_count, value_count, stmt_count, stmts_count, copies_count, any_count};
 
 use sk_base::Boxed;
+use sk_limits::too_many;
 use sk_prog::{Elem, PEForm, PExpr, PField, PForm, PStmt, Ty};
 use std::alloc::AllocError;
 
@@ -13,7 +14,7 @@ fn pass(at: &mut usize, count: usize) -> Result<(), AllocError>
     ensures { OnOk result (at.new ≡ at.old + count) }
 {
     match at.checked_add(count) {
-        None => Err(AllocError),
+        None => Err(too_many()),
         Some(next) => {
             *at = next;
             Ok(())
@@ -65,7 +66,7 @@ fn pass_pattern(at: &mut usize, es: &[PExpr]) -> Result<(), AllocError>
 ///
 /// # Errors
 ///
-/// The place behind them is past what a count holds.
+/// The place behind them has no room in a count (`too_many`).
 #[cycle(pass_expr)]
 pub fn pass_expr(at: &mut usize, e: &PExpr) -> Result<(), AllocError>
     ensures { OnOk result (at.new ≡ at.old + expr_count e.now) }
@@ -186,7 +187,7 @@ fn pass_assign(at: &mut usize, target: &PExpr, value: &PExpr) -> Result<(), Allo
 ///
 /// # Errors
 ///
-/// The place behind them is past what a count holds.
+/// The place behind them has no room in a count (`too_many`).
 #[cycle(pass_stmt)]
 pub fn pass_stmt(at: &mut usize, s: &PStmt) -> Result<(), AllocError>
     ensures { OnOk result (at.new ≡ at.old + stmt_count s.now) }

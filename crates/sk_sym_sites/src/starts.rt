@@ -18,26 +18,26 @@ fn sites_of(funs: &[Fun]) -> Result<usize, AllocError>
     Ok(at)
 }
 
-/// The functions before a number. A number past the functions, which no call has, counts as want of memory.
-fn functions_before(funs: &[Fun], f: u32) -> Result<&[Fun], AllocError>
-    ensures { IfOk result (λ r. r.now ≡ take f funs.now) }
+/// The functions before a number; all of them, where it is past them.
+fn functions_before(funs: &[Fun], f: u32) -> &[Fun]
+    ensures { result.now ≡ take f funs.now }
 {
     let count = f as usize;
     if count > funs.len() {
-        return Err(AllocError);
+        return funs;
     }
-    Ok(&funs[..count])
+    &funs[..count]
 }
 
 /// The place of the first site of a function.
 ///
 /// # Errors
 ///
-/// The place is past what a count holds, or there is no such function.
+/// The place has no room in a count (`too_many`).
 pub fn start_of(prog: &Prog, f: u32) -> Result<usize, AllocError>
     ensures { IfOk result (λ i. BeginsAt prog.now f i) }
 {
-    let before = functions_before(prog.funs.as_slice(), f)?;
+    let before = functions_before(prog.funs.as_slice(), f);
     let at = sites_of(before)?;
     Ok(at)
 }

@@ -1,8 +1,9 @@
 -- What is done with the variables in scope is what is done with the first of those of the call.
-use Rattle.std.proofs.Common.{◌≡◌, ℕ, zero, suc, ◌<◌, ◌≤◌, List, [], ◌∷◌, ◌++◌, length, map, take, drop, refl, sym, ap, subst, ◌∙◌, append_assoc, arith}
-use Rattle.std.specs.Prelude.{slice_get, slice_set, slice_index_or, Some, ⊤, All}
+use Rattle.std.proofs.Common.{◌≡◌, ℕ, zero, suc, ◌<◌, ◌≤◌, Bool, true, false, List, [], ◌∷◌, ◌++◌, length, map, take, drop, refl, sym, ap, subst, ◌∙◌, append_assoc, arith}
+use Rattle.std.specs.Prelude.{slice_get, slice_set, slice_index_or, Some, ⊤, All, nat_le, if◌then◌else◌}
 use Rattle.std.specs.Option.{option_map}
 use Rattle.std.proofs.lemmas.Option.{slice_get_within, get_or_from_slice_get, none-some}
+use Rattle.std.proofs.lemmas.Bool.{le-leb, leb-true, leb-false, lt-leb}
 use Rattle.std.proofs.lemmas.List.Elements.{All-nil, All-cons, All-head, All-tail}
 use Rattle.sk_dag.specs.declared.env.Env.{Env}
 use Rattle.sk_dag.specs.declared.shape.Shape.{Shape}
@@ -25,7 +26,7 @@ use Rattle.sk_sym_state.specs.Seen.{IsWorth}
 use Rattle.sk_sym_state.specs.Stands.{StateStands}
 use Rattle.sk_sym_state.specs.Shows.{AreFrontOf, Shows, AreAlong}
 use Rattle.sk_sym_state.specs.Meaning.{Moves, DoesOn, Evaluates}
-use Rattle.sk_sym_state.specs.Variables.{with_slots, IsVariable, IsDeclared, IsAssigned}
+use Rattle.sk_sym_state.specs.Variables.{with_slots, declared, IsVariable, IsDeclared}
 use Rattle.sk_sym_state.proofs.Carrying.{Carries-along}
 use Rattle.sk_sym_state.proofs.Standing.{stands_along}
 
@@ -45,10 +46,16 @@ declares [] behind (suc slot) v h = absurd (omega (arith, h))
 declares (w ∷ ws) behind zero v h = (ws ++ behind, refl)
 declares (w ∷ ws) behind (suc slot) v h = let more = declares ws behind slot v (omega (arith, h)) in (more.0, ap (λ l. w ∷ l) more.1)
 
-assigns : (vs behind : List Value) (slot : ℕ) (v : Value) → slot < length vs → written (vs ++ behind) slot v ≡ slice_set vs slot v ++ behind
-assigns [] behind slot v h = absurd (omega (arith, h))
-assigns (w ∷ ws) behind zero v h = refl
-assigns (w ∷ ws) behind (suc slot) v h = ap (λ l. w ∷ l) (assigns ws behind slot v (omega (arith, h)))
+-- what is written past the first so many leaves them as they are
+passes : (vs behind : List Value) (slot : ℕ) (v : Value) → length vs ≤ slot → (rest : List Value) × (written (vs ++ behind) slot v ≡ vs ++ rest)
+passes [] behind slot v h = (written behind slot v, refl)
+passes (w ∷ ws) behind zero v h = absurd (omega (arith, h))
+passes (w ∷ ws) behind (suc slot) v h = let more = passes ws behind slot v (omega (arith, h)) in (more.0, ap (λ l. w ∷ l) more.1)
+
+assigns : (vs behind : List Value) (slot : ℕ) (v : Value) → (rest : List Value) × (written (vs ++ behind) slot v ≡ slice_set vs slot v ++ rest)
+assigns [] behind slot v = (written behind slot v, refl)
+assigns (w ∷ ws) behind zero v = (behind, refl)
+assigns (w ∷ ws) behind (suc slot) v = let more = assigns ws behind slot v in (more.0, ap (λ l. w ∷ l) more.1)
 
 take_map : {A B : Type 0} (f : A → B) (n : ℕ) (xs : List A) → map f (take n xs) ≡ take n (map f xs)
 take_map f zero xs = refl
@@ -83,8 +90,8 @@ take_drop (suc n) [] = refl
 take_drop (suc n) (x ∷ xs) = ap (λ l. x ∷ l) (take_drop n xs)
 
 module _ {g : Graph} {e : Env} {heap : List Slot} where
-  pub front_declared : (list : List Shape) (slot : ℕ) (r : Shape) (v : Value) (values : List Value) → slot ≤ length list → IsWorth g e heap r v → AreFrontOf g e heap list values → AreFrontOf g e heap (take slot list ++ r ∷ []) (written values slot v)
-  front_declared list slot r v values h w f =
+  front_within : (list : List Shape) (slot : ℕ) (r : Shape) (v : Value) (values : List Value) → slot ≤ length list → IsWorth g e heap r v → AreFrontOf g e heap list values → AreFrontOf g e heap (take slot list ++ r ∷ []) (written values slot v)
+  front_within list slot r v values h w f =
       let more = declares (values_in g e heap list) f.behind slot v (omega (arith, length_map (value_in g e heap) list)) in
       record {
         behind = more.0;
@@ -94,14 +101,28 @@ module _ {g : Graph} {e : Env} {heap : List Slot} where
         live = record { each = subst (All (IsLive (holds_in g e heap))) (sym (map_push (shape_value g e) (take slot list) r ∙ ap (λ l. l ++ shape_value g e r ∷ []) (take_map (shape_value g e) slot list))) (all_push (IsLive (holds_in g e heap)) (take slot (shapes_value g e list)) (shape_value g e r) (all_take (IsLive (holds_in g e heap)) slot (shapes_value g e list) f.live.each) w.live) };
       }
 
-  pub front_assigned : (list : List Shape) (slot : ℕ) (r : Shape) (v : Value) (values : List Value) → slot < length list → IsWorth g e heap r v → AreFrontOf g e heap list values → AreFrontOf g e heap (slice_set list slot r) (written values slot v)
-  front_assigned list slot r v values h w f = record {
-    behind = f.behind;
-    whole =
-        ap (λ l. written l slot v) f.whole ∙ assigns (values_in g e heap list) f.behind slot v (omega (arith, length_map (value_in g e heap) list))
-        ∙ ap (λ l. l ++ f.behind) (sym (map_set (value_in g e heap) list slot r ∙ ap (λ u. slice_set (values_in g e heap list) slot u) w.value));
-    live = record { each = subst (All (IsLive (holds_in g e heap))) (sym (map_set (shape_value g e) list slot r)) (all_set (IsLive (holds_in g e heap)) (shapes_value g e list) slot (shape_value g e r) f.live.each w.live) };
-  }
+  front_past : (list : List Shape) (slot : ℕ) (v : Value) (values : List Value) → length list ≤ slot → AreFrontOf g e heap list values → AreFrontOf g e heap list (written values slot v)
+  front_past list slot v values h f =
+      let more = passes (values_in g e heap list) f.behind slot v (omega (arith, length_map (value_in g e heap) list)) in
+      record { behind = more.0; whole = ap (λ l. written l slot v) f.whole ∙ more.1; live = f.live }
+
+  pub front_declared : (list : List Shape) (slot : ℕ) (r : Shape) (v : Value) (values : List Value) → IsWorth g e heap r v → AreFrontOf g e heap list values → AreFrontOf g e heap (declared list slot r) (written values slot v)
+  front_declared list slot r v values w f = by (nat_le slot (length list)) refl
+    where
+      by : (b : Bool) → nat_le slot (length list) ≡ b → AreFrontOf g e heap (if b then take slot list ++ r ∷ [] else list) (written values slot v)
+      by true is = front_within list slot r v values (leb-true slot (length list) is) w f
+      by false is = front_past list slot v values (omega (arith, leb-false slot (length list) is)) f
+
+  pub front_assigned : (list : List Shape) (slot : ℕ) (r : Shape) (v : Value) (values : List Value) → IsWorth g e heap r v → AreFrontOf g e heap list values → AreFrontOf g e heap (slice_set list slot r) (written values slot v)
+  front_assigned list slot r v values w f =
+      let more = assigns (values_in g e heap list) f.behind slot v in
+      record {
+        behind = more.0;
+        whole =
+            ap (λ l. written l slot v) f.whole ∙ more.1
+            ∙ ap (λ l. l ++ more.0) (sym (map_set (value_in g e heap) list slot r ∙ ap (λ u. slice_set (values_in g e heap list) slot u) w.value));
+        live = record { each = subst (All (IsLive (holds_in g e heap))) (sym (map_set (shape_value g e) list slot r)) (all_set (IsLive (holds_in g e heap)) (shapes_value g e list) slot (shape_value g e r) f.live.each w.live) };
+      }
 
   pub front_cut : (list : List Shape) (n : ℕ) (values : List Value) → AreFrontOf g e heap list values → AreFrontOf g e heap (take n list) values
   front_cut list n values f = record {
@@ -155,18 +176,33 @@ module _ {x : Setting} {d : Graph} {s : SymState} (h : StateStands d x.expanded.
   -- a declaration and an assignment write it
   pub declares_does : {s1 : SymState} {slot : ℕ} {r : Shape} → Stands d r → IsDeclared s s1 slot r → DoesOn x d d s s1 (λ g e v. IsWorth g e s.heap r v) (λ g e (u : Unit {0}). ⊤) (λ e v. write slot v)
   declares_does {s1} {slot} {r} there is =
-      let slots = take slot s.frame.slots ++ r ∷ [] in
-      let stand : AllStand d slots = stand_push (take slot s.frame.slots) r (record { each = all_take (Stands d) slot s.frame.slots h.frame.slots.each }) there in
+      let slots = declared s.frame.slots slot r in
       subst (λ t. DoesOn x d d s t (λ g e v. IsWorth g e s.heap r v) (λ g e (u : Unit {0}). ⊤) (λ e v. write slot v)) (sym is.now) record {
-        moves = slots_move h slots stand;
-        runs = λ g e v at l w shows. record { shows = slots_show slots (written at.slots slot v) (front_declared s.frame.slots slot r v at.slots is.within w shows.slots) shows; is = tt };
+        moves = slots_move h slots (stand (nat_le slot (length s.frame.slots)));
+        runs = λ g e v at l w shows. record { shows = slots_show slots (written at.slots slot v) (front_declared s.frame.slots slot r v at.slots w shows.slots) shows; is = tt };
       }
+    where
+      stand : (b : Bool) → AllStand d (if b then take slot s.frame.slots ++ r ∷ [] else s.frame.slots)
+      stand true = stand_push (take slot s.frame.slots) r (record { each = all_take (Stands d) slot s.frame.slots h.frame.slots.each }) there
+      stand false = h.frame.slots
 
-  pub assigns_does : {s1 : SymState} {slot : ℕ} {r : Shape} → Stands d r → IsAssigned s s1 slot r → DoesOn x d d s s1 (λ g e v. IsWorth g e s.heap r v) (λ g e (u : Unit {0}). ⊤) (λ e v. write slot v)
-  assigns_does {s1} {slot} {r} there is =
+  pub assigns_does : {slot : ℕ} {r : Shape} → Stands d r → DoesOn x d d s (with_slots s (slice_set s.frame.slots slot r)) (λ g e v. IsWorth g e s.heap r v) (λ g e (u : Unit {0}). ⊤) (λ e v. write slot v)
+  assigns_does {slot} {r} there =
       let slots = slice_set s.frame.slots slot r in
       let stand : AllStand d slots = record { each = all_set (Stands d) s.frame.slots slot r h.frame.slots.each there } in
-      subst (λ t. DoesOn x d d s t (λ g e v. IsWorth g e s.heap r v) (λ g e (u : Unit {0}). ⊤) (λ e v. write slot v)) (sym is.now) record {
+      record {
         moves = slots_move h slots stand;
-        runs = λ g e v at l w shows. record { shows = slots_show slots (written at.slots slot v) (front_assigned s.frame.slots slot r v at.slots is.within w shows.slots) shows; is = tt };
+        runs = λ g e v at l w shows. record { shows = slots_show slots (written at.slots slot v) (front_assigned s.frame.slots slot r v at.slots w shows.slots) shows; is = tt };
       }
+
+pub declared_within : (list : List Shape) (slot : ℕ) (r : Shape) → slot ≤ length list → declared list slot r ≡ take slot list ++ r ∷ []
+declared_within list slot r h = ap (λ (b : Bool). if b then take slot list ++ r ∷ [] else list) (le-leb slot (length list) h)
+
+pub declared_past : (list : List Shape) (slot : ℕ) (r : Shape) → length list < slot → declared list slot r ≡ list
+declared_past list slot r h = ap (λ (b : Bool). if b then take slot list ++ r ∷ [] else list) (lt-leb slot (length list) h)
+
+-- a list is as it is where what is set is past it
+pub set_past : {A : Type 0} (xs : List A) (i : ℕ) (x : A) → length xs ≤ i → slice_set xs i x ≡ xs
+set_past [] i x h = refl
+set_past (y ∷ ys) zero x h = absurd (omega (arith, h))
+set_past (y ∷ ys) (suc i) x h = ap (λ l. y ∷ l) (set_past ys i x (omega (arith, h)))

@@ -1,5 +1,5 @@
 -- What is done with the variables in scope.
-use Rattle.std.specs.Prelude.{◌≡◌, ℕ, ◌≤◌, ◌<◌, List, [], ◌∷◌, ◌++◌, length, take, Some, slice_get, slice_set}
+use Rattle.std.specs.Prelude.{◌≡◌, ℕ, nat_le, if◌then◌else◌, List, [], ◌∷◌, ◌++◌, length, take, Some, slice_get}
 use Rattle.sk_dag.specs.declared.shape.Shape.{Shape}
 use Rattle.sk_dag.specs.Graph.{Graph}
 use Rattle.sk_arr.specs.Shapes.{Stands}
@@ -16,12 +16,10 @@ pub record IsVariable (s : SymState) (slot : ℕ) (r : Shape) : Type 0 where
   pub found : slice_get s.frame.slots slot ≡ Some held
   pub copy : (g : Graph) → Stands g held → IsCopy g held r
 
--- a variable comes into scope, in place of those from its slot on
-pub record IsDeclared (old new : SymState) (slot : ℕ) (r : Shape) : Type 0 where
-  pub within : slot ≤ length old.frame.slots
-  pub now : new ≡ with_slots old (take slot old.frame.slots ++ r ∷ [])
+-- The variables once one comes into scope, in place of those from its slot on. Where its slot is past them, they stay: it
+-- stands among those of which nothing is said.
+abbrev pub declared : List Shape → ℕ → Shape → List Shape
+declared slots slot r = if nat_le slot (length slots) then take slot slots ++ r ∷ [] else slots
 
--- a variable in scope holds another value
-pub record IsAssigned (old new : SymState) (slot : ℕ) (r : Shape) : Type 0 where
-  pub within : slot < length old.frame.slots
-  pub now : new ≡ with_slots old (slice_set old.frame.slots slot r)
+pub record IsDeclared (old new : SymState) (slot : ℕ) (r : Shape) : Type 0 where
+  pub now : new ≡ with_slots old (declared old.frame.slots slot r)

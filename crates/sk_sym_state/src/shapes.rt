@@ -9,6 +9,7 @@ ghost use Rattle.sk_arr.specs.Answers.{AreCopies, IsChoice};
 use sk_arr::{choose, copy_shape};
 use sk_base::List;
 use sk_dag::{BoolId, Dag, Shape};
+use sk_limits::never;
 use std::alloc::{AllocError, Global};
 
 /// Shapes once more, over the same nodes.
@@ -67,8 +68,8 @@ fn all_alike(list: &[Shape], others: &[Shape]) -> bool
     true
 }
 
-/// The shape that is `a` where `c` holds, and `b` where it does not. They have to be of one form, as two values of one
-/// variable are. After a refusal the graph has all nodes that it had (`keeps`).
+/// The shape that is `a` where `c` holds, and `b` where it does not. They are of one form, as two values of one variable of
+/// a typed program are (`never`). After a refusal the graph has all nodes that it had (`keeps`).
 pub fn join_shapes(
     alloc: Global,
     dag: &mut Dag,
@@ -83,7 +84,7 @@ pub fn join_shapes(
     ensures choice { IfOk result (λ r. IsChoice dag.new c a.now b.now r) }
 {
     if !alike(a, b) {
-        return Err(AllocError);
+        return Err(never());
     }
     let r = choose(alloc, dag, c, a, b)?;
     Ok(r)

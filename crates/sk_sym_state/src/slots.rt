@@ -1,12 +1,13 @@
 //! The variables in scope.
 
-ghost use Rattle.std.specs.Prelude.{◌≡◌, ◌≤◌, IfOk, OnOk, length, take};
-ghost use Rattle.sk_sym_state.specs.Variables.{with_slots, IsVariable, IsDeclared, IsAssigned};
+ghost use Rattle.std.specs.Prelude.{◌≡◌, IfOk, OnOk, take, slice_set};
+ghost use Rattle.sk_sym_state.specs.Variables.{with_slots, IsVariable, IsDeclared};
 
 use crate::state::SymState;
 use sk_arr::copy_shape;
 use sk_base::List;
 use sk_dag::Shape;
+use sk_limits::never;
 use std::alloc::{AllocError, Global};
 
 /// Leaves the first so many of a list.
@@ -19,7 +20,7 @@ fn cut(list: &mut List<Shape>, count: usize)
 }
 
 impl SymState {
-    /// What a variable holds. One that is not in scope, which no typed program reads, counts as want of memory.
+    /// What a variable holds. One that is not in scope is what no typed program reads (`never`).
     pub fn read(&self, alloc: Global, slot: u32) -> Result<Shape, AllocError>
         ensures { IfOk result (λ r. IsVariable self.now slot r) }
     {
@@ -28,33 +29,31 @@ impl SymState {
                 let r = copy_shape(alloc, held)?;
                 Ok(r)
             }
-            None => Err(AllocError),
+            None => Err(never()),
         }
     }
 
-    /// Brings a variable into scope. Those from its slot on leave it. A slot past the variables in scope, which no typed
-    /// program declares, counts as want of memory. After a refusal the state is given up with the walk that holds it.
+    /// Brings a variable into scope. Those from its slot on leave it. Where its slot is past the variables in scope, which no
+    /// typed program declares, they stay: of what stands behind them nothing is shown. After a refusal the state is given up
+    /// with the walk that holds it.
     pub fn declare(&mut self, slot: u32, value: Shape) -> Result<(), AllocError>
         ensures { OnOk result (IsDeclared self.old self.new slot value) }
     {
         if slot as usize > self.frame.slots.len() {
-            return Err(AllocError);
+            return Ok(());
         }
         cut(&mut self.frame.slots, slot as usize);
         self.frame.slots.push(value)?;
         Ok(())
     }
 
-    /// Puts another value into a variable in scope. Any other, which no typed program assigns to, counts as want of
-    /// memory. After a refusal the state is given up with the walk that holds it.
-    pub fn assign(&mut self, slot: u32, value: Shape) -> Result<(), AllocError>
-        ensures { OnOk result (IsAssigned self.old self.new slot value) }
+    /// Puts another value into a variable. Where that is not in scope, which no typed program assigns to, those in scope stay.
+    pub fn assign(&mut self, slot: u32, value: Shape)
+        ensures { self.new ≡ with_slots self.old (slice_set self.old.frame.slots slot value) }
     {
-        if slot as usize >= self.frame.slots.len() {
-            return Err(AllocError);
+        if (slot as usize) < self.frame.slots.len() {
+            self.frame.slots.set(slot as usize, value);
         }
-        self.frame.slots.set(slot as usize, value);
-        Ok(())
     }
 
     /// Leaves the first so many variables in scope.

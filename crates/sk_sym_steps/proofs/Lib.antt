@@ -1,3 +1,4 @@
 pub mod Costs
 pub mod Records
 pub mod Conditions
+pub mod Failing

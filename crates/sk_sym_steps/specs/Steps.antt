@@ -8,13 +8,14 @@ use Rattle.sk_heap.specs.declared.slot.Slot.{Slot}
 use Rattle.sk_prog.specs.declared.ids.StructId.{StructId}
 use Rattle.sk_prog.specs.declared.value.Value.{Value}
 use Rattle.sk_base.specs.declared.span.Span.{Span}
-use Rattle.sk_model.specs.Step.{Comp, pure, fail, skip}
+use Rattle.sk_model.specs.Step.{State, Comp, pure, fail, skip}
 use Rattle.sk_model.specs.Eval.{choose}
 use Rattle.sk_model.specs.Exec.{Flow, Onward}
 use Rattle.sk_sym_state.specs.declared.setting.Setting.{Setting}
 use Rattle.sk_sym_state.specs.declared.state.SymState.{SymState}
 use Rattle.sk_sym_state.specs.Seen.{IsWorth}
-use Rattle.sk_sym_state.specs.Meaning.{DoesOn}
+use Rattle.sk_sym_state.specs.Shows.{Shows, HasFailed}
+use Rattle.sk_sym_state.specs.Meaning.{IsLater, Moves, DoesOn}
 
 abbrev pub same_kind : StructId → Option StructId → Bool
 same_kind s None = false
@@ -39,3 +40,8 @@ asserted span = choose span (pure Onward) (fail span)
 
 abbrev pub assumed : Span → Value → Comp Flow
 assumed span = choose span (pure Onward) (skip span)
+
+-- the run fails wherever it goes on
+pub record FailsHere (x : Setting) (d0 d1 : Graph) (s0 s1 : SymState) : Type 0 where
+  pub moves : Moves x d0 d1 s0 s1
+  pub fails : (g : Graph) (e : Env) (at : State) → IsLater x d1 g e → Shows g e s0 at → HasFailed g e s1

@@ -8,14 +8,15 @@ ghost use Rattle.sk_sym_state.specs.Stands.{StateStands};
 ghost use Rattle.sk_sym_state.specs.Meaning.{ExecutesOn};
 ghost use Rattle.sk_sym_steps.specs.Steps.{asserted, assumed};
 
+use crate::failure::fail_now;
 use sk_base::Span;
 use sk_dag::{Dag, Shape};
 use sk_sym_folds::not;
 use sk_sym_state::{Setting, SymState};
 use std::alloc::AllocError;
 
-/// Fails where a condition does not hold. One that is no bit, which no typed program has, counts as want of memory. After a
-/// refusal the graph has all nodes that it had (`keeps`); the state is given up with the walk that holds it.
+/// Fails where a condition does not hold, and wherever the run goes on where it is no bit. After a refusal the graph has all
+/// nodes that it had (`keeps`); the state is given up with the walk that holds it.
 pub fn assert_that(
     setting: &Setting<'_>,
     dag: &mut Dag,
@@ -29,15 +30,16 @@ pub fn assert_that(
     ensures executes { OnOk result (ExecutesOn setting.now dag.old dag.new state.old state.new (λ g e. IsWorth g e state.old.heap a.now) (λ e. asserted span)) }
 {
     let Shape::Bit(cond) = a else {
-        return Err(AllocError);
+        fail_now(setting, dag, state)?;
+        return Ok(());
     };
     let fails = not(dag, *cond)?;
     state.fail_where(setting, dag, fails)?;
     Ok(())
 }
 
-/// Is skipped where a condition does not hold. One that is no bit, which no typed program has, counts as want of memory. After
-/// a refusal the graph has all nodes that it had (`keeps`); the state is given up with the walk that holds it.
+/// Is skipped where a condition does not hold, and fails wherever the run goes on where it is no bit. After a refusal the graph
+/// has all nodes that it had (`keeps`); the state is given up with the walk that holds it.
 pub fn assume_that(
     setting: &Setting<'_>,
     dag: &mut Dag,
@@ -51,7 +53,8 @@ pub fn assume_that(
     ensures executes { OnOk result (ExecutesOn setting.now dag.old dag.new state.old state.new (λ g e. IsWorth g e state.old.heap a.now) (λ e. assumed span)) }
 {
     let Shape::Bit(cond) = a else {
-        return Err(AllocError);
+        fail_now(setting, dag, state)?;
+        return Ok(());
     };
     let skips = not(dag, *cond)?;
     state.skip_where(setting, dag, skips)?;

@@ -3,8 +3,10 @@
 
 mod condition;
 mod cost;
+mod failure;
 mod record;
 
 pub use condition::{assert_that, assume_that};
 pub use cost::pay;
+pub use failure::fail_now;
 pub use record::{allocate, are_kind, read_field};

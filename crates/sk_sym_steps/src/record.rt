@@ -11,8 +11,10 @@ ghost use Rattle.sk_sym_state.specs.Stands.{StateStands};
 ghost use Rattle.sk_sym_state.specs.Meaning.{Evaluates};
 ghost use Rattle.sk_sym_steps.specs.Steps.{is_kind, EvaluatesOn};
 
+use crate::failure::fail_now;
 use sk_base::Span;
 use sk_dag::{BoolId, Dag, Shape};
+use sk_limits::never;
 use sk_prog::{Prog, StructId};
 use sk_sym_state::{Setting, SymState};
 use std::alloc::AllocError;
@@ -60,8 +62,8 @@ pub fn are_kind(structs: &[StructId], s: StructId, targets: &[(u32, BoolId)]) ->
     true
 }
 
-/// A new record of a struct in which each field is 0, and a reference to it. A heap that is full counts as want of memory.
-/// After a refusal the graph has all nodes that it had (`keeps`); the state is given up with the walk that holds it.
+/// A new record of a struct in which each field is 0, and a reference to it. The heap of a program within the limit on
+/// allocations is not full, and its structs are there (`never`). After a refusal the graph has all nodes that it had (`keeps`); the state is given up with the walk that holds it.
 pub fn allocate(
     setting: &Setting<'_>,
     dag: &mut Dag,
@@ -74,7 +76,7 @@ pub fn allocate(
 {
     let prog = &setting.expanded.prog;
     if state.heap.slots() >= MOST_SLOTS || !has_struct(prog, s) {
-        return Err(AllocError);
+        return Err(never());
     }
     let path = state.path;
     let target = state.heap.alloc_under(setting.alloc, dag, prog, path, s)?;
@@ -82,8 +84,8 @@ pub fn allocate(
     Ok(Shape::Reference(target))
 }
 
-/// A field of the record that a reference is at. It fails where the reference is null. A shape that is no reference to
-/// records of the struct, which no typed program has there, counts as want of memory. After a refusal the graph has all nodes
+/// A field of the record that a reference is at. It fails where the reference is null, and wherever the run goes on where the
+/// shape is no reference. A reference of a typed program is at records of the struct, which has the field (`never`). After a refusal the graph has all nodes
 /// that it had (`keeps`); the state is given up with the walk that holds it.
 pub fn read_field(
     setting: &Setting<'_>,
@@ -101,12 +103,13 @@ pub fn read_field(
 {
     let prog = &setting.expanded.prog;
     let Shape::Reference(target) = reference else {
-        return Err(AllocError);
+        let always = fail_now(setting, dag, state)?;
+        return Ok(Shape::Bit(always));
     };
     if !has_field(prog, s, field)
         || !are_kind(state.structs.as_slice(), s, target.slots.as_slice())
     {
-        return Err(AllocError);
+        return Err(never());
     }
     let (r, null) = state
         .heap

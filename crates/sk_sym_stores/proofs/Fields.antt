@@ -1,5 +1,5 @@
 -- What is stored in fields of records.
-use Rattle.std.proofs.Common.{◌≡◌, ℕ, Bool, true, false, true≢false, List, [], map, Option, Some, None, is_none, slice_get, IsTrue, refl, sym, ap, subst, ◌∙◌}
+use Rattle.std.proofs.Common.{◌≡◌, ℕ, ℤ, Bool, true, false, true≢false, List, [], map, Option, Some, None, is_none, slice_get, IsTrue, refl, sym, ap, subst, ◌∙◌}
 use Rattle.std.specs.Prelude.{⊤, ◌||◌, if◌then◌else◌}
 use Rattle.sk_base.specs.declared.span.Span.{Span}
 use Rattle.sk_dag.specs.declared.env.Env.{Env}
@@ -25,7 +25,7 @@ use Rattle.sk_heap.specs.Types.{elem_of, field_types}
 use Rattle.sk_heap.specs.Heaps.{may_name, IsOfField, HeapStands, RefersTo}
 use Rattle.sk_heap.specs.Answers.{struct_of, slot_of, IsNull, IsFieldRead, IsFieldWritten, MayWrite}
 use Rattle.sk_heap.proofs.Heaps.{SlotsPass-more, RefersTo-more, IsOfField-more}
-use Rattle.sk_model.specs.Step.{State, Step, Goes, Fails, Skips, Comp, and_then, ◌>>=◌, pure}
+use Rattle.sk_model.specs.Step.{State, Step, Goes, Fails, Skips, Comp, and_then, ◌>>=◌, pure, fail}
 use Rattle.sk_model.specs.Heap as model
 use Rattle.sk_model.specs.Values.{replaced}
 use Rattle.sk_model.specs.Eval.{or_fail}
@@ -43,7 +43,9 @@ use Rattle.sk_sym_state.specs.Meaning.{IsLater, DoesOn, Moves, FailsWhere}
 use Rattle.sk_sym_state.proofs.Carrying.{later_keeps, front_grown, Moves-trans}
 use Rattle.sk_sym_state.proofs.Standing.{StateStands-keeps}
 use Rattle.sk_sym_state.proofs.Ends.{fails_or_goes}
+use Rattle.sk_sym_steps.specs.Steps.{FailsHere}
 use Rattle.sk_sym_steps.proofs.Records.{kind_of, ended_grown}
+use Rattle.sk_sym_steps.proofs.Failing.{failing_does, no_reference_reads}
 use Rattle.sk_sym_stores.specs.declared.location.Location.{Location}
 use Rattle.sk_sym_stores.specs.declared.location.Root.TheVariants.{Field}
 use Rattle.sk_sym_stores.specs.Kinds.{may_name_kind, MayHold, FitsField}
@@ -294,3 +296,14 @@ module _ {x : Setting} {d0 d1 d2 : Graph} {s0 s1 : SymState} {new : List Slot} {
 
 pub fits_may : {prog : Prog} {d : Graph} {s : SymState} {target : Targets} {kind : StructId} {field : ℕ} {value : Shape} → StateStands d prog s → RefersTo d s.heap kind target → FitsField prog s.structs kind field value → Stands d value → MayWrite d prog s.heap kind target field value
 fits_may h refers fits there = record { heap_stands = h.heap; there = fits.may.is.there; refers = refers; value_stands = there; typed = fits_typed h.structs fits }
+
+-- ---- what is no reference has no field: the run fails
+
+pub no_reference_stores : {x : Setting} {d0 d1 : Graph} {s0 s1 : SymState} {reference value : Shape} {kind : StructId} {field : ℕ} {indexes : List WordId} (span : Span) → FailsHere x d0 d1 s0 s1 → ((t : Targets) → reference ≡ shape.Reference t → ⊥) → Stores x d0 d1 s0 s1 span (record { root = Field reference kind field; indexes = indexes }) value
+no_reference_stores {x} {d0} {d1} {s0} {s1} {reference} {value} {kind} {field} {indexes} span f other = record {
+  does = failing_does {Given = IsStored s0.heap (record { root = Field reference kind field; indexes = indexes }) value} f {Is = λ g e (u : Unit {0}). ⊤} {k = λ e p. model.store span p.0 p.1} (λ g e p given. (span, by g e p.0.root p.0.indexes p.1 given.0.root));
+}
+  where
+    by : (g : Graph) (e : Env) (root : model.Root) (zs : List ℤ) (w : Value) → RootIs g e s0.heap (Field reference kind field) root → model.store span (record { root = root; indexes = zs }) w ≡ fail span
+    by g e (model.Variable n) zs w is = absurd is
+    by g e (model.Field v k) zs w is = ap (λ (m : Comp Value). m >>= (λ whole. model.write_whole span (model.Field v k) (replaced zs whole w))) (ap (model.read_field span k) (sym is.0.value) ∙ no_reference_reads g e s0.heap span k reference other)

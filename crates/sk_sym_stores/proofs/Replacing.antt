@@ -1,6 +1,6 @@
 -- A part of a value is replaced.
-use Rattle.std.proofs.Common.{◌≡◌, ℕ, ℤ, pos, negsuc, Bool, true, false, true≢false, List, [], ◌∷◌, length, map, get_or, Some, None, option_map, refl, sym, ap, subst, ◌∙◌, arith}
-use Rattle.std.specs.Prelude.{nat_lt, not, ◌||◌, option_and_then, if◌then◌else◌}
+use Rattle.std.proofs.Common.{◌≡◌, ℕ, ◌≤◌, ℤ, pos, negsuc, Bool, true, false, true≢false, List, [], ◌∷◌, length, map, get_or, slice_get, Option, Some, None, option_map, refl, sym, ap, subst, ◌∙◌, arith}
+use Rattle.std.specs.Prelude.{nat_lt, not, ◌||◌, option_and_then, slice_set, if◌then◌else◌}
 use Rattle.std.proofs.lemmas.Bool.{ltb-true}
 use Rattle.std.proofs.lemmas.Option.{slice_get-get_or}
 use Rattle.std.proofs.lemmas.List.Elements.{All-head, All-tail}
@@ -13,22 +13,24 @@ use Rattle.sk_dag.specs.declared.shape.Seen.{Seen}
 use Rattle.sk_dag.specs.declared.shape.Seen.TheVariants as seen
 use Rattle.sk_dag.specs.Graph.{Graph, Grows, HasBool, HasWord, WordSort}
 use Rattle.sk_dag.specs.Eval.{bool_value, word_value, Keeps}
-use Rattle.sk_dag.specs.EvalShape.{shape_value}
-use Rattle.sk_arr.specs.Shapes.{blank, Alike, Stands, SlotsPass}
+use Rattle.sk_dag.specs.EvalShape.{shape_value, held_slot}
+use Rattle.sk_arr.specs.Shapes.{blank, Stands, SlotsPass}
 use Rattle.sk_arr.specs.Places.{is_within, element_of, replaced_at}
-use Rattle.sk_arr.specs.Answers.{shapes_value, IsCopy, IsRead}
+use Rattle.sk_arr.specs.Answers.{shapes_value, IsRead}
+use Rattle.sk_arr.proofs.Parts.{shape_law}
 use Rattle.sk_arr.proofs.Standing.{Stands-keeps, AllStand-keeps, array_stands}
-use Rattle.sk_arr.proofs.Values.{value_array, blank_array, length_map, parts_pass, array_passes}
+use Rattle.sk_arr.proofs.Values.{value_bit, value_int, value_reference, value_array, blank_array, length_map, parts_pass, array_passes}
 use Rattle.sk_prog.specs.declared.value.Value.{Value}
 use Rattle.sk_prog.specs.declared.value.Value.TheVariants as value
-use Rattle.sk_model.specs.Values.{replaced}
+use Rattle.sk_prog.specs.declared.value.Value.TheViews.{outs-Bit, outs-Int, outs-Null, outs-Place}
+use Rattle.sk_model.specs.Values.{elements_of, elements, replaced}
 use Rattle.sk_heap_laws.specs.Values.{place_of, value_of, IsLive}
-use Rattle.sk_heap_laws.proofs.Parts.{array_live, live_array}
+use Rattle.sk_heap_laws.proofs.Parts.{of_bit, of_int, of_null, of_slot, array_live, live_array}
 use Rattle.sk_sym_operators.specs.Worth.{worth}
 use Rattle.sk_sym_operators.proofs.Operating.{worth_array}
 use Rattle.sk_sym_operators.proofs.Elements.{element_as, none_outside, element_live}
 use Rattle.sk_sym_stores.specs.Locations.{AreWords}
-use Rattle.sk_sym_stores.specs.Replaced.{IsReplaced, HasElement, IsFirstIndex}
+use Rattle.sk_sym_stores.specs.Replaced.{IsReplaced, IsUnchanged, HasElement, IsFirstIndex}
 use Rattle.sk_sym_stores.proofs.Elements.{set_at, replaced_in, map_replaced, replaced_live}
 
 -- ---- indexes
@@ -46,22 +48,39 @@ pub none_more : (more : List WordId) → length more ≡ 0 → more ≡ []
 none_more [] e = refl
 none_more (index ∷ more) e = absurd (omega (arith, e))
 
--- ---- no index
+pub no_index : {indexes : List WordId} → 1 ≤ length indexes → indexes ≡ [] → ⊥
+no_index l none = absurd (omega (arith, l, ap length none))
 
-pub replaced_whole : {g d : Graph} {indexes : List WordId} {whole part r : Shape} {fails : BoolId} → indexes ≡ [] → Stands d part → Keeps d g → Alike part whole → ((h : Graph) → Stands h part → IsCopy h part r) → HasBool g.nodes fails → ((h : Graph) → Grows g h → (e : Env) → bool_value h e fails ≡ false) → IsReplaced g indexes whole part r fails
-replaced_whole {g} {d} {indexes} {whole} {part} {r} {fails} none stands keeps alike copy there never =
-    let is : IsCopy g part r = copy g (Stands-keeps keeps stands) in
-    record {
-      stands = is.stands;
-      there = there;
-      alike = is.alike ∙ alike;
-      named = λ test p q. is.named test q;
-      live = λ h more e holds p q n. subst (IsLive holds) (sym (is.value h e)) q;
-      value = λ h more e holds.
-          ap (λ l. replaced (map (word_value h e) l) (worth holds h e whole) (worth holds h e part)) none
-          ∙ ap (λ v. Some (value_of (place_of holds) v)) (sym (is.value h e))
-          ∙ ap (λ (b : Bool). if b then None else Some (worth holds h e r)) (sym (never h more e));
-    }
+-- ---- no parts
+
+-- a shape that is no array is worth a value without elements
+no_elements : (h : Graph) (e : Env) (holds : ℕ → Bool) (a : Shape) → ((ss : List Shape) → a ≡ shape.Array ss → ⊥) → elements (worth holds h e a) ≡ []
+no_elements h e holds = shape_law (λ a. ((ss : List Shape) → a ≡ shape.Array ss → ⊥) → elements (worth holds h e a) ≡ [])
+    (λ c other. ap (λ v. elements (value_of (place_of holds) v)) (value_bit h e c) ∙ ap elements (of_bit (place_of holds) (bool_value h e c)) ∙ ap elements_of (outs-Bit (bool_value h e c)))
+    (λ c other. ap (λ v. elements (value_of (place_of holds) v)) (value_int h e c) ∙ ap elements (of_int (place_of holds) (word_value h e c)) ∙ ap elements_of (outs-Int (word_value h e c)))
+    (λ t other. ap (λ v. elements (value_of (place_of holds) v)) (value_reference h e t) ∙ on_slot (held_slot h e t.slots.items))
+    (λ ss below other. absurd (other ss refl))
+  where
+    on_slot : (o : Option ℕ) → elements (value_of (place_of holds) (seen.Slot o)) ≡ []
+    on_slot None = ap elements (of_null (place_of holds)) ∙ ap elements_of outs-Null
+    on_slot (Some n) = ap elements (of_slot (place_of holds) n) ∙ ap elements_of (outs-Place (place_of holds n))
+
+none_replaced : (z : ℤ) (zs : List ℤ) (v part : Value) → elements v ≡ [] → replaced (z ∷ zs) v part ≡ None
+none_replaced (pos i) zs v part none = ap (λ o. option_and_then (λ old. option_and_then (λ new. Some (value.Array (slice_set (elements v) i new))) (replaced zs old part)) o) (ap (λ l. slice_get l i) none)
+none_replaced (negsuc i) zs v part none = refl
+
+pub replaced_nothing : {g : Graph} {indexes more : List WordId} {index : WordId} {whole part r : Shape} {fails : BoolId} → IsFirstIndex indexes index more → ((ss : List Shape) → whole ≡ shape.Array ss → ⊥) → IsUnchanged g whole r fails → IsReplaced g indexes whole part r fails
+replaced_nothing {g} {indexes} {more} {index} {whole} {part} {r} {fails} first other is = record {
+  stands = is.copy.stands;
+  there = is.there;
+  alike = is.copy.alike;
+  named = λ test p q. is.copy.named test p;
+  live = λ h m e holds p q f. absurd (true≢false (sym (is.always h m e) ∙ f));
+  value = λ h m e holds.
+      ap (λ l. replaced (map (word_value h e) l) (worth holds h e whole) (worth holds h e part)) first.front
+      ∙ none_replaced (word_value h e index) (map (word_value h e) more) (worth holds h e whole) (worth holds h e part) (no_elements h e holds whole other)
+      ∙ ap (λ (b : Bool). if b then None else Some (worth holds h e r)) (sym (is.always h m e));
+}
 
 -- ---- one index more
 

@@ -1,6 +1,6 @@
 -- What is stored in variables.
 use Rattle.std.proofs.Common.{◌≡◌, ℕ, ℤ, Bool, false, List, map, Option, Some, None, refl, sym, ap, subst, ◌∙◌}
-use Rattle.std.specs.Prelude.{⊤, if◌then◌else◌, slice_index_or}
+use Rattle.std.specs.Prelude.{[], ⊤, if◌then◌else◌, slice_index_or, slice_set}
 use Rattle.sk_base.specs.declared.span.Span.{Span}
 use Rattle.sk_dag.specs.declared.env.Env.{Env}
 use Rattle.sk_dag.specs.declared.node.BoolId.{BoolId}
@@ -10,6 +10,7 @@ use Rattle.sk_dag.specs.Graph.{Graph, Grows}
 use Rattle.sk_dag.specs.Eval.{bool_value, word_value, Keeps}
 use Rattle.sk_dag.proofs.EvalLemmas.{Keeps-trans}
 use Rattle.sk_arr.specs.Shapes.{Stands}
+use Rattle.sk_arr.specs.Answers.{IsCopy}
 use Rattle.sk_arr.proofs.Standing.{Stands-keeps}
 use Rattle.sk_heap.specs.declared.slot.Slot.{Slot}
 use Rattle.sk_prog.specs.declared.value.Value.{Value}
@@ -18,17 +19,17 @@ use Rattle.sk_model.specs.Heap as model
 use Rattle.sk_model.specs.Values.{replaced}
 use Rattle.sk_model.specs.Eval.{or_fail}
 use Rattle.sk_model.specs.Exec.{Onward, onward}
-use Rattle.sk_heap_laws.specs.Values.{holds_in, value_in}
+use Rattle.sk_heap_laws.specs.Values.{place_of, holds_in, value_of, value_in, IsLive}
 use Rattle.sk_sym_state.specs.declared.setting.Setting.{Setting}
 use Rattle.sk_sym_state.specs.declared.state.SymState.{SymState}
 use Rattle.sk_sym_state.specs.Seen.{IsWorth}
 use Rattle.sk_sym_state.specs.Stands.{StateStands}
 use Rattle.sk_sym_state.specs.Shows.{Shows, SeesFlow, Sees}
-use Rattle.sk_sym_state.specs.Variables.{IsVariable, IsDeclared, IsAssigned}
+use Rattle.sk_sym_state.specs.Variables.{with_slots, IsVariable}
 use Rattle.sk_sym_state.specs.Meaning.{IsLater, DoesOn, ExecutesOn, FailsWhere}
 use Rattle.sk_sym_state.proofs.Carrying.{later_keeps, failed_over, skipped_over, Moves-trans}
 use Rattle.sk_sym_state.proofs.Ends.{fails_or_goes}
-use Rattle.sk_sym_state.proofs.Scopes.{reads, declares_does, assigns_does}
+use Rattle.sk_sym_state.proofs.Scopes.{reads, assigns_does}
 use Rattle.sk_sym_stores.specs.declared.location.Location.{Location}
 use Rattle.sk_sym_stores.specs.declared.location.Root.TheVariants.{Variable}
 use Rattle.sk_sym_stores.specs.Locations.{RootIs}
@@ -82,7 +83,30 @@ store_in span slot g e heap (model.Variable n) zs v at is =
     by (Some w) = refl
 store_in span slot g e heap (model.Field w k) zs v at is = absurd is
 
-module _ {x : Setting} {d0 d1 d2 : Graph} {s0 s1 s2 : SymState} {slot : ℕ} {indexes : List WordId} {held value made : Shape} {fails : BoolId} (span : Span) (h : StateStands d0 x.expanded.now.prog s0) (read : IsVariable s0 slot held) (keeps : Keeps d0 d1) (is : IsReplaced d1 indexes held value made fails) (f : FailsWhere x d1 d2 s0 s1 fails) (assigned : IsAssigned s1 s2 slot made) where
+assigned_does : {x : Setting} {d : Graph} {s s1 : SymState} {slot : ℕ} {r : Shape} → StateStands d x.expanded.now.prog s → Stands d r → s1 ≡ with_slots s (slice_set s.frame.slots slot r) → DoesOn x d d s s1 (λ g e v. IsWorth g e s.heap r v) (λ g e (u : Unit {0}). ⊤) (λ e v. model.write slot v)
+assigned_does {x} {d} {s} {s1} {slot} {r} h there is = subst (λ t. DoesOn x d d s t (λ g e v. IsWorth g e s.heap r v) (λ g e (u : Unit {0}). ⊤) (λ e v. model.write slot v)) (sym is) (assigns_does h there)
+
+-- a whole variable is written
+pub variable_written : {x : Setting} {d : Graph} {s0 s1 : SymState} {slot : ℕ} {indexes : List WordId} {value made : Shape} (span : Span) → StateStands d x.expanded.now.prog s0 → indexes ≡ [] → IsCopy d value made → s1 ≡ with_slots s0 (slice_set s0.frame.slots slot made) → Stores x d d s0 s1 span (record { root = Variable slot; indexes = indexes }) value
+variable_written {x} {d} {s0} {s1} {slot} {indexes} {value} {made} span h none copy assigned = record {
+  does = record {
+    moves = does.moves;
+    runs = λ g e p at l given shows. subst (Sees g e s1 (λ (u : Unit {0}). ⊤)) (sym (stored g e p at given)) (does.runs g e p.1 at l (copied g e p.1 given.1) shows);
+  };
+}
+  where
+    does : DoesOn x d d s0 s1 (λ g e v. IsWorth g e s0.heap made v) (λ g e (u : Unit {0}). ⊤) (λ e v. model.write slot v)
+    does = assigned_does h copy.stands assigned
+
+    stored : (g : Graph) (e : Env) (p : model.Location × Value) (at : State) → IsStored s0.heap (record { root = Variable slot; indexes = indexes }) value g e p → model.store span p.0 p.1 at ≡ model.write slot p.1 at
+    stored g e p at given =
+        store_in span slot g e s0.heap p.0.root p.0.indexes p.1 at given.0.root
+        ∙ ap (λ zs. and_then (and_then (model.read slot at) (λ whole. or_fail span (replaced zs whole p.1))) (model.write slot)) (given.0.indexes ∙ ap (map (word_value g e)) none)
+
+    copied : (g : Graph) (e : Env) (v : Value) → IsWorth g e s0.heap value v → IsWorth g e s0.heap made v
+    copied g e v w = record { value = ap (value_of (place_of (holds_in g e s0.heap))) (copy.value g e) ∙ w.value; live = subst (IsLive (holds_in g e s0.heap)) (sym (copy.value g e)) w.live }
+
+module _ {x : Setting} {d0 d1 d2 : Graph} {s0 s1 s2 : SymState} {slot : ℕ} {indexes : List WordId} {held value made : Shape} {fails : BoolId} (span : Span) (h : StateStands d0 x.expanded.now.prog s0) (read : IsVariable s0 slot held) (keeps : Keeps d0 d1) (is : IsReplaced d1 indexes held value made fails) (f : FailsWhere x d1 d2 s0 s1 fails) (assigned : s2 ≡ with_slots s1 (slice_set s1.frame.slots slot made)) where
   abbrev location : Location
   location = record { root = Variable slot; indexes = indexes }
 
@@ -114,10 +138,5 @@ module _ {x : Setting} {d0 d1 d2 : Graph} {s0 s1 s2 : SymState} {slot : ℕ} {in
   pub variable_stores : Stores x d0 d2 s0 s2 span location value
   variable_stores = record {
     does = on_same (λ g e p at given. store_in span slot g e s0.heap p.0.root p.0.indexes p.1 at given.0.root)
-        (on_then changes (assigns_does f.moves.stands (Stands-keeps f.moves.keeps is.stands) assigned));
+        (on_then changes (assigned_does f.moves.stands (Stands-keeps f.moves.keeps is.stands) assigned));
   }
-
--- ---- declarations
-
-pub declares : {x : Setting} {d : Graph} {s0 s1 : SymState} {slot : ℕ} {r : Shape} → StateStands d x.expanded.now.prog s0 → Stands d r → IsDeclared s0 s1 slot r → ExecutesOn x d d s0 s1 (λ g e. IsWorth g e s0.heap r) (λ e v. onward (model.write slot v))
-declares h there is = on_onward (declares_does h there is)

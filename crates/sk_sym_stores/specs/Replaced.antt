@@ -1,5 +1,5 @@
 -- Values of which one part is another one, over nodes.
-use Rattle.std.specs.Prelude.{◌≡◌, ℕ, Bool, false, not, List, ◌∷◌, length, map, Some, None, if◌then◌else◌}
+use Rattle.std.specs.Prelude.{◌≡◌, ℕ, Bool, true, false, not, List, ◌∷◌, length, map, Some, None, if◌then◌else◌}
 use Rattle.sk_dag.specs.declared.env.Env.{Env}
 use Rattle.sk_dag.specs.declared.node.BoolId.{BoolId}
 use Rattle.sk_dag.specs.declared.node.WordId.{WordId}
@@ -10,7 +10,7 @@ use Rattle.sk_dag.specs.Eval.{bool_value, word_value}
 use Rattle.sk_dag.specs.EvalShape.{shape_value}
 use Rattle.sk_arr.specs.Shapes.{blank, Alike, Stands, AllStand, SlotsPass, AllSlotsPass}
 use Rattle.sk_arr.specs.Places.{is_within, replaced_at}
-use Rattle.sk_arr.specs.Answers.{shapes_value}
+use Rattle.sk_arr.specs.Answers.{shapes_value, IsCopy}
 use Rattle.sk_model.specs.Values.{replaced}
 use Rattle.sk_heap_laws.specs.Values.{IsLive}
 use Rattle.sk_sym_operators.specs.Worth.{worth}
@@ -25,6 +25,12 @@ pub record IsReplaced (g : Graph) (indexes : List WordId) (whole part r : Shape)
   pub named : (test : ℕ → Bool) → SlotsPass test whole → SlotsPass test part → SlotsPass test r
   pub live : (h : Graph) → Grows g h → (e : Env) (holds : ℕ → Bool) → IsLive holds (shape_value h e whole) → IsLive holds (shape_value h e part) → bool_value h e fails ≡ false → IsLive holds (shape_value h e r)
   pub value : (h : Graph) → Grows g h → (e : Env) (holds : ℕ → Bool) → replaced (map (word_value h e) indexes) (worth holds h e whole) (worth holds h e part) ≡ (if bool_value h e fails then None else Some (worth holds h e r))
+
+-- the whole once more, and a node that always holds
+pub record IsUnchanged (g : Graph) (whole r : Shape) (fails : BoolId) : Type 0 where
+  pub copy : IsCopy g whole r
+  pub there : HasBool g.nodes fails
+  pub always : (h : Graph) → Grows g h → (e : Env) → bool_value h e fails ≡ true
 
 -- the array with the element replaced that an index names, and whether it leaves the range; where it does, the array as it
 -- is

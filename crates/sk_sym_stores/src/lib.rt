@@ -1,8 +1,7 @@
-//! What is stored in a run over the nodes of a graph: declarations, and assignments to variables, fields and elements.
+//! What is stored in a run over the nodes of a graph: assignments to variables, fields and elements, and new records.
 #![tactic(auto)]
 
 mod creation;
-mod declaration;
 mod form;
 mod kind;
 mod location;
@@ -11,6 +10,5 @@ mod replacement;
 mod storing;
 
 pub use creation::{Init, make};
-pub use declaration::declare;
 pub use location::{Location, Root};
 pub use storing::store;

@@ -6,6 +6,7 @@ ghost use Rattle.sk_sym_stores.specs.Locations.{IsIndexed};
 
 use sk_base::List;
 use sk_dag::{Shape, WordId};
+use sk_limits::never;
 use sk_prog::StructId;
 use std::alloc::{AllocError, Global};
 
@@ -54,8 +55,8 @@ impl Location {
         }
     }
 
-    /// The element of it that an index names. An index that is no word, which no typed program has, counts as want of
-    /// memory. After a refusal the location is given up with the walk that holds it.
+    /// The element of it that an index names. An index of a typed program is a word (`never`). After a refusal the location is
+    /// given up with the walk that holds it.
     pub fn push_index(&mut self, index: &Shape) -> Result<(), AllocError>
         ensures { OnOk result (IsIndexed self.old self.new index.now) }
     {
@@ -64,7 +65,7 @@ impl Location {
                 self.indexes.push(*word)?;
                 Ok(())
             }
-            _ => Err(AllocError),
+            _ => Err(never()),
         }
     }
 }

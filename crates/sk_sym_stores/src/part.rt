@@ -1,18 +1,18 @@
-//! Parts of shapes. A shape of another form, which no typed program has there, counts as want of memory.
+//! Parts of shapes.
 
-ghost use Rattle.std.specs.Prelude.{◌≡◌, [], IfOk, MatchOption};
-ghost use Rattle.sk_dag.specs.declared.shape.Shape.TheVariants.{Array};
+ghost use Rattle.std.specs.Prelude.{◌≡◌, ◌≤◌, ◌<◌, [], length, IfOk, OnOk, MatchOption};
 ghost use Rattle.sk_dag.specs.Graph.{HasWord};
 ghost use Rattle.sk_dag.specs.Eval.{Keeps};
-ghost use Rattle.sk_arr.specs.Shapes.{Stands, AllStand};
+ghost use Rattle.sk_arr.specs.Shapes.{AlikeTo, AllAlike, Stands, AllStand};
 ghost use Rattle.sk_arr.specs.Answers.{IsRead};
 ghost use Rattle.sk_sym_stores.specs.Replaced.{HasElement, IsFirstIndex};
 
 use sk_arr::{read, write_under};
 use sk_base::List;
 use sk_dag::{Dag, Shape, WordId};
+use sk_limits::never;
 use sk_sym_folds::flag;
-use sk_sym_operators::{Operated, are_alike, like_all};
+use sk_sym_operators::{Operated, like_all};
 use std::alloc::{AllocError, Global};
 
 /// The first index of a list, and those behind it.
@@ -35,14 +35,37 @@ pub(crate) fn first_index<'a>(indexes: &'a [WordId]) -> Option<First<'a>>
     }
 }
 
-/// The elements of an array.
-pub(crate) fn row_in(a: &Shape) -> Result<&List<Shape>, AllocError>
-    ensures { IfOk result (λ list. a.now ≡ Array list.now) }
+/// Sees to it that the elements of an array are of the form of a shape, as those of a typed program are (`never`).
+fn of_one_form(a: &Shape, list: &[Shape]) -> Result<(), AllocError>
+    ensures { OnOk result (AlikeTo a.now list.now) }
 {
-    match a {
-        Shape::Array(list) => Ok(list),
-        _ => Err(AllocError),
+    if !like_all(a, list) {
+        return Err(never());
     }
+    Ok(())
+}
+
+/// Sees to it that the elements of an array are of one form.
+#[tactic(auto, using(sk_sym_operators::proofs::Elements::like_each))]
+fn all_of_one_form(list: &[Shape]) -> Result<(), AllocError>
+    requires { 1 ≤ length list.now }
+    ensures { OnOk result (AllAlike list.now) }
+{
+    of_one_form(&list[0], list)?;
+    Ok(())
+}
+
+/// What an index names in an array without elements: nothing.
+fn nothing(dag: &mut Dag, list: &List<Shape>, index: WordId) -> Result<Operated, AllocError>
+    requires { length list.now < 1 }
+    ensures keeps { Keeps dag.old dag.new }
+    ensures read { IfOk result (λ made. IsRead dag.new list.now index made.value made.fails) }
+{
+    let fails = flag(dag, true)?;
+    Ok(Operated {
+        value: Shape::Bit(fails),
+        fails,
+    })
 }
 
 /// The element that an index names, and whether it leaves the range.
@@ -57,9 +80,11 @@ pub(crate) fn element_at(
     ensures keeps { Keeps dag.old dag.new }
     ensures read { IfOk result (λ made. IsRead dag.new list.now index made.value made.fails) }
 {
-    if list.len() < 1 || !are_alike(list.as_slice()) {
-        return Err(AllocError);
+    if list.len() < 1 {
+        let made = nothing(dag, list, index)?;
+        return Ok(made);
     }
+    all_of_one_form(list.as_slice())?;
     let (value, fails) = read(alloc, dag, list, index)?;
     Ok(Operated { value, fails })
 }
@@ -79,9 +104,7 @@ pub(crate) fn with_element(
     ensures keeps { Keeps dag.old dag.new }
     ensures element { IfOk result (λ made. HasElement dag.new list.now index value.now made.value made.fails) }
 {
-    if !like_all(value, list.as_slice()) {
-        return Err(AllocError);
-    }
+    of_one_form(value, list.as_slice())?;
     let always = flag(dag, true)?;
     let (made, fails) = write_under(alloc, dag, always, list, index, value)?;
     Ok(Operated {

@@ -1,34 +1,26 @@
 //! Values of which one part is another one.
 
-ghost use Rattle.std.specs.Prelude.{[], IfOk};
+ghost use Rattle.std.specs.Prelude.{◌≤◌, length, IfOk};
 ghost use Rattle.sk_dag.specs.Eval.{Keeps};
 ghost use Rattle.sk_arr.specs.Shapes.{Stands};
 ghost use Rattle.sk_sym_stores.specs.Locations.{AreWords};
-ghost use Rattle.sk_sym_stores.specs.Replaced.{IsReplaced};
+ghost use Rattle.sk_sym_stores.specs.Replaced.{IsReplaced, IsUnchanged};
 
-use crate::part::{element_at, first_index, row_in, with_element};
+use crate::part::{element_at, first_index, with_element};
 use sk_arr::copy_shape;
 use sk_dag::{Dag, Shape, WordId};
 use sk_sym_folds::{flag, or};
-use sk_sym_operators::{Operated, alike};
+use sk_sym_operators::Operated;
 use std::alloc::{AllocError, Global};
 
-/// Another value in the place of a whole one. It has to be of its form.
-fn whole_replaced(
-    alloc: Global,
-    dag: &mut Dag,
-    whole: &Shape,
-    part: &Shape,
-) -> Result<Operated, AllocError>
-    requires part { Stands dag.old part.now }
+/// A value without parts once more, as it stays where an index is to name a part of it: that fails.
+fn unchanged(alloc: Global, dag: &mut Dag, whole: &Shape) -> Result<Operated, AllocError>
+    requires whole { Stands dag.old whole.now }
     ensures keeps { Keeps dag.old dag.new }
-    ensures replaced { IfOk result (λ made. IsReplaced dag.new [] whole.now part.now made.value made.fails) }
+    ensures unchanged { IfOk result (λ made. IsUnchanged dag.new whole.now made.value made.fails) }
 {
-    if !alike(part, whole) {
-        return Err(AllocError);
-    }
-    let value = copy_shape(alloc, part)?;
-    let fails = flag(dag, false)?;
+    let value = copy_shape(alloc, whole)?;
+    let fails = flag(dag, true)?;
     Ok(Operated { value, fails })
 }
 
@@ -37,7 +29,7 @@ fn whole_replaced(
 ///
 /// # Errors
 ///
-/// Memory is wanting, or the shapes are not of the forms that a typed program has there.
+/// Memory is wanting, or the elements of an array and the part are not of one form (`never`).
 pub(crate) fn replaced(
     alloc: Global,
     dag: &mut Dag,
@@ -45,6 +37,7 @@ pub(crate) fn replaced(
     whole: &Shape,
     part: &Shape,
 ) -> Result<Operated, AllocError>
+    requires some { 1 ≤ length indexes.now }
     requires indexes { AreWords dag.old indexes.now }
     requires whole { Stands dag.old whole.now }
     requires part { Stands dag.old part.now }
@@ -52,10 +45,12 @@ pub(crate) fn replaced(
     ensures replaced { IfOk result (λ made. IsReplaced dag.new indexes.now whole.now part.now made.value made.fails) }
 {
     let Some(first) = first_index(indexes) else {
-        let made = whole_replaced(alloc, dag, whole, part)?;
-        return Ok(made);
+        unreachable!()
     };
-    let list = row_in(whole)?;
+    let Shape::Array(list) = whole else {
+        let none = unchanged(alloc, dag, whole)?;
+        return Ok(none);
+    };
     if first.more.is_empty() {
         let last = with_element(alloc, dag, list, first.index, part)?;
         return Ok(last);

@@ -1,6 +1,6 @@
 //! Stores at the locations that targets name.
 
-ghost use Rattle.std.specs.Prelude.{OnOk, []};
+ghost use Rattle.std.specs.Prelude.{◌≤◌, OnOk, length, []};
 ghost use Rattle.sk_arr.specs.Shapes.{Stands};
 ghost use Rattle.sk_sym_state.specs.Stands.{StateStands};
 ghost use Rattle.sk_dag.specs.declared.shape.Shape.TheVariants.{Reference};
@@ -14,13 +14,34 @@ ghost use Rattle.sk_sym_stores.specs.Stores.{Stores};
 use crate::kind::{fits_field, may_hold};
 use crate::location::{Location, Root};
 use crate::replacement::replaced;
+use sk_arr::copy_shape;
 use sk_base::Span;
 use sk_dag::{Dag, Shape, Targets, WordId};
+use sk_limits::never;
 use sk_prog::StructId;
 use sk_sym_folds::or;
 use sk_sym_state::{Setting, SymState};
-use sk_sym_steps::are_kind;
+use sk_sym_steps::{are_kind, fail_now};
 use std::alloc::AllocError;
+
+/// Stores a value in a whole variable.
+fn write_variable(
+    setting: &Setting<'_>,
+    dag: &Dag,
+    state: &mut SymState,
+    span: Span,
+    slot: u32,
+    value: &Shape,
+) -> Result<(), AllocError>
+    requires stands { StateStands dag.now setting.now.expanded.now.prog state.old }
+    requires value { Stands dag.now value.now }
+    ensures { OnOk result (Stores setting.now dag.now dag.now state.old state.new span (record { root = Variable slot; indexes = [] }) value.now) }
+{
+    let _graph = dag.int_bits();
+    let again = copy_shape(setting.alloc, value)?;
+    state.assign(slot, again);
+    Ok(())
+}
 
 /// Stores a value in a variable, or in a part of it.
 fn store_variable(
@@ -38,14 +59,17 @@ fn store_variable(
     ensures keeps { Keeps dag.old dag.new }
     ensures stores { OnOk result (Stores setting.now dag.old dag.new state.old state.new span (record { root = Variable slot; indexes = indexes.now }) value.now) }
 {
+    if indexes.is_empty() {
+        return write_variable(setting, dag, state, span, slot, value);
+    }
     let whole = state.read(setting.alloc, slot)?;
     let made = replaced(setting.alloc, dag, indexes, &whole, value)?;
     state.fail_where(setting, dag, made.fails)?;
-    state.assign(slot, made.value)?;
+    state.assign(slot, made.value);
     Ok(())
 }
 
-/// Stores a value in a field of the slot that a reference is at, or in a part of it.
+/// Stores a value in a part of a field of the slot that a reference is at.
 fn store_target(
     setting: &Setting<'_>,
     dag: &mut Dag,
@@ -60,6 +84,7 @@ fn store_target(
     requires stands { StateStands dag.old setting.now.expanded.now.prog state.old }
     requires target { RefersTo dag.old state.old.heap kind target.now }
     requires may { MayHold setting.now.expanded.now.prog state.old.structs kind field value.now }
+    requires some { 1 ≤ length indexes.now }
     requires indexes { AreWords dag.old indexes.now }
     requires value { Stands dag.old value.now }
     ensures keeps { Keeps dag.old dag.new }
@@ -105,7 +130,7 @@ fn write_target(
     Ok(())
 }
 
-/// Stores a value in a whole field of what a reference stands for. It fails where the reference is null.
+/// Stores a value in a whole field of what a reference stands for. It fails where the reference is null, and where it is none.
 pub(crate) fn write_field(
     setting: &Setting<'_>,
     dag: &mut Dag,
@@ -124,17 +149,19 @@ pub(crate) fn write_field(
 {
     let prog = &setting.expanded.prog;
     let Shape::Reference(target) = reference else {
-        return Err(AllocError);
+        fail_now(setting, dag, state)?;
+        return Ok(());
     };
     if !fits_field(prog, state.structs.as_slice(), kind, field, value)
         || !are_kind(state.structs.as_slice(), kind, target.slots.as_slice())
     {
-        return Err(AllocError);
+        return Err(never());
     }
     write_target(setting, dag, state, span, target, kind, field, value)
 }
 
-/// Stores a value in a field of what a reference stands for, or in a part of it. It fails where the reference is null.
+/// Stores a value in a field of what a reference stands for, or in a part of it. It fails where the reference is null, and
+/// where it is none.
 fn store_field(
     setting: &Setting<'_>,
     dag: &mut Dag,
@@ -158,12 +185,13 @@ fn store_field(
     }
     let prog = &setting.expanded.prog;
     let Shape::Reference(target) = reference else {
-        return Err(AllocError);
+        fail_now(setting, dag, state)?;
+        return Ok(());
     };
     if !may_hold(prog, state.structs.as_slice(), kind, field, value)
         || !are_kind(state.structs.as_slice(), kind, target.slots.as_slice())
     {
-        return Err(AllocError);
+        return Err(never());
     }
     store_target(
         setting, dag, state, span, target, kind, field, indexes, value,
@@ -175,7 +203,7 @@ fn store_field(
 ///
 /// # Errors
 ///
-/// Memory is wanting, or the shapes are not of the forms and structs that a typed program has there. After a refusal the graph
+/// Memory is wanting, or shapes are not of the forms and structs that a typed program has there (`never`). After a refusal the graph
 /// has all nodes that it had (`keeps`); the state is given up with the walk that holds it.
 pub fn store(
     setting: &Setting<'_>,

@@ -8,4 +8,4 @@ use Rattle.sk_sym_forms.proofs.leaf.hole_here.Goals as goal
 pub returns-clause-evaluates : goal.returns-clause-evaluates
 returns-clause-evaluates c =
     let x = c.args.setting.now in
-    chosen_evaluates c.requires.stands c.in_ok-r.ensures.keeps (subst (λ w. IsChosen c.hole_value.new.dag x.expanded.now (choice_at x) (λ a. hole_value a.values w c.args.ty c.args.site) c.in_ok-r.r) c.in_ok-has_width.ensures c.in_ok-r.ensures.chosen)
+    chosen_evaluates c.requires.stands c.in_ok-r.ensures.keeps (subst (λ w. IsChosen c.hole_value.new.dag x.expanded.now (choice_at x) (λ a. hole_value a.values w c.args.ty c.args.site) c.in_ok-r.r) c.in_ok-width_is.ensures c.in_ok-r.ensures.chosen)

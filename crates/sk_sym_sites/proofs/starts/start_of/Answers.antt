@@ -4,4 +4,4 @@ use Rattle.sk_sym_sites.proofs.Trees.{before_is}
 use Rattle.sk_sym_sites.proofs.starts.start_of.Goals as goal
 
 pub returns : goal.returns
-returns c = record { place = λ bounds values call. c.in_ok-at.ensures ∙ ap funs_count c.in_ok-before.ensures ∙ ap (λ l. funs_count (take c.args.f l)) c.as_slice.ensures ∙ before_is c.args.prog.now bounds values call c.args.prog.now.funs c.args.f }
+returns c = record { place = λ bounds values call. c.in_ok-at.ensures ∙ ap funs_count c.functions_before-before.ensures ∙ ap (λ l. funs_count (take c.args.f l)) c.as_slice.ensures ∙ before_is c.args.prog.now bounds values call c.args.prog.now.funs c.args.f }

@@ -1,6 +1,7 @@
 use Rattle.sk_arr.proofs.Standing.{bit_there}
 use Rattle.sk_sym_state.proofs.Standing.{StateStands-keeps}
 use Rattle.sk_sym_steps.proofs.Conditions.{assumes}
+use Rattle.sk_sym_steps.proofs.Failing.{no_bit_assumes}
 use Rattle.sk_sym_steps.proofs.condition.assume_that.Goals as goal
 
 pub not-requires : goal.not-requires
@@ -11,3 +12,6 @@ skip_where-requires-clause-stands c = StateStands-keeps c.in_ok-skips.ensures.ke
 
 pub returns-clause-executes : goal.returns-clause-executes
 returns-clause-executes c = assumes c.in-Bit.is c.requires.stands c.in_ok-skips.ensures.keeps c.in_ok-skips.ensures.value c.in_ok-skip_where.ensures.skips c.args.span
+
+pub returns-in_default-clause-executes : goal.returns-in_default-clause-executes
+returns-in_default-clause-executes c = no_bit_assumes c.args.span c.in_ok-fail_now.ensures.fails c.in_default.not-Bit

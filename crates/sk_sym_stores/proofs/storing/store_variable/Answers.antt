@@ -7,10 +7,7 @@ pub fail_where-requires-clause-stands : goal.fail_where-requires-clause-stands
 fail_where-requires-clause-stands c = StateStands-keeps c.in_ok-made.ensures.keeps c.requires.stands
 
 pub returns-clause-stores : goal.returns-clause-stores
-returns-clause-stores c = variable_stores c.args.span c.requires.stands c.in_ok-whole.ensures c.in_ok-made.ensures.keeps c.in_ok-made.ensures.replaced c.in_ok-fail_where.ensures.fails c.in_ok-assign.ensures
-
-pub returns-in_err-assign-clause-keeps : goal.returns-in_err-assign-clause-keeps
-returns-in_err-assign-clause-keeps c = Keeps-trans c.in_ok-made.ensures.keeps c.in_ok-fail_where.ensures.keeps
+returns-clause-stores c = variable_stores c.args.span c.requires.stands c.in_ok-whole.ensures c.in_ok-made.ensures.keeps c.in_ok-made.ensures.replaced c.in_ok-fail_where.ensures.fails c.assign.ensures
 
 pub returns-clause-keeps : goal.returns-clause-keeps
 returns-clause-keeps c = Keeps-trans c.in_ok-made.ensures.keeps c.in_ok-fail_where.ensures.keeps
