@@ -112,7 +112,8 @@ harness void main(int x, bit c) {
 }
 """
 
-# What the runs are: words, a file of examples/ or a text, and the status with ample memory. `exec` runs what EVERY is completed to.
+# What the runs are: words, a file of examples/ or a text, and the status with ample memory. `exec` and `trace` run what EVERY is completed to, and `check` has
+# behind the sketch what `synth --cert` writes for it.
 RUNS = [
     ("synth", EVERY, 0),
     ("exec main 2 1", EVERY, 0),
@@ -124,7 +125,17 @@ RUNS = [
     ("synth", "last_comparison.sk", 0),
     ("synth", "turned_list.sk", 0),
     ("synth --rounds 1", "two_steps.sk", 2),
-    ("synth --cert", "doubled.sk", 20),
+    ("synth --cert", "doubled.sk", 0),
+    ("synth --cert", "fewest_steps.sk", 0),
+    ("check", "doubled.sk", 0),
+    ("check", "fewest_steps.sk", 0),
+    ("self 1", "", 0),
+    ("trace main 2 1", EVERY, 0),
+    ("trace f 1 --holes 2", "void f(int x) { assert x == ??; } harness void main() { }", 4),
+    ("lower", "expression.sk", 0),
+    ("all 3", "doubled.sk", 0),
+    ("why", "no_multiple.sk", 0),
+    ("why", "doubled.sk", 7),
     ("exec reversal 1,2,3,4", "reversal.sk", 0),
     ("exec coins 68 0,0,0,0", "coins.sk", 0),
     ("exec number_of 1,0,1,1,0,0,1,0", "gray.sk", 0),
@@ -135,16 +146,20 @@ RUNS = [
     ("synth", "harness void f(int x) { int y = true; assert z == ??; }", 12),
     ("synth --bnd-cbits 17", "doubled.sk", 10),
     ("--help", "", 0),
+    ("--version", "", 0),
 ]
 
 
 def text_of(program, words, named):
-    if named is EVERY and words.startswith("exec"):
+    if named is EVERY and words.startswith(("exec", "trace")):
         return subprocess.run([program, "synth"], input=EVERY.encode(), capture_output=True, check=True).stdout
     if not named.endswith(".sk"):
         return named.encode()
     with open(f"{TOP}/examples/{named}", "rb") as file:
-        return file.read()
+        text = file.read()
+    if words != "check":
+        return text
+    return text + b"//%%\n" + subprocess.run([program, "synth", "--cert"], input=text, capture_output=True, check=True).stdout
 
 
 class Run:

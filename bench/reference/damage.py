@@ -5,11 +5,17 @@
 
 Of a call with a text of n bytes and steps of s bytes, the source is asked once for each s bytes and once behind them; the sink takes what is
 written s bytes at a time. A line whose read fails writes nothing. One whose write fails has written what the writes before it took. The
-whole results below are known apart: from the rows of the other files, by hand."""
+whole results below are known apart: from the rows of the other files, by hand. A sketch without functions has a certificate without parts, which is
+written by hand. The lines `self`, `--help` and `--version` read nothing; of the help the front is known."""
 import sys
 
 DOUBLED = "harness void doublesketch(int x){\n  int t = x * ??;\n  assert t == x + x;\n}\n"
 DONE = "harness void doublesketch(int x) {\n    int t = x * 2;\n    assert t == x + x;\n}\n//@ completion\n//@ value 0\n//@ holes 2\n"
+
+RECORD = "struct S { int v; }\n"
+CERTIFIED = "struct S {\n    int v;\n}\n//@ completion\n//@ value 0\n//@ holes\n//@ certificate 2\n//@ inputs 0\n//@ end\n"
+SELF = "self 0\nfunctions 2\nsites 3\nsteps 158\nvalue 0\nstatus 0\n"
+HELP = "Completes sketches"
 
 # (title, words, text, status, what is written)
 LINES = [
@@ -39,14 +45,25 @@ LINES = [
     ("why, an input", "why", "harness void main(int x) { assert x != 7; }\n", 0, "//@ input 0 7\n//@ why 1\n"),
     ("why, a choice", "why", DOUBLED, 7, "//@ met\n//@ holes 2\n"),
     ("the version", "--version", "", 0, "sketch 0.1.0\n"),
+    ("synth with a certificate", "synth --cert", RECORD, 0, CERTIFIED),
+    ("synth with a certificate, spent before it", "synth --cert --rounds 1", "harness void main(int x) { assert x != 7; }\n", 2, "//@ spent rounds 1\n//@ choice\n//@ input 0 7\n"),
+    ("check, accepted", "check", f"{RECORD}//%%\n{CERTIFIED}", 0, "accepted\n"),
+    ("check, rejected", "check", f"{RECORD}//%%\n{CERTIFIED.replace('holes', 'holes 0')}", 6, "rejected 1\n"),
+    ("self", "self 0", "", 0, SELF),
 ]
+# Words of lines that read nothing.
+UNREAD = ("--", "self")
+
+
+def escaped_of(text):
+    return text.replace("\\", "\\\\").replace("\n", "\\n")
 
 
 def row(title, words, settings, text, status, message, out):
     """One row, its text and what is written with escapes."""
-    escaped = text.replace("\\", "\\\\").replace("\n", "\\n")
-    said = out.replace("\\", "\\\\").replace("\n", "\\n")
-    lines = [f"=== {title}", words, "escaped", *settings, "--- no line feed" if text else "---"]
+    escaped, said = escaped_of(text), escaped_of(out)
+    once = ["once"] if "--cert" in words and status == 0 else []
+    lines = [f"=== {title}", words, "escaped", *once, *settings, "--- no line feed" if text else "---"]
     lines += [escaped] if text else []
     lines += [f"--- {status}{message}" + (" no line feed" if out else "")]
     lines += [said] if out else []
@@ -64,7 +81,7 @@ def calls(length, step):
 
 
 def reads(title, words, text, step):
-    if words.startswith("--"):
+    if words.startswith(UNREAD):
         return
     count = calls(len(text), step) + 1
     for k in range(count):
@@ -82,6 +99,16 @@ def shorts(title, words, text, status, out):
         both(f"{title}: {r} bytes a read, {10 - r} a write", words, [f"source {r}", f"sink {10 - r}"], text, status, "", out)
 
 
+def of_help():
+    """The front of the help: writes of six bytes that fail, and short writes."""
+    print("# the help\n")
+    for k in range(4):
+        both(f"the help: write {k + 1} fails", "--help", [f"sink 6 fails {k}"], "", 15, " write fault", HELP[: 6 * k])
+    for w in range(1, 10):
+        for settings in ([], ["adapted"]):
+            print("\n".join([f"=== the help: {w} bytes a write{', behind the adapters' if settings else ''}", "--help", f"sink {w}", *settings, "---", "--- 0", f"{HELP}.."]) + "\n")
+
+
 def main():
     print("# Written by bench/reference/damage.py, which says how: lines whose reads and writes fail in turn, and streams of a few bytes a call.\n")
     print("# A completion: each read and each write of a byte fails in turn.\n")
@@ -92,6 +119,7 @@ def main():
         reads(title, words, text, 8)
         writes(title, words, text, out, 10)
         shorts(title, words, text, status, out)
+    of_help()
 
 
 if __name__ == "__main__":

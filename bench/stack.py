@@ -1,0 +1,134 @@
+#!/usr/bin/env python3
+"""Finds the least stack under which lines on the deepest texts end as with ample stack.
+
+    stack.py PROGRAM [--only WORD]
+
+PROGRAM is the built `sketch`. The texts nest, in eleven forms, as deep as one function's tree may, as deep as a run or an expansion may, and, for `lower`, switches in
+switches. Each line is run under stacks of other sizes (`ulimit -s`), to 32 KiB, from 8,192 KiB downwards. For each line the script prints the form that needs most, how
+it ends, the least stack in KiB, and what is left of 8,192; its status is 1 where a line ends otherwise on 8,192 KiB than on 65,536."""
+import argparse
+import os
+import resource
+import subprocess
+import sys
+
+WHOLE, STEP, AMPLE = 8192, 32, 65536
+
+# What opens and closes a level, and what has to stand before the functions.
+FORMS = {
+    "parentheses": ("(", ")", ""),
+    "minus signs": ("- ", "", ""),
+    "sums": ("", " + 0", ""),
+    "sums to the right": ("0 + (", ")", ""),
+    "choices": ("x == 7 ? ", " : 0", ""),
+    "arguments": ("same(", ")", "int same(int x) { return x; }\n"),
+    "braces": ("first({", "})", "int first(int[1] a) { return a[0]; }\n"),
+    "records": ("new S(n = ", ").n", "struct S { int n; }\n"),
+    "blocks": ("{ ", " }", ""),
+    "conditions": ("if (x == 7) ", "", ""),
+    "loops": ("while (x == 7) ", "", ""),
+}
+STATEMENTS = ("blocks", "conditions", "loops")
+
+
+def nested(form, levels, inside):
+    opened, closed, _ = FORMS[form]
+    return opened * levels + inside + closed * levels
+
+
+def returned(form, levels, value):
+    """A statement that gives back a value from so many levels."""
+    return nested(form, levels, f"return {value};") if form in STATEMENTS else f"return {nested(form, levels, value)};"
+
+
+def hole(form, levels):
+    inside = nested(form, levels, "y = ??(1);") if form in STATEMENTS else f"y = {nested(form, levels, '??(1)')};"
+    return f"{FORMS[form][2]}harness void main(int x) {{ assume x == 7; int y = 0; {inside} x = 0; assert y <= 1; }}\n"
+
+
+def calls(form, levels, count=127):
+    functions = "".join(f"int f{k}(int x) {{ {returned(form, levels, f'f{k + 1}(x)')} }}\n" for k in range(count))
+    return f"{FORMS[form][2]}{functions}int f{count}(int x) {{ return x; }}\n"
+
+
+def copies(form, levels, count=40):
+    functions = "".join(f"generator int f{k}(int x) {{ {returned(form, levels, f'f{k + 1}(x)')} }}\n" for k in range(count))
+    return f"{FORMS[form][2]}{functions}generator int f{count}(int x) {{ return x; }}\nharness void main(int x) {{ assert f0(x) == x; }}\n"
+
+
+def switches(_, levels):
+    return f"adt A {{ V {{ int n; }} }}\nvoid f(A x) {{ {'switch (x) { case V: { ' * levels}x.n = 1; {'} } ' * levels}}}\n"
+
+
+def ended(program, words, text, kilobytes):
+    """The status of a run, and what it writes, on a stack of this size."""
+    size = kilobytes << 10
+    cap = lambda: resource.setrlimit(resource.RLIMIT_STACK, (size, size))
+    ran = subprocess.run([program, *words], input=text, capture_output=True, preexec_fn=cap)
+    return ran.returncode, ran.stdout, ran.stderr
+
+
+def deepest(program, words, make, form):
+    """The greatest number of levels at which a line still ends well, and its text."""
+    low, high = 1, 256
+    while high - low > 1:
+        middle = (low + high) // 2
+        low, high = (middle, high) if ended(program, words, make(form, middle).encode(), AMPLE)[0] < 10 else (low, middle)
+    return low, make(form, low).encode()
+
+
+def least(program, words, text):
+    """The least stack on which a line ends as with ample stack."""
+    wanted = ended(program, words, text, AMPLE)
+    low, high = 0, WHOLE // STEP
+    if ended(program, words, text, WHOLE) != wanted:
+        return None
+    while high - low > 1:
+        middle = (low + high) // 2
+        low, high = (low, middle) if ended(program, words, text, middle * STEP) == wanted else (middle, high)
+    return high * STEP
+
+
+def certified(program, text):
+    out = subprocess.run([program, "synth", "--cert", "--bnd-unroll-amnt", "1"], input=text, capture_output=True).stdout
+    return text + b"//%%\n" + out
+
+
+LINES = [
+    ("a sketch", "synth --bnd-unroll-amnt 1", hole, FORMS),
+    ("its certificate", "synth --cert --bnd-unroll-amnt 1", hole, FORMS),
+    ("the certificate judged", "check --bnd-unroll-amnt 1", hole, FORMS),
+    ("its completions", "all 2 --bnd-unroll-amnt 1", hole, FORMS),
+    ("why", "why --bnd-unroll-amnt 1", hole, FORMS),
+    ("a run of 128 calls", "exec f0 7", calls, FORMS),
+    ("a trace of 128 calls", "trace f0 7", calls, FORMS),
+    ("a search over 128 calls", "synth --bnd-inbits 1", lambda form, levels: calls(form, levels) + "harness void main(int x) { assert f0(x) == x; }\n", FORMS),
+    ("an expansion of 40 copies", "synth --bnd-inbits 1", copies, FORMS),
+    ("a lowering", "lower", switches, ["switches"]),
+]
+
+
+def main():
+    parser = argparse.ArgumentParser()
+    parser.add_argument("program")
+    parser.add_argument("--only", default="")
+    given = parser.parse_args()
+    program, is_enough = os.path.abspath(given.program), True
+    for title, line, make, forms in LINES:
+        if given.only not in title:
+            continue
+        found, words = [], line.split()
+        for form in forms:
+            levels, text = deepest(program, ["synth", *words[1:]] if words[0] == "check" else words, make, form)
+            text = certified(program, text) if words[0] == "check" else text
+            need = least(program, words, text)
+            is_enough = is_enough and need is not None
+            found.append((need or AMPLE, form, levels, ended(program, words, text, AMPLE)[0]))
+            print(f"  {title} | {form} | {levels} levels | status {found[-1][3]} | {need or 'more than 8,192'} KiB", flush=True)
+        need, form, levels, status = max(found)
+        print(f"{title} | {form}, {levels} levels | status {status} | {need} KiB, {WHOLE - need} left", flush=True)
+    return 0 if is_enough else 1
+
+
+if __name__ == "__main__":
+    sys.exit(main())
