@@ -11,10 +11,5 @@ mod payment;
 mod program;
 mod walker;
 
-pub use guard::{Called, Owed, Test};
-pub use met::Met;
-pub use node::all_met;
-pub use order::turns_of;
 pub use payment::Payment;
 pub use program::{orders, payments};
-pub use walker::guards_of;

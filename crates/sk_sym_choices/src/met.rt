@@ -8,7 +8,7 @@ use std::alloc::{AllocError, Global};
 
 /// What calls and pays, in order.
 #[derive(Drop)]
-pub struct Met {
+pub(crate) struct Met {
     pub called: List<Called>,
     pub owed: List<Owed>,
 }

@@ -12,16 +12,17 @@ ghost use Rattle.sk_sym_choices.specs.Sizes.{AreInRange};
 
 use crate::guard::Test;
 use sk_dag::{BoolId, Dag};
+use sk_limits::never;
 use sk_model::{Choice, Site};
 use sk_sym_folds::{and, flag, site_above, site_is};
 use std::alloc::AllocError;
 
-// How many values a site has. One that is not there counts as want of memory.
+// How many values a site has. It is one of an expanded program (`never`).
 pub(crate) fn size_of(sites: &[Site], site: usize) -> Result<u64, AllocError>
     ensures { IfOk result (λ size. (values : List ℕ) → AreInRange sites.now values → value values site < size) }
 {
     if site >= sites.len() {
-        return Err(AllocError);
+        return Err(never());
     }
     Ok(sites[site].size)
 }
@@ -53,13 +54,9 @@ fn is_met(
     }
 }
 
-/// Whether all of these tests of a choice are met, for a choice whose values are below the sizes of their sites.
-///
-/// # Errors
-///
-/// Memory is wanting, or a site that is tested is not one of these. After a refusal the graph has all nodes that it had
-/// (`keeps`).
-pub fn all_met(
+// Whether all of these tests of a choice are met, for a choice whose values are below the sizes of their sites. After a
+// refusal the graph has all nodes that it had (`keeps`).
+pub(crate) fn all_met(
     dag: &mut Dag,
     sites: &[Site],
     tests: &[Test],

@@ -16,6 +16,7 @@ ghost use Rattle.sk_sym_choices.specs.Orders.{values_of, AllThere, AreTurns, IsP
 
 use sk_base::List;
 use sk_dag::{BoolId, Dag};
+use sk_limits::too_many;
 use sk_model::Choice;
 use sk_sym_folds::{bool_mux, flag, site_above, site_is};
 use std::alloc::{AllocError, Global};
@@ -77,15 +78,14 @@ fn put_by(
     Ok(made)
 }
 
-// The place of the digit of the statement after so many others, which are some. More than can be numbered count as want
-// of memory.
+// The place of the digit of the statement after so many others, which are some. It has room in a count (`too_many`).
 pub(crate) fn place_of(first: usize, placed: usize) -> Result<usize, AllocError>
     requires { 0 < placed }
     ensures { IfOk result (λ place. (values : List ℕ) → value values place ≡ digit values first placed) }
 {
     match first.checked_add(placed - 1) {
         Some(place) => Ok(place),
-        None => Err(AllocError),
+        None => Err(too_many()),
     }
 }
 
@@ -129,17 +129,11 @@ pub(crate) fn copies_of(
     Ok(made)
 }
 
-/// For each turn of a `reorder` of `count` statements a node that holds where it is the turn of the statement with
-/// number `k`. The digits of the statements are chosen for the sites from the place `first` on, one less than there are
-/// statements; where a choice is in range, the nodes say what [`arrange`] says. The graph grows with the square of the
-/// number of statements.
-///
-/// # Errors
-///
-/// Memory is wanting, or the place of a site is 2^32 or more. After a refusal the graph has all nodes that it had (`keeps`).
-///
-/// [`arrange`]: sk_model
-pub fn turns_of(
+// For each turn of a `reorder` of `count` statements a node that holds where it is the turn of the statement with number
+// `k`. The digits of the statements are chosen for the sites from the place `first` on, one less than there are statements;
+// where a choice is in range, the nodes say what `arrange` of `sk_model` says. The graph grows with the square of the number
+// of statements. After a refusal the graph has all nodes that it had (`keeps`).
+pub(crate) fn turns_of(
     alloc: Global,
     dag: &mut Dag,
     first: usize,

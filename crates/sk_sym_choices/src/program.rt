@@ -14,6 +14,7 @@ use crate::payer::Payer;
 use crate::payment::Payment;
 use sk_base::List;
 use sk_dag::{BoolId, Dag};
+use sk_limits::never;
 use sk_model::{Choice, Expanded, Site};
 use sk_sym_folds::flag;
 use std::alloc::{AllocError, Global};
@@ -23,7 +24,8 @@ use std::alloc::{AllocError, Global};
 ///
 /// # Errors
 ///
-/// Memory is wanting, or the place of a site is 2^32 or more. After a refusal the graph has all nodes that it had (`keeps`).
+/// Memory is wanting, or the place of a site has no room (`too_many`). After a refusal the graph has all nodes that it had
+/// (`keeps`).
 pub fn payments(
     alloc: Global,
     dag: &mut Dag,
@@ -59,13 +61,13 @@ fn test_size(sites: &[Site], first: usize, placed: usize) -> Result<(), AllocErr
     let place = place_of(first, placed)?;
     let size = size_of(sites, place)?;
     if size.saturating_sub(1) > placed as u64 {
-        return Err(AllocError);
+        return Err(never());
     }
     Ok(())
 }
 
-// Tests that the sites from a place on are those of the digits of so many statements. Others, which no expanded program
-// has there, count as want of memory.
+// Tests that the sites from a place on are those of the digits of so many statements, as an expanded program has them there
+// (`never`).
 fn test_sizes(sites: &[Site], first: usize, count: usize) -> Result<(), AllocError>
     ensures { OnOk result (GiveDigits sites.now first count) }
 {
@@ -81,8 +83,8 @@ fn test_sizes(sites: &[Site], first: usize, count: usize) -> Result<(), AllocErr
 ///
 /// # Errors
 ///
-/// Memory is wanting, the place of a site is 2^32 or more, or the sites there are not those of such a `reorder`. After a
-/// refusal the graph has all nodes that it had (`keeps`).
+/// Memory is wanting, the place of a site has no room (`too_many`), or the sites there are not those of such a `reorder`
+/// (`never`). After a refusal the graph has all nodes that it had (`keeps`).
 pub fn orders(
     alloc: Global,
     dag: &mut Dag,

@@ -487,7 +487,7 @@ impl Walker<'_> {
 
 /// What calls and pays in a body whose first site has the place, which is then that of the first site behind it. After a
 /// refusal the place is given up with the walk that holds it.
-pub fn guards_of(
+pub(crate) fn guards_of(
     alloc: Global,
     sites: &[Site],
     at: &mut usize,
