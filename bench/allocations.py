@@ -5,7 +5,7 @@
 
 PROGRAM is crates/sketch/out/sketch as `rt run` leaves it. It takes memory by `malloc` and `realloc` of the C library, which a shim in C, loaded before
 that library, counts and refuses: the N-th call of the program alone, or it and each later one. With each, a run has to end with status 17, the line
-`no memory` and nothing on standard output, or, where the words are still to be had, with status 24 and `no words`, or with all as it is with ample memory. Each allocation of a run is tried where there are at most TRIES
+`no memory` and nothing on standard output, or, where the words are still to be had, with status 24 and `no words`, or with all as it is with ample memory; the line on standard error may lack, since it takes memory itself. Each allocation of a run is tried where there are at most TRIES
 (4,000 if it is not given); of a longer run the first half of TRIES, and of the others each in equal strides.
 
 It prints a line for each run: its allocations, how many were tried, and in how many runs of both kinds the answer was out of memory (`refused`), that there
@@ -187,10 +187,18 @@ def tried(count, tries):
     return [*range(1, half + 1), *range(half + 1, count + 1, -(-(count - half) // half))]
 
 
+def told_as(ended, ample):
+    """How a run ended, with the line on standard error that lacks where it wrote none."""
+    for whole in (ample, REFUSED, NO_WORDS):
+        if ended == (*whole[:2], b""):
+            return whole
+    return ended
+
+
 def judge(run, ample, number, pool):
     """How many runs with one of these allocations refused end out of memory, without words, and as with ample memory; the others."""
     kinds = [(n, how) for n in number for how in ({}, {"ONWARDS": "1"})]
-    ended = list(pool.map(lambda it: run.ends(REFUSED=str(it[0]), **it[1]), kinds))
+    ended = [told_as(it, ample) for it in pool.map(lambda it: run.ends(REFUSED=str(it[0]), **it[1]), kinds)]
     wrong = [(*kind, it) for kind, it in zip(kinds, ended) if it not in (REFUSED, NO_WORDS, ample)]
     return ended.count(REFUSED), ended.count(NO_WORDS), ended.count(ample), wrong
 

@@ -4,7 +4,7 @@
     worst.py PROGRAM [RUNS] [--only WORD]
 
 PROGRAM is the built `sketch`. Each text has at most a mebibyte, and asks much of one step: of names, patterns, types, copies, sizes, or tags. A run is cut off after
-120 seconds. A line gives the step, the text, how the program ended, the median of RUNS (3) of the processor time of the whole process, as a multiple of that of a mebibyte of
+120 seconds, and has 6 GiB of memory. A line gives the step, the text, how the program ended, the median of RUNS (3) of the processor time of the whole process, as a multiple of that of a mebibyte of
 functions under the same command."""
 import argparse
 import os
@@ -14,7 +14,7 @@ import subprocess
 import sys
 
 MEBIBYTE = 1 << 20
-LIMIT = 120
+LIMIT, ROOM = 120, 6 << 30
 END = "int main() { return 0; }\n"
 
 
@@ -205,7 +205,11 @@ TEXTS = [
 def run(program, words, text):
     """How the program ends, and its processor time."""
     before = resource.getrusage(resource.RUSAGE_CHILDREN)
-    cap = lambda: resource.setrlimit(resource.RLIMIT_CPU, (LIMIT, LIMIT + 1))
+
+    def cap():
+        resource.setrlimit(resource.RLIMIT_CPU, (LIMIT, LIMIT + 1))
+        resource.setrlimit(resource.RLIMIT_AS, (ROOM, ROOM))
+
     asked = subprocess.Popen([program, *words], stdin=subprocess.PIPE, stdout=subprocess.DEVNULL, stderr=subprocess.PIPE, preexec_fn=cap)
     _, said = asked.communicate(text.encode())
     used = resource.getrusage(resource.RUSAGE_CHILDREN)

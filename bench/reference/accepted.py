@@ -15,8 +15,8 @@ import cases
 TOP = pathlib.Path(__file__).resolve().parents[2]
 MOST, LONGEST = 200, 500
 BOUNDS = tuple(cases.OPTIONS)
-# Sketches whose certificates take more than a few hundredths of a second.
-LONG_RUNS = set()
+# A sketch whose certificate takes ten seconds.
+LONG_RUNS = {("bench", "parity_32.sk")}
 
 
 def bounds_of(words):
