@@ -1,0 +1,4 @@
+mod WordLaws
+mod CallLaws
+mod EndLaws
+mod JudgeLaws

@@ -1,0 +1,4 @@
+pub mod Ending
+pub mod Call
+pub mod Judging
+pub mod Clauses

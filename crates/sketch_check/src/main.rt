@@ -1,0 +1,50 @@
+//! The checker of certificates: reads a sketch and its certificate from standard input, and writes to standard output whether the
+//! certificate is right.
+#![tactic(auto)]
+
+use sk_check_app::{Ending, StdSink, StdSource, judge, message, status};
+use std::env;
+use std::io::Write;
+use std::process::ExitCode;
+
+/// The status where the runtime does not give the words.
+const NO_WORDS: u8 = 24;
+/// The first status that a line on standard error tells more of.
+const FIRST_TOLD: u8 = 10;
+
+/// Writes a line to standard error. Where that fails, nothing else is to be done.
+fn say(errors: &mut impl Write, line: &[u8]) {
+    let _ = errors.write_all(line);
+    let _ = errors.write_all(b"\n");
+}
+
+/// Says what an ending has to say. Where there is no memory for the line, nothing is said, and the status stays as it is.
+fn tell(rt: &HostRuntime, ending: &Ending) {
+    if status(ending) < FIRST_TOLD {
+        return;
+    }
+    if let Ok(line) = message(rt.alloc(), ending) {
+        say(&mut rt.stderr(), line.as_bytes());
+    }
+}
+
+fn main(rt: HostRuntime) -> ExitCode {
+    let Ok(words) = words(&rt) else {
+        say(&mut rt.stderr(), b"no words");
+        return ExitCode::from(NO_WORDS);
+    };
+    let mut source = StdSource::new(rt.stdin());
+    let mut sink = StdSink::new(rt.stdout());
+    let ending = judge(rt.alloc(), words.as_slice(), &mut source, &mut sink);
+    tell(&rt, &ending);
+    ExitCode::from(status(&ending))
+}
+
+/// The words behind the program's own name.
+fn words(rt: &HostRuntime) -> std::io::Result<Vec<String>> {
+    let mut words = Vec::new(rt.alloc());
+    for word in env::args(rt)?.skip(1) {
+        words.push(word)?;
+    }
+    Ok(words)
+}
