@@ -1,6 +1,5 @@
 //! What ends as want of memory although memory is at hand: limits that a text can reach, numbers that have no room, and cases
-//! that no call brings about. Each such place names by one of these calls which it is; `AllocError` itself stands only where
-//! a refusal for want of memory is handed on.
+//! that no call brings about. A place that answers by one of these calls says which it is.
 #![tactic(auto)]
 
 ghost use Rattle.std.specs.Prelude.{◌≡◌, ◌<◌, ◌+◌, IfOk, OnErr};
