@@ -1,5 +1,5 @@
 -- Shapes of single values that are given, and arrays made longer.
-use Rattle.std.proofs.Common.{◌≡◌, ℕ, ℤ, ◌-◌, ◌≤◌, Bool, List, [], ◌++◌, map, length, IsTrue, None, refl, sym, ap, subst, ◌∙◌, arith}
+use Rattle.std.proofs.Common.{◌≡◌, ℕ, ℤ, ◌-◌, ◌≤◌, Bool, List, [], ◌++◌, map, length, append-nil, IsTrue, None, refl, sym, ap, subst, ◌∙◌, arith}
 use Rattle.std.specs.Prelude.{replicate}
 use Rattle.std.proofs.lemmas.List.{map-append}
 use Rattle.std.proofs.lemmas.List.Elements.{All-nil, All-append}
@@ -15,11 +15,11 @@ use Rattle.sk_dag.specs.Eval.{bool_value, word_value, Keeps}
 use Rattle.sk_dag.specs.EvalShape.{shape_value, held_slot}
 use Rattle.sk_simplify.proofs.RuleLemmas.{zero_word}
 use Rattle.sk_arr.specs.Held.{held_in, AllIn, AllPass}
-use Rattle.sk_arr.specs.Shapes.{Stands, SlotsPass}
+use Rattle.sk_arr.specs.Shapes.{Stands, AllStand, SlotsPass, AllSlotsPass}
 use Rattle.sk_arr.specs.Answers.{shapes_value, IsPadded}
 use Rattle.sk_arr.proofs.Makers.{Keeps-refl}
 use Rattle.sk_arr.proofs.Targets.{none_in}
-use Rattle.sk_arr.proofs.Standing.{bit_stands, int_stands, reference_stands, array_stands}
+use Rattle.sk_arr.proofs.Standing.{bit_stands, int_stands, reference_stands, array_stands, AllStand-keeps}
 use Rattle.sk_arr.proofs.Values.{value_bit, value_int, value_reference, value_array, bit_passes, int_passes, reference_passes, array_passes, length_map}
 use Rattle.sk_prog.specs.declared.value.Value.{Value}
 use Rattle.sk_prog.specs.declared.value.Value.TheVariants as value
@@ -60,7 +60,34 @@ pub ruleset single = (Keeps-refl, zero_word)
 
 -- ---- longer arrays
 
-pub longer : {g : Graph} {list made : List Shape} {zero : Shape} {count : ℕ} → IsPadded g list zero count made → IsLengthened g list zero count (shape.Array made)
+-- the list, and then a shape as often as is wanting to so many
+pub record IsLonger (g : Graph) (list : List Shape) (zero : Shape) (count : ℕ) (made : List Shape) : Type 0 where
+  pub stand : AllStand g made
+  pub named : (test : ℕ → Bool) → AllSlotsPass test list → SlotsPass test zero → AllSlotsPass test made
+  pub value : (h : Graph) (e : Env) → shapes_value h e made ≡ shapes_value h e list ++ replicate (count - length list) (shape_value h e zero)
+
+-- a list that is long enough stays
+pub long_enough : {g : Graph} {list : List Shape} (zero : Shape) {count : ℕ} → count ≤ length list → AllStand g list → IsLonger g list zero count list
+long_enough {g} {list} zero {count} long all = record {
+  stand = all;
+  named = λ test p q. p;
+  value = λ h e.
+      let none : 0 ≡ count - length list = omega (arith, long) in
+      sym (append-nil (shapes_value h e list)) ∙ ap (λ n. shapes_value h e list ++ replicate n (shape_value h e zero)) none;
+}
+
+-- a list with zeros behind it
+pub zeros_behind : {d g : Graph} {list zeros : List Shape} {zero : Shape} {n count : ℕ} → AllStand d list → Keeps d g → n ≡ count - length list → IsPadded g [] zero n zeros → IsLonger g list zero count (list ++ zeros)
+zeros_behind {d} {g} {list} {zeros} {zero} {n} {count} all keeps wanting is = record {
+  stand = record { each = All-append (Stands g) list zeros (AllStand-keeps keeps all).each is.stand.each };
+  named = λ test p q. record { each = All-append (SlotsPass test) list zeros p.each (is.named test (record { each = All-nil (SlotsPass test) }) q).each };
+  value = λ h e.
+      let some : n - 0 ≡ count - length list = omega (arith, wanting) in
+      map-append (shape_value h e) list zeros
+      ∙ ap (λ l. shapes_value h e list ++ l) (is.value h e ∙ ap (λ k. replicate k (shape_value h e zero)) some);
+}
+
+pub longer : {g : Graph} {list made : List Shape} {zero : Shape} {count : ℕ} → IsLonger g list zero count made → IsLengthened g list zero count (shape.Array made)
 longer {g} {list} {made} {zero} {count} is = record {
   stands = array_stands g made is.stand;
   named = λ test p q. array_passes test made (is.named test p q);

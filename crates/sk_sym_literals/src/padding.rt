@@ -4,6 +4,7 @@ ghost use Rattle.std.specs.Prelude.{◌≡◌, ◌∷◌, [], IfOk, if◌then◌
 ghost use Rattle.sk_dag.specs.declared.shape.Shape.TheVariants as shape;
 ghost use Rattle.sk_dag.specs.Eval.{Keeps};
 ghost use Rattle.sk_arr.specs.Shapes.{Stands, AllStand};
+ghost use Rattle.sk_arr.specs.Answers.{IsPadded};
 ghost use Rattle.sk_model.specs.Values.{zero_of as zero_of_type, padded as padded_of};
 ghost use Rattle.sk_model.specs.Eval.{padded_at as padded_at_of};
 ghost use Rattle.sk_prog.specs.declared.ty.Ty.TheVariants as ty;
@@ -15,7 +16,6 @@ use sk_arr::pad;
 use sk_base::List;
 use sk_dag::{Dag, Shape};
 use sk_prog::{Elem, Ty};
-use sk_sym_operators::like_all;
 use std::alloc::{AllocError, Global};
 
 /// Whether a shape is an array.
@@ -75,27 +75,42 @@ fn rows_of(alloc: Global, s: Shape) -> Result<List<Shape>, AllocError>
     }
 }
 
-/// An array of these and of as many zeros as are wanting to so many. That there are more of them, or that they are of
-/// other forms than the zero, counts as want of memory.
+/// So many zeros.
+fn zeros_of(
+    alloc: Global,
+    dag: &mut Dag,
+    zero: &Shape,
+    count: u32,
+) -> Result<List<Shape>, AllocError>
+    requires { Stands dag.old zero.now }
+    ensures keeps { Keeps dag.old dag.new }
+    ensures zeros { IfOk result (λ made. IsPadded dag.new [] zero.now count made) }
+{
+    let none = List::new(alloc);
+    let made = pad(alloc, dag, &none, zero, count)?;
+    Ok(made)
+}
+
+/// An array of these and of as many zeros as are wanting to so many.
 fn lengthened(
     alloc: Global,
     dag: &mut Dag,
     count: u32,
     zero: &Shape,
-    list: &List<Shape>,
+    list: List<Shape>,
 ) -> Result<Shape, AllocError>
     requires zero { Stands dag.old zero.now }
-    requires list { AllStand dag.old list.now }
+    requires list { AllStand dag.old list }
     ensures keeps { Keeps dag.old dag.new }
-    ensures made { IfOk result (λ r. IsLengthened dag.new list.now zero.now count r) }
+    ensures made { IfOk result (λ r. IsLengthened dag.new list zero.now count r) }
 {
-    if list.len() > count as usize {
-        return Err(AllocError);
+    if list.len() >= count as usize {
+        return Ok(Shape::Array(list));
     }
-    if !like_all(zero, list.as_slice()) {
-        return Err(AllocError);
-    }
-    let made = pad(alloc, dag, list, zero, count)?;
+    let wanting = count - list.len() as u32;
+    let mut made = list;
+    let zeros = zeros_of(alloc, dag, zero, wanting)?;
+    made.append(zeros)?;
     Ok(Shape::Array(made))
 }
 
@@ -111,7 +126,7 @@ pub(crate) fn zero_row(
 {
     let zero = zero_of_elem(alloc, dag, elem)?;
     let none = List::new(alloc);
-    let r = lengthened(alloc, dag, count, &zero, &none)?;
+    let r = lengthened(alloc, dag, count, &zero, none)?;
     Ok(r)
 }
 
@@ -128,7 +143,7 @@ pub(crate) fn zero_grid(
 {
     let zero = zero_row(alloc, dag, elem, count)?;
     let none = List::new(alloc);
-    let r = lengthened(alloc, dag, rows, &zero, &none)?;
+    let r = lengthened(alloc, dag, rows, &zero, none)?;
     Ok(r)
 }
 
@@ -146,7 +161,7 @@ pub(crate) fn padded_row(
 {
     let zero = zero_of_elem(alloc, dag, elem)?;
     let list = row_of(alloc, a)?;
-    let r = lengthened(alloc, dag, count, &zero, &list)?;
+    let r = lengthened(alloc, dag, count, &zero, list)?;
     Ok(r)
 }
 
@@ -165,7 +180,7 @@ pub(crate) fn padded_grid(
 {
     let zero = zero_row(alloc, dag, elem, count)?;
     let list = rows_of(alloc, a)?;
-    let r = lengthened(alloc, dag, rows, &zero, &list)?;
+    let r = lengthened(alloc, dag, rows, &zero, list)?;
     Ok(r)
 }
 
@@ -188,12 +203,11 @@ fn padded_to(alloc: Global, dag: &mut Dag, ty: Ty, a: Shape) -> Result<Shape, Al
     }
 }
 
-/// A value as one of a longer type.
+/// A value as one of a longer type. One that is longer than the type stays.
 ///
 /// # Errors
 ///
-/// Memory is wanting, or the value is longer than the type, or of other forms than its zero. After a refusal the graph has all
-/// nodes that it had (`keeps`).
+/// Memory is wanting. After a refusal the graph has all nodes that it had (`keeps`).
 pub fn padded_at(
     alloc: Global,
     dag: &mut Dag,

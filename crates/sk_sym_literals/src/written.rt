@@ -14,6 +14,7 @@ use crate::given::{int, number_at, zero_of_elem};
 use crate::padding::{padded_grid, padded_row, zero_grid, zero_row};
 use sk_base::wrap;
 use sk_dag::{Dag, Shape};
+use sk_limits::never;
 use sk_prog::{ConstDef, Elem, Ty};
 use std::alloc::{AllocError, Global};
 
@@ -79,8 +80,7 @@ fn literal_grid(
 ///
 /// # Errors
 ///
-/// Memory is wanting, or the type is of arrays without elements. After a refusal the graph has all nodes that it had
-/// (`keeps`).
+/// Memory is wanting. After a refusal the graph has all nodes that it had (`keeps`).
 pub fn literal(alloc: Global, dag: &mut Dag, ty: Option<Ty>, n: u32) -> Result<Shape, AllocError>
     ensures keeps { Keeps dag.old dag.new }
     ensures given { IfOk result (λ r. IsGiven dag.new (literal_of dag.old.bits ty n) r) }
@@ -105,7 +105,7 @@ pub fn literal(alloc: Global, dag: &mut Dag, ty: Option<Ty>, n: u32) -> Result<S
     }
 }
 
-/// A number, where it is in range of the width. Any other counts as want of memory.
+/// A number, where it is in range of the width, as that of each constant of a typed program is.
 fn in_range(bits: u32, z: i64) -> Result<i64, AllocError>
     requires bits_low { 2 ≤ bits }
     requires bits_high { bits ≤ 32 }
@@ -114,12 +114,12 @@ fn in_range(bits: u32, z: i64) -> Result<i64, AllocError>
 {
     let n = wrap(bits, z);
     if n != z {
-        return Err(AllocError);
+        return Err(never());
     }
     Ok(n)
 }
 
-/// A number as a word, where it is one of the width. Any other counts as want of memory.
+/// A number as a word, where it is one of the width.
 #[tactic(auto, using(sk_sym_folds::proofs::Makers::arithmetic))]
 fn whole(dag: &mut Dag, z: i64) -> Result<Shape, AllocError>
     ensures keeps { Keeps dag.old dag.new }
@@ -135,8 +135,8 @@ fn whole(dag: &mut Dag, z: i64) -> Result<Shape, AllocError>
 ///
 /// # Errors
 ///
-/// Memory is wanting, or the number is out of range of the width. After a refusal the graph has all nodes that it had
-/// (`keeps`).
+/// Memory is wanting, or the number is out of range of the width, as that of no constant of a typed program is. After a refusal
+/// the graph has all nodes that it had (`keeps`).
 pub fn const_value(dag: &mut Dag, found: Option<&ConstDef>) -> Result<Shape, AllocError>
     ensures keeps { Keeps dag.old dag.new }
     ensures given { IfOk result (λ r. IsGiven dag.new (const_value_of (option_copied found.entry)) r) }
