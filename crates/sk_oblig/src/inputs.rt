@@ -56,8 +56,7 @@ fn number_of(place: usize) -> Result<u32, AllocError>
     }
 }
 
-// The first input that the bits of a query say which speaks against the choice. Where none does, which is never where the
-// bits say what the query asks for, that counts as want of memory.
+// The first input that the bits of a query say which speaks against the choice, if one does.
 fn first_bad(
     alloc: Global,
     expanded: &Expanded,
@@ -67,12 +66,12 @@ fn first_bad(
     bits: &[bool],
     choice: &Choice,
     limit: Option<u64>,
-) -> Result<Input, AllocError>
+) -> Result<Option<Input>, AllocError>
     requires askable { IsAskable expanded.now bounds.now }
     requires range { InRange expanded.now choice.now }
     requires query { query.now ≡ query_form.Bad choice.now limit }
     requires listed { listed.now ≡ obligations expanded.now.prog }
-    ensures { IfOk result (λ input. IsBad expanded.now bounds.now choice.now limit input) }
+    ensures { IfOk result (λ found. IfSome found (λ input. IsBad expanded.now bounds.now choice.now limit input)) }
 {
     for place in 0..listed.len() {
         let number = number_of(place)?;
@@ -81,10 +80,56 @@ fn first_bad(
             alloc, expanded, bounds, query, number, obligation, bits, choice, limit,
         )?;
         if let Some(input) = found {
-            return Ok(input);
+            return Ok(Some(input));
         }
     }
-    Err(AllocError)
+    Ok(None)
+}
+
+/// The first input that the bits of a `Bad` query say which speaks against its choice, if one does; none of another query.
+///
+/// # Errors
+///
+/// Memory is wanting, or what `execute` counts as that.
+pub fn bad_said(
+    alloc: Global,
+    expanded: &Expanded,
+    bounds: &Bounds,
+    query: &Query,
+    bits: &[bool],
+) -> Result<Option<Input>, AllocError>
+    requires askable { IsAskable expanded.now bounds.now }
+    requires asked { IsAsked expanded.now query.now }
+    ensures { IfOk result (λ found. IfSome found (λ input. IsAnswer expanded.now bounds.now query.now input)) }
+{
+    match query {
+        Query::Bad { choice, limit } => {
+            let all = obligations(alloc, &expanded.prog)?;
+            let found = first_bad(
+                alloc,
+                expanded,
+                bounds,
+                query,
+                all.as_slice(),
+                bits,
+                choice,
+                *limit,
+            )?;
+            Ok(found)
+        }
+        Query::BadAt { .. } => Ok(None),
+        Query::Wanted { .. } => Ok(None),
+    }
+}
+
+// An input that is there. None, which is never where the bits say what the query asks for, counts as want of memory.
+fn given(input: Option<Input>) -> Result<Input, AllocError>
+    ensures { IfOk result (λ there. input ≡ Some there) }
+{
+    match input {
+        Some(there) => Ok(there),
+        None => Err(AllocError),
+    }
 }
 
 /// The input that values of all variables say by the names of a formula for a query that asks for one: where they meet the
@@ -110,18 +155,9 @@ pub fn input_of(
 {
     let bits = bits_of_names(alloc, encoded, found)?;
     match query {
-        Query::Bad { choice, limit } => {
-            let all = obligations(alloc, &expanded.prog)?;
-            let input = first_bad(
-                alloc,
-                expanded,
-                bounds,
-                query,
-                all.as_slice(),
-                bits.as_slice(),
-                choice,
-                *limit,
-            )?;
+        Query::Bad { .. } => {
+            let said = bad_said(alloc, expanded, bounds, query, bits.as_slice())?;
+            let input = given(said)?;
             Ok(input)
         }
         Query::BadAt { obligation, .. } => {

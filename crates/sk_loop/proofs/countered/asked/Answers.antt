@@ -1,7 +1,7 @@
 use Rattle.std.proofs.Common.{subst}
 use Rattle.sk_loop.specs.Answered.{IsAnswered}
 use Rattle.sk_loop.proofs.Countering.{completes_then, spent_on}
-use Rattle.sk_loop.proofs.countered.counter.Goals as goal
+use Rattle.sk_loop.proofs.countered.asked.Goals as goal
 
 pub returns-in-Never : goal.returns-in-Never
 returns-in-Never c =
