@@ -1,6 +1,6 @@
 use Rattle.std.proofs.Common.{arith, refl}
 use Rattle.sk_sym_operators.proofs.BitRows.{bits_more, bits_all}
-use Rattle.sk_sym_operators.proofs.rows.are_bits.Goals as goal
+use Rattle.sk_sym_operators.proofs.fitting.are_bits.Goals as goal
 
 pub loop-s-preserved : goal.loop-s-preserved
 loop-s-preserved c = record {
