@@ -17,7 +17,7 @@ use Rattle.sk_explain_places.specs.Lines.{is_feed, IsPlace, IsLineOf}
 use Rattle.sk_explain_places.specs.Spots.{pad, marks, line_text, mark_text, excerpt_text, place_text, longest_shown}
 use Rattle.sk_explain_notes.specs.Notes.{is_note}
 use Rattle.sk_explain.specs.declared.explanation.Explanation.{Explanation}
-use Rattle.sk_explain.specs.Explained.{span_of, IsShown, IsSpot, IsExplanation, head_text, shown_text, title_text, layout, IsExplained}
+use Rattle.sk_explain.specs.Explained.{span_of, IsShown, IsSpot, IsExplanation, visible, head_text, shown_text, title_text, layout, IsExplained}
 
 -- one byte in front
 pub cons_ascii : (b : ℕ) (bs : List ℕ) → b < 128 → IsAscii bs → IsAscii (b ∷ bs)
@@ -77,6 +77,10 @@ excerpt_ascii spot ascii =
     (IsAscii-append (line_text spot.line) (mark_text spot) (line_text_ascii spot.line ascii) (mark_text_ascii spot ascii))
     IsAscii-nil
 
+-- what is shown of it
+pub visible_ascii : (b : ℕ) → b < 128 → visible b < 128
+visible_ascii b h = grind (arith, nat_tests)
+
 -- The place of a byte of a text that has so few bytes
 
 pub place_ascii : (text : List ℕ) (byte : ℕ) (place : Place) → length text < 2 ^ 63 → byte ≤ length text → IsPlace text byte place → IsAscii (place_text place)
@@ -105,7 +109,7 @@ spot_ascii text None spot small ascii is = subst SpotIsAscii (sym is) no_spot
 spot_ascii text (Some span) None small ascii is = no_spot
 spot_ascii text (Some span) (Some spot) small ascii is = record {
   head = head_ascii text span spot small is;
-  shown = excerpt_ascii spot (line_ascii text span.from spot.line is.1.line ascii);
+  shown = IsAscii-map visible (excerpt_text spot) visible_ascii (excerpt_ascii spot (line_ascii text span.from spot.line is.1.line ascii));
 }
 
 pub title_ascii : (spot : Option Spot) (title : List ℕ) → IsAscii (head_text spot) → IsAscii title → IsAscii (title_text spot title)

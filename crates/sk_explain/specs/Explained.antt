@@ -1,5 +1,5 @@
 -- What there is to tell of an ending, and how it is written.
-use Rattle.std.specs.Prelude.{ℕ, ◌≡◌, ◌≤◌, ◌<◌, ◌==◌, List, [], ◌∷◌, ◌++◌, length, Option, None, Some, if◌then◌else◌, codes, true}
+use Rattle.std.specs.Prelude.{ℕ, ◌≡◌, ◌≤◌, ◌<◌, ◌==◌, ◌||◌, nat_lt, List, [], ◌∷◌, ◌++◌, length, map, Option, None, Some, if◌then◌else◌, codes, true}
 use Rattle.std.specs.List.{list_all}
 use Rattle.std.specs.Str.{IsAscii}
 use Rattle.sk_base.specs.declared.span.Span.{Span}
@@ -102,10 +102,14 @@ abbrev pub head_text : Option Spot → List ℕ
 head_text None = []
 head_text (Some spot) = place_text spot.place ++ codes ": "
 
+-- a byte as it is shown: a question mark for one that would control a terminal, but for tabs and line feeds
+abbrev pub visible : ℕ → ℕ
+visible b = if (b == 9) || (b == 10) then b else if nat_lt b 32 || (b == 127) then 63 else b
+
 -- the line of the place, with its mark
 abbrev pub shown_text : Option Spot → List ℕ
 shown_text None = []
-shown_text (Some spot) = excerpt_text spot
+shown_text (Some spot) = map visible (excerpt_text spot)
 
 -- the title as a line, behind its place; nothing where there is none
 abbrev pub title_text : Option Spot → List ℕ → List ℕ

@@ -1,6 +1,7 @@
 //! What there is to tell people of an ending.
-ghost use Rattle.std.specs.Prelude.{◌≡◌, ◌++◌, IfOk, OnOk};
-ghost use Rattle.sk_explain.specs.Explained.{point, lex_span, parse_span, adt_span, some_span, span_of, IsShown, IsSpot, IsExplanation, head_text, shown_text, title_text, layout, IsExplained};
+ghost use Rattle.std.specs.Prelude.{◌≡◌, ◌++◌, map, IfOk, OnOk};
+ghost use Rattle.sk_explain_places.specs.Spots.{excerpt_text};
+ghost use Rattle.sk_explain.specs.Explained.{point, lex_span, parse_span, adt_span, some_span, span_of, IsShown, IsSpot, IsExplanation, visible, head_text, shown_text, title_text, layout, IsExplained};
 
 use crate::certificates::{tell_not_certificate, tell_rejected};
 use sk_adt::AdtFault;
@@ -296,14 +297,47 @@ fn push_head(out: &mut Vec<u8>, spot: &Option<Spot>) -> Result<(), AllocError>
     }
 }
 
+// A byte as it is shown: a question mark for one that would control a terminal, but for tabs and line feeds.
+fn visible(byte: u8) -> u8
+    ensures { result ≡ visible byte }
+{
+    if byte == b'\t' || byte == b'\n' {
+        byte
+    } else if byte < 32 || byte == 127 {
+        b'?'
+    } else {
+        byte
+    }
+}
+
+// Appends bytes as they are shown.
+fn push_visible(out: &mut Vec<u8>, bytes: &[u8]) -> Result<(), AllocError>
+    ensures { OnOk result (out.new.items ≡ out.old.items ++ map visible bytes.now) }
+{
+    for byte in bytes {
+        out.push(visible(*byte))?;
+    }
+    Ok(())
+}
+
+// The line of the place, with its mark.
+fn excerpt(alloc: Global, spot: &Spot) -> Result<Vec<u8>, AllocError>
+    ensures { IfOk result (λ out. out.items ≡ excerpt_text spot.now) }
+{
+    let mut out = Vec::new(alloc);
+    push_excerpt(&mut out, spot)?;
+    Ok(out)
+}
+
 // Appends the line of the place.
-fn push_shown(out: &mut Vec<u8>, spot: &Option<Spot>) -> Result<(), AllocError>
+fn push_shown(alloc: Global, out: &mut Vec<u8>, spot: &Option<Spot>) -> Result<(), AllocError>
     ensures { OnOk result (out.new.items ≡ out.old.items ++ shown_text spot.now) }
 {
     match spot {
         None => Ok(()),
         Some(spot) => {
-            push_excerpt(out, spot)?;
+            let excerpt = excerpt(alloc, spot)?;
+            push_visible(out, excerpt.as_slice())?;
             Ok(())
         }
     }
@@ -315,7 +349,7 @@ pub fn written(alloc: Global, explanation: &Explanation) -> Result<Name, AllocEr
 {
     let mut out = Vec::new(alloc);
     push_title(&mut out, &explanation.spot, explanation.title.as_bytes())?;
-    push_shown(&mut out, &explanation.spot)?;
+    push_shown(alloc, &mut out, &explanation.spot)?;
     out.extend_from_slice(explanation.notes.as_bytes())?;
     Ok(Name::from_vec(out))
 }

@@ -6,6 +6,7 @@ ghost use Rattle.sk_explain_causes.specs.Titles.{none_title, none_notes, spent_t
 use crate::phrases::{push_note, tell_two};
 use crate::pieces::{has_key, is_key, some_tokens};
 use crate::results::push_unreturned;
+use sk_explain_names::push_dropped;
 use sk_explain_notes::{CHOICES, Choice, Range, Told, nearest};
 use sk_explain_places::place_of;
 use sk_tree::{Key, Kind, Token};
@@ -175,7 +176,8 @@ pub fn push_passed_over(alloc: Global, told: &mut Told, text: &[u8]) -> Result<(
     push_unreturned(alloc, told, tokens.as_slice())
 }
 
-/// Warns of a text that a search ended on: that nothing was asked, and what it passes over. After a refusal title and notes
+/// Warns of a text that a search ended on: that nothing was asked, what it passes over, and which patterns drop
+/// strings. After a refusal title and notes
 /// are given up: nothing is told.
 pub fn push_warnings(alloc: Global, told: &mut Told, text: &[u8]) -> Result<(), AllocError>
     ensures { told.new.title ≡ told.old.title }
@@ -185,7 +187,8 @@ pub fn push_warnings(alloc: Global, told: &mut Told, text: &[u8]) -> Result<(), 
     if !has_key(tokens, Key::Harness) && !has_key(tokens, Key::Implements) {
         told.note(&[b"warning: nothing is asked: the text has no harness and no implements"])?;
     }
-    push_passed_over(alloc, told, text)
+    push_passed_over(alloc, told, text)?;
+    push_dropped(alloc, told, text, tokens)
 }
 
 /// Tells that no completion meets what is asked. After a refusal title and notes are given up: nothing is told.

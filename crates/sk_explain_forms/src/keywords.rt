@@ -1,0 +1,91 @@
+//! Words that are nearly a keyword.
+ghost use Rattle.std.specs.Prelude.{◌≡◌};
+
+use crate::context::front_of_call;
+use crate::cut::Cut;
+use crate::seen::{Seen, is_word, spelling};
+use sk_explain_notes::{Told, nearest};
+use sk_explain_places::place_of;
+use sk_tree::Token;
+use std::alloc::{AllocError, Global};
+
+// The keywords that a statement or an item begins with, or that stand in a heading.
+static KEYWORDS: [&[u8]; 20] = [
+    b"assert",
+    b"assume",
+    b"bit",
+    b"else",
+    b"for",
+    b"generator",
+    b"harness",
+    b"if",
+    b"implements",
+    b"int",
+    b"minimize",
+    b"minrepeat",
+    b"pragma",
+    b"reorder",
+    b"repeat",
+    b"return",
+    b"struct",
+    b"switch",
+    b"void",
+    b"while",
+];
+
+// Whether a statement or an item may begin behind these tokens.
+fn may_begin(text: &[u8], tokens: &[Token]) -> bool {
+    match tokens.last() {
+        Some(last) => Seen::Start.fits(text, last),
+        None => true,
+    }
+}
+
+// The last of some tokens, where it is a word and a statement or an item begins with it.
+fn first_word<'a>(text: &[u8], tokens: &'a [Token]) -> Option<&'a Token> {
+    match tokens {
+        [before @ .., word] if is_word(word) && may_begin(text, before) => Some(word),
+        _ => None,
+    }
+}
+
+// The word that a statement or an item begins with, where a place stands behind it, behind one word more or behind its
+// parentheses.
+fn head(cut: Cut<'_>) -> Option<&Token> {
+    if let Some(word) = first_word(cut.text, front_of_call(cut)) {
+        return Some(word);
+    }
+    if let Some(word) = first_word(cut.text, cut.before) {
+        return Some(word);
+    }
+    match cut.last() {
+        Some(token) if is_word(token) => first_word(cut.text, cut.earlier().before),
+        _ => None,
+    }
+}
+
+/// The keyword that a word is nearly, of those that a statement or an item begins with or that stand in a heading.
+pub fn near_keyword(alloc: Global, word: &[u8]) -> Result<Option<&'static [u8]>, AllocError> {
+    nearest(alloc, word, &KEYWORDS)
+}
+
+/// Tells which keyword the word is nearly with which the statement or item of a place begins; answers whether it is nearly
+/// one. After a refusal title and notes are given up: nothing is told.
+pub fn push_near_keyword(alloc: Global, told: &mut Told, cut: Cut<'_>) -> Result<bool, AllocError>
+    ensures { told.new.title ≡ told.old.title }
+{
+    let Some(token) = head(cut) else {
+        return Ok(false);
+    };
+    let (word, from) = (spelling(cut.text, token), token.span.from as usize);
+    let Some(near) = near_keyword(alloc, word)? else {
+        return Ok(false);
+    };
+    told.notes.say(&[b"'", word, b"'"])?;
+    if from <= cut.text.len() {
+        told.notes.say(&[b" at "])?;
+        told.notes.place(place_of(cut.text, from))?;
+    }
+    told.note(&[b" is no keyword; is ", near, b" meant?"])?;
+    Ok(true)
+}

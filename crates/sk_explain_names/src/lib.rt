@@ -1,0 +1,17 @@
+//! Where the names stand that break a rule at the top, as fields, parameters or results.
+#![tactic(auto)]
+
+mod blocks;
+mod constants;
+mod declared;
+mod dropped;
+mod implements;
+mod pieces;
+mod signatures;
+mod tell;
+mod twice;
+mod types;
+
+pub use constants::push_not_constant;
+pub use dropped::push_dropped;
+pub use tell::{tell_nowhere, tell_twice_at};
