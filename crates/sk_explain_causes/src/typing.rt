@@ -7,7 +7,9 @@ use crate::operands::push_operands;
 use crate::pieces::{bytes_of, is_mark, is_word, some_tokens};
 use sk_base::Span;
 use sk_explain_forms::push_left_out_string;
-use sk_explain_names::{push_not_constant, tell_nowhere, tell_twice_at};
+use sk_explain_names::{
+    push_not_constant, push_not_length, tell_nowhere, tell_twice_at, tell_type_at,
+};
 use sk_explain_notes::{Told, near_by};
 use sk_explain_types::tell_finding;
 use sk_tree::{Mark, Token};
@@ -111,6 +113,23 @@ fn nearest_word<'a>(
     Ok(found)
 }
 
+// Tells of a name that is not there, at a span that is no word.
+fn tell_unknown(
+    alloc: Global,
+    told: &mut Told,
+    text: &[u8],
+    tokens: &[Token],
+    span: Span,
+) -> Result<(), AllocError> {
+    if tell_finding(alloc, told, text, tokens, span)? {
+        return Ok(());
+    }
+    if tell_type_at(alloc, told, text, tokens, span)? {
+        return Ok(());
+    }
+    told.title(&[rule_title(Rule::UnknownName)])
+}
+
 fn tell_unknown_name(
     alloc: Global,
     told: &mut Told,
@@ -119,13 +138,11 @@ fn tell_unknown_name(
     span: Span,
 ) -> Result<(), AllocError> {
     if !is_lone_word(tokens, span) {
-        if tell_finding(alloc, told, text, tokens, span)? {
-            return Ok(());
-        }
-        return told.title(&[rule_title(Rule::UnknownName)]);
+        return tell_unknown(alloc, told, text, tokens, span);
     }
     let word = bytes_of(text, span);
     told.title(&[b"unknown name '", word, b"'"])?;
+    push_not_length(alloc, told, text, tokens, span)?;
     match nearest_word(alloc, text, tokens, word)? {
         Some(near) => told.title(&[b"; is '", near, b"' meant?"]),
         None => Ok(()),

@@ -142,19 +142,26 @@ fn is_cast(cut: Cut<'_>) -> bool {
     }
 }
 
-// A slice in front of `=`.
-fn is_slice_target(cut: Cut<'_>) -> bool {
-    if !cut.begins(b"::") {
-        return false;
-    }
-    let mut behind = false;
-    for token in cut.from {
-        if behind {
-            return is_any(cut.text, token, &[b"=", b"+=", b"-=", b"++", b"--"]);
+// Whether `::` is one of some tokens.
+fn has_slice(text: &[u8], tokens: &[Token]) -> bool {
+    for token in tokens {
+        if is_spelt(text, token, b"::") {
+            return true;
         }
-        behind = is_spelt(cut.text, token, b"]");
     }
     false
+}
+
+// A slice in front of an assignment or a step.
+fn is_slice_target(cut: Cut<'_>) -> bool {
+    let is_assigned = match cut.here() {
+        Some(token) => is_any(cut.text, token, &[b"=", b"+=", b"-=", b"++", b"--"]),
+        None => false,
+    };
+    match at_open(cut.text, cut.earlier().before) {
+        Some((_, inside)) => is_assigned && cut.ends(b"]") && has_slice(cut.text, inside),
+        None => false,
+    }
 }
 
 // A keyword behind a type, a name or parameters, in front of which it stands.
@@ -261,12 +268,12 @@ fn item_form(cut: Cut<'_>) -> Option<LeftOut> {
     } else if is_listed_in_for(cut) {
         Some(LeftOut::PartOfFor)
     } else {
-        text_form(cut)
+        quoted_form(cut)
     }
 }
 
 // A text in quotes where none stands.
-fn text_form(cut: Cut<'_>) -> Option<LeftOut> {
+fn quoted_form(cut: Cut<'_>) -> Option<LeftOut> {
     match cut.here() {
         Some(token) if is_quoted(token) => Some(LeftOut::Quoted),
         _ => None,

@@ -50,7 +50,7 @@ fn first_word<'a>(text: &[u8], tokens: &'a [Token]) -> Option<&'a Token> {
 }
 
 // The word that a statement or an item begins with, where a place stands behind it, behind one word more or behind its
-// parentheses.
+// parentheses; or the word at the place behind parentheses.
 fn head(cut: Cut<'_>) -> Option<&Token> {
     if let Some(word) = first_word(cut.text, front_of_call(cut)) {
         return Some(word);
@@ -60,6 +60,14 @@ fn head(cut: Cut<'_>) -> Option<&Token> {
     }
     match cut.last() {
         Some(token) if is_word(token) => first_word(cut.text, cut.earlier().before),
+        _ => behind_parameters(cut),
+    }
+}
+
+// The word at a place that stands behind parentheses.
+fn behind_parameters(cut: Cut<'_>) -> Option<&Token> {
+    match cut.here() {
+        Some(token) if is_word(token) && cut.ends(b")") => Some(token),
         _ => None,
     }
 }
@@ -69,8 +77,8 @@ pub fn near_keyword(alloc: Global, word: &[u8]) -> Result<Option<&'static [u8]>,
     nearest(alloc, word, &KEYWORDS)
 }
 
-/// Tells which keyword the word is nearly with which the statement or item of a place begins; answers whether it is nearly
-/// one. After a refusal title and notes are given up: nothing is told.
+/// Tells which keyword the word is nearly with which the statement or item of a place begins, or which stands there behind
+/// parentheses; answers whether it is nearly one. After a refusal title and notes are given up: nothing is told.
 pub fn push_near_keyword(alloc: Global, told: &mut Told, cut: Cut<'_>) -> Result<bool, AllocError>
     ensures { told.new.title ≡ told.old.title }
 {

@@ -17,9 +17,9 @@ fn form_at(cut: Cut<'_>) -> Option<LeftOut> {
     if let Some(form) = number_form(cut) {
         return Some(form);
     }
-    match form_in_context(cut) {
+    match form_in_table(cut) {
         Some(form) => Some(form),
-        None => form_in_table(cut),
+        None => form_in_context(cut),
     }
 }
 

@@ -11,7 +11,7 @@ struct Row {
     form: LeftOut,
 }
 
-static ROWS: [Row; 37] = [
+static ROWS: [Row; 39] = [
     Row {
         before: &[Seen::Start, Seen::Spelt(b"break")],
         from: &[Seen::Spelt(b";")],
@@ -99,6 +99,11 @@ static ROWS: [Row; 37] = [
     },
     Row {
         before: &[],
+        from: &[Seen::Spelt(b"-"), Seen::Spelt(b">"), Seen::Word],
+        form: LeftOut::Arrow,
+    },
+    Row {
+        before: &[],
         from: &[Seen::Updating, Seen::Spelt(b"=")],
         form: LeftOut::Update,
     },
@@ -171,6 +176,11 @@ static ROWS: [Row; 37] = [
         before: &[Seen::Spelt(b"union"), Seen::Word],
         from: &[Seen::Spelt(b"{")],
         form: LeftOut::OtherItem,
+    },
+    Row {
+        before: &[Seen::Spelt(b"for"), Seen::Spelt(b"(")],
+        from: &[Seen::TypeKey],
+        form: LeftOut::PartOfFor,
     },
     Row {
         before: &[Seen::Spelt(b"for"), Seen::Spelt(b"(")],

@@ -4,13 +4,14 @@ ghost use Rattle.std.specs.Prelude.{◌≡◌};
 use crate::blocks::TOP;
 use crate::declared::{Declared, declarations};
 use crate::pieces::{bytes_of, is_word};
+use crate::types::is_length;
 use sk_base::Span;
 use sk_explain_notes::Told;
 use sk_tree::Token;
 use std::alloc::{AllocError, Global};
 
 // What a name is declared as, where it is one thing alone.
-#[derive(Debug, Clone, Copy, PartialEq, Eq)]
+#[derive(Clone, Copy)]
 enum Declares {
     Nothing,
     // At the top.
@@ -73,5 +74,23 @@ pub fn push_not_constant(
             b"' is a variable: lengths and counts are constants, as int N = 8; at the top",
         ]),
         Declares::Nothing | Declares::Both => Ok(()),
+    }
+}
+
+/// Tells of a name that is not there, where it is the length of an `int` or a `bit`, whether it is a variable elsewhere or
+/// stands later. After a refusal title and notes are given up: nothing is told.
+pub fn push_not_length(
+    alloc: Global,
+    told: &mut Told,
+    text: &[u8],
+    tokens: &[Token],
+    span: Span,
+) -> Result<(), AllocError>
+    ensures { told.new.title ≡ told.old.title }
+{
+    if is_length(tokens, span) {
+        push_not_constant(alloc, told, text, tokens, span)
+    } else {
+        Ok(())
     }
 }

@@ -6,7 +6,7 @@ use sk_tree::{Mark, Token};
 use std::alloc::{AllocError, Global};
 
 /// A name that a text declares.
-#[derive(Debug, Drop, Clone, Copy)]
+#[derive(Drop, Clone, Copy)]
 pub struct Declared {
     /// The number of its token.
     pub at: usize,

@@ -14,7 +14,7 @@ use std::alloc::{AllocError, Global};
 const MOST_WARNED: usize = 20;
 
 // A pattern, by its first bytes, and a name in it.
-#[derive(Debug, Drop, Clone, Copy)]
+#[derive(Drop, Clone, Copy)]
 struct Dropped {
     pattern: Span,
     name: Span,
@@ -49,7 +49,7 @@ fn is_unknown(known: &Numbers, before: Option<&Token>, token: &Token) -> bool {
 }
 
 // The patterns with names that are not there, each with the first.
-fn dropped(alloc: Global, tokens: &[Token], known: &Numbers) -> Result<Vec<Dropped>, AllocError> {
+fn dropping(alloc: Global, tokens: &[Token], known: &Numbers) -> Result<Vec<Dropped>, AllocError> {
     let mut found: Vec<Dropped> = Vec::new(alloc);
     let mut pattern: Option<Span> = None;
     let mut before = None;
@@ -122,7 +122,7 @@ pub fn push_dropped(
 {
     let found = declarations(alloc, tokens)?;
     let known = names_of(alloc, tokens, found.as_slice())?;
-    let dropped = dropped(alloc, tokens, &known)?;
+    let dropped = dropping(alloc, tokens, &known)?;
     for it in dropped.as_slice().iter().take(MOST_WARNED) {
         push_one(alloc, told, text, found.as_slice(), *it)?;
     }

@@ -12,6 +12,6 @@ mod tell;
 mod twice;
 mod types;
 
-pub use constants::push_not_constant;
+pub use constants::{push_not_constant, push_not_length};
 pub use dropped::push_dropped;
-pub use tell::{tell_nowhere, tell_twice_at};
+pub use tell::{tell_nowhere, tell_twice_at, tell_type_at};

@@ -5,7 +5,7 @@ use sk_base::Span;
 use sk_tree::{Key, Mark, Token};
 
 /// What a harness cannot have.
-#[derive(Debug, Clone, Copy, PartialEq, Eq)]
+#[derive(Clone, Copy)]
 pub enum Broken {
     /// A parameter that is copied back.
     Copied(Span),

@@ -4,7 +4,7 @@ use crate::implements::{functions, only_implementation, unknown_implemented};
 use crate::pieces::bytes_of;
 use crate::signatures::{Broken, first_broken};
 use crate::twice::{Twice, first_twice};
-use crate::types::{first_unknown, foreign, structs};
+use crate::types::{first_unknown, foreign_note, structs};
 use sk_base::Span;
 use sk_explain_forms::near_keyword;
 use sk_explain_notes::{Told, nearest};
@@ -12,6 +12,12 @@ use sk_explain_places::place_of;
 use sk_tree::Token;
 use sk_types_laws::Rule;
 use std::alloc::{AllocError, Global};
+
+// All bytes of a text.
+const WHOLE: Span = Span {
+    from: 0,
+    to: u32::MAX,
+};
 
 // Where a span begins.
 fn push_at(told: &mut Told, text: &[u8], span: Span) -> Result<(), AllocError> {
@@ -37,7 +43,7 @@ fn push_meant(
     tokens: &[Token],
     name: &[u8],
 ) -> Result<(), AllocError> {
-    if let Some(note) = foreign(name) {
+    if let Some(note) = foreign_note(name) {
         return told.note(&[note]);
     }
     let names = structs(alloc, text, tokens)?;
@@ -90,7 +96,7 @@ fn tell_type(
     tokens: &[Token],
 ) -> Result<bool, AllocError> {
     let found = declarations(alloc, tokens)?;
-    let Some(span) = first_unknown(alloc, tokens, found.as_slice())? else {
+    let Some(span) = first_unknown(alloc, tokens, found.as_slice(), WHOLE)? else {
         return tell_implemented(alloc, told, text, tokens, found.as_slice());
     };
     told.title(&[b"unknown type "])?;
@@ -158,6 +164,25 @@ fn tell_implementation(told: &mut Told, text: &[u8], tokens: &[Token]) -> Result
     told.title(&[b"the function "])?;
     push_name(told, text, name)?;
     told.title(&[b" cannot implement '", bytes_of(text, of), b"'"])?;
+    Ok(true)
+}
+
+/// Tells which type that stands within a span is not there, by the title and a line; answers whether one is not. After a refusal
+/// title and notes are given up: nothing is told.
+pub fn tell_type_at(
+    alloc: Global,
+    told: &mut Told,
+    text: &[u8],
+    tokens: &[Token],
+    span: Span,
+) -> Result<bool, AllocError> {
+    let found = declarations(alloc, tokens)?;
+    let Some(span) = first_unknown(alloc, tokens, found.as_slice(), span)? else {
+        return Ok(false);
+    };
+    let name = bytes_of(text, span);
+    told.title(&[b"unknown type '", name, b"'"])?;
+    push_meant(alloc, told, text, tokens, name)?;
     Ok(true)
 }
 

@@ -6,7 +6,7 @@ use sk_types_names::Numbers;
 use std::alloc::{AllocError, Global};
 
 /// The two places of a name.
-#[derive(Debug, Drop, Clone, Copy)]
+#[derive(Drop, Clone, Copy)]
 pub struct Twice {
     pub first: Span,
     pub second: Span,

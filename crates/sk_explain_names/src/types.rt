@@ -64,7 +64,7 @@ static FOREIGN: [Foreign; 12] = [
 ];
 
 /// What to write in place of a type of C, where a word is one.
-pub fn foreign(name: &[u8]) -> Option<&'static [u8]> {
+pub fn foreign_note(name: &[u8]) -> Option<&'static [u8]> {
     for it in &FOREIGN {
         if it.name == name {
             return Some(it.note);
@@ -134,30 +134,65 @@ fn is_known(known: &Numbers, token: &Token) -> bool {
     }
 }
 
-// Whether a token is a word that is no struct, in front of which a declaration begins.
-fn unknown_at(known: &Numbers, before: &[Token]) -> Option<Span> {
+// Whether a span stands within another one.
+fn is_inside(inner: Span, outer: Span) -> bool {
+    outer.from <= inner.from && inner.to <= outer.to
+}
+
+// The word that the last type of some tokens begins with, where it is no struct and stands within a span.
+fn unknown_at(known: &Numbers, before: &[Token], within: Span) -> Option<Span> {
     let (_, ty) = at_type(before)?;
     let base = ty.first()?;
-    if is_known(known, base) {
+    if is_known(known, base) || !is_inside(base.span, within) {
         None
     } else {
         Some(base.span)
     }
 }
 
-/// The first word that stands as a type, and is no struct and no algebraic type.
+/// The first word within a span that stands as a type, and is no struct and no algebraic type.
 pub fn first_unknown(
     alloc: Global,
     tokens: &[Token],
     found: &[Declared],
+    within: Span,
 ) -> Result<Option<Span>, AllocError> {
     let known = noted(alloc, tokens)?;
     for it in found {
         if let Some(before) = tokens.get(..it.at) {
-            if let Some(span) = unknown_at(&known, before) {
+            if let Some(span) = unknown_at(&known, before, within) {
                 return Ok(Some(span));
             }
         }
     }
     Ok(None)
+}
+
+/// Whether a span stands between the brackets of an `int` or a `bit`, as its length.
+pub fn is_length(tokens: &[Token], span: Span) -> bool {
+    for (at, token) in tokens.iter().enumerate() {
+        if token.span.from == span.from {
+            return ends_as_length(&tokens[..at]);
+        }
+    }
+    false
+}
+
+// Whether a length of an `int` or a `bit` begins behind these tokens.
+fn ends_as_length(before: &[Token]) -> bool {
+    let Some((last, front)) = before.split_last() else {
+        return false;
+    };
+    match at_type(front) {
+        Some((_, ty)) => is_mark(last, Mark::OpenBracket) && begins_plain(ty),
+        None => false,
+    }
+}
+
+// Whether some tokens begin with `int` or `bit`.
+fn begins_plain(ty: &[Token]) -> bool {
+    match ty.first() {
+        Some(base) => is_key(base, Key::Int) || is_key(base, Key::Bit),
+        None => false,
+    }
 }
