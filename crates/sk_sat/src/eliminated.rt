@@ -9,8 +9,8 @@ use crate::watches::Watches;
 use sk_clause::Lit;
 use std::alloc::{AllocError, Global};
 
-/// So many conflicts of a search stand before its elimination of variables.
-const FIRST: u64 = 100;
+/// So many conflicts, of whichever searches, stand before each elimination of variables.
+const WAIT: u64 = 300;
 
 /// A literal of an eliminated variable, which of the clauses kept have it, and which known clauses are its resolvents.
 #[derive(Clone, Copy, Drop)]
@@ -35,6 +35,8 @@ pub struct Eliminated {
     left: usize,
     /// Whether there are clauses that no elimination has seen.
     grown: bool,
+    /// How many conflicts came since the last one.
+    passed: u64,
 }
 
 /// Whether a clause has a true literal.
@@ -67,17 +69,26 @@ impl Eliminated {
             clauses: Vec::new(alloc),
             left: 0,
             grown: true,
+            passed: 0,
         }
     }
 
-    /// Whether it is time for an elimination after so many conflicts of a search.
-    pub fn is_due(&self, conflicts: u64) -> bool {
-        self.grown && conflicts >= FIRST
+    /// Counts a conflict. Whether it is time for an elimination.
+    pub fn count(&mut self) -> bool {
+        self.passed = self.passed.saturating_add(1);
+        self.grown && self.passed >= WAIT
     }
 
-    /// There are clauses that no elimination has seen, or there are none.
-    pub fn expect(&mut self, grown: bool) {
-        self.grown = grown;
+    /// There are clauses that no elimination has seen.
+    pub fn expect(&mut self) {
+        self.grown = true;
+    }
+
+    /// An elimination has seen all clauses.
+    pub fn finish(&mut self) {
+        self.grown = false;
+        self.passed = 0;
+        self.rewind();
     }
 
     // Puts clauses behind those kept.

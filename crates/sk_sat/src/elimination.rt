@@ -328,7 +328,6 @@ pub fn eliminate(
     }
     watches.drop_lessons(activity);
     watches.begin_anew();
-    eliminated.rewind();
-    eliminated.expect(false);
+    eliminated.finish();
     Ok(())
 }

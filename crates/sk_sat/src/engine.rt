@@ -105,7 +105,7 @@ impl Engine {
         name(&mut self.activity, added, self.taken);
         self.eliminated
             .restore(&self.known, &mut self.watches, &mut self.activity);
-        self.eliminated.expect(true);
+        self.eliminated.expect();
     }
 
     /// Takes the added clauses that it lacks.
