@@ -12,7 +12,6 @@ use crate::limits::MOST_BYTES;
 use crate::output::deliver;
 use sk_base::{Bounds, Budget, Sink};
 use sk_front::sized_expansion_of;
-use sk_limits::never;
 use sk_min::{Least, least};
 use sk_model::Expanded;
 use sk_opts::Set;
@@ -32,7 +31,7 @@ fn no_set() -> Set
     }
 }
 
-/// The summary of an expansion that has a completion, as each sketch of the program's own has.
+/// The summary of an expansion that has a completion. Where it has none, that counts as want of memory.
 fn summary_of(
     alloc: Global,
     n: u32,
@@ -55,11 +54,11 @@ fn summary_of(
             let out = self_text(alloc, n, bounds, expanded, value)?;
             Ok(out)
         }
-        _ => Err(never()),
+        _ => Err(AllocError),
     }
 }
 
-/// The summary of a text that is taken, as each sketch of the program's own is.
+/// The summary of a text. Where it is not taken, that counts as want of memory.
 fn summary_of_text(alloc: Global, n: u32, text: &[u8]) -> Result<Vec<u8>, AllocError>
     requires short { length text.now ≤ most_bytes }
     requires is { text.now ≡ self_sketch n }
@@ -70,7 +69,7 @@ fn summary_of_text(alloc: Global, n: u32, text: &[u8]) -> Result<Vec<u8>, AllocE
             let out = summary_of(alloc, n, &found.expanded, &found.bounds)?;
             Ok(out)
         }
-        Err(_) => Err(never()),
+        Err(_) => Err(AllocError),
     }
 }
 
@@ -80,7 +79,7 @@ fn summary(alloc: Global, n: u32) -> Result<Vec<u8>, AllocError>
 {
     let text = self_sketch(alloc, n)?;
     if text.len() > MOST_BYTES {
-        return Err(never());
+        return Err(AllocError);
     }
     let out = summary_of_text(alloc, n, text.as_slice())?;
     Ok(out)
