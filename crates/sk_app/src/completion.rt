@@ -4,7 +4,8 @@ ghost use Rattle.std.specs.Prelude.{◌≡◌, ◌≤◌, length, IsTrue, IfOk};
 ghost use Rattle.sk_model.specs.Fill.{fill};
 ghost use Rattle.sk_expand_sites.specs.Needs.{HasItsSites, are_narrow};
 
-use sk_holes::fill;
+use sk_holes::{FillFault, fill};
+use sk_limits::never;
 use sk_model::{Choice, Expanded};
 use sk_prog::Prog;
 use std::alloc::{AllocError, Global};
@@ -26,6 +27,7 @@ pub fn filling(alloc: Global, expanded: &Expanded, choice: &Choice) -> Result<Pr
 {
     match fill(alloc, expanded, choice) {
         Ok(filled) => Ok(filled),
-        Err(_) => Err(AllocError),
+        Err(FillFault::Memory) => Err(AllocError),
+        Err(_) => Err(never()),
     }
 }

@@ -12,6 +12,7 @@ use crate::limits::MOST_BYTES;
 use crate::output::deliver;
 use sk_base::{Bounds, Budget, Sink};
 use sk_front::sized_expansion_of;
+use sk_limits::never;
 use sk_min::{Least, least};
 use sk_model::Expanded;
 use sk_opts::Set;
@@ -31,7 +32,7 @@ fn no_set() -> Set
     }
 }
 
-/// The summary of an expansion that has a completion. Where it has none, that counts as want of memory.
+/// The summary of an expansion that has a completion, as each sketch of the program's own has.
 fn summary_of(
     alloc: Global,
     n: u32,
@@ -54,11 +55,11 @@ fn summary_of(
             let out = self_text(alloc, n, bounds, expanded, value)?;
             Ok(out)
         }
-        _ => Err(AllocError),
+        _ => Err(never()),
     }
 }
 
-/// The summary of a text. Where it is not taken, that counts as want of memory.
+/// The summary of a text that is taken, as each sketch of the program's own is.
 fn summary_of_text(alloc: Global, n: u32, text: &[u8]) -> Result<Vec<u8>, AllocError>
     requires short { length text.now ≤ most_bytes }
     requires is { text.now ≡ self_sketch n }
@@ -69,7 +70,7 @@ fn summary_of_text(alloc: Global, n: u32, text: &[u8]) -> Result<Vec<u8>, AllocE
             let out = summary_of(alloc, n, &found.expanded, &found.bounds)?;
             Ok(out)
         }
-        Err(_) => Err(AllocError),
+        Err(_) => Err(never()),
     }
 }
 
@@ -79,7 +80,7 @@ fn summary(alloc: Global, n: u32) -> Result<Vec<u8>, AllocError>
 {
     let text = self_sketch(alloc, n)?;
     if text.len() > MOST_BYTES {
-        return Err(AllocError);
+        return Err(never());
     }
     let out = summary_of_text(alloc, n, text.as_slice())?;
     Ok(out)
