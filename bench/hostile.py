@@ -97,6 +97,10 @@ def variables(count):
     return lambda size: with_upper(f"//@ upper 0 {count} 1 1\n{NAMES}//@ c\n//@ l\n")
 
 
+def variable(number):
+    return lambda size: with_upper(f"//@ upper 0 {number} 2 1\n{NAMES}//@ c\n//@ c 1 {number}\n//@ l\n")
+
+
 def holes(size):
     return f"{SKETCH}//%%\n{LAYOUT}{HEAD.replace('holes', 'holes' + ' 1' * (whole(size) // 2))}//@ inputs 0\n{UPPER}{END}"
 
@@ -123,7 +127,14 @@ def chain(count):
     return made
 
 
+def blanks(more):
+    """Blanks behind the line that divides, in an input that is so much longer."""
+    return lambda size: "//%%\n" + " " * (size - 5 + more)
+
+
 CASES = [
+    ("as many blanks as are read", [], blanks(0)),
+    ("a blank more than is read", [], blanks(1)),
     ("an input of 1,000,000 scalars", [], scalars),
     ("an input of as many scalars as fit", [], most_scalars),
     ("a log of 1,000,000 clauses without the empty one", [], unending),
@@ -138,7 +149,10 @@ CASES = [
     ("1,000,000 variables that no clause has", [], variables(1000000)),
     ("10,000,000 variables that no clause has", [], variables(10000000)),
     ("67,108,864 variables that no clause has", [], variables(67108864)),
-    ("4,294,967,295 variables", [], variables(4294967295)),
+    ("4,294,967,295 variables that no clause has", [], variables(4294967295)),
+    ("the variable 65,536 in a clause", [], variable(65536)),
+    ("the variable 67,108,864 in a clause", [], variable(67108864)),
+    ("the variable 4,294,967,295 in a clause", [], variable(4294967295)),
     ("holes that the sketch has not", [], holes),
     ("lines of another program", [], lines_of_text),
     ("upper parts that are too many", [], parts),

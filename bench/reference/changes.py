@@ -83,8 +83,10 @@ RAISED = {
     ],
 }
 WORDS = {"value": ["value"], "holes": ["number"], "certificate": ["version"], "inputs": ["count"], "input": ["obligation"], "upper": ["obligation", "variables", "clauses", "log"], "lower": ["variables", "clauses", "log"]}
-# More variables than a text of the longest input of `check` can name apart.
-TOO_MANY = [67108865, 4294967295, 4294967296, 18446744073709551615]
+# Numbers of variables: how many a formula says it has is nothing that its log asks for, so the formula alone is another one.
+MANY = [67108864, 67108865, 4294967295, 4294967296, 18446744073709551615]
+# Numbers of a variable past all names and literals, from the first past 65,536 on.
+FAR = [65537, 67108864, 2147483648, 4294967295, 18446744073709551615]
 
 
 def row(title, kind, settings, end):
@@ -110,10 +112,17 @@ def main():
     kind = "a value above 0"
     row("a line of the program stands twice", kind, ["twice     assert"], REJECTED[5])
     row("two lines of the program change places", kind, ["without     minimize(3);", "put     assert =>     minimize(3);"], REJECTED[5])
-    print("# A formula of more variables than fit\n")
-    for count in TOO_MANY:
-        row(f"{count} variables in the upper part", kind, [f"word 4 //@ upper => {count}"], "17 no memory")
-        row(f"{count} variables in the lower part", kind, [f"word 3 //@ lower => {count}"], "17 no memory")
+    print("# A formula says that it has more variables\n")
+    for count in MANY:
+        row(f"{count} variables in the upper part", kind, [f"word 4 //@ upper => {count}"], REJECTED[6])
+        row(f"{count} variables in the lower part", kind, [f"word 3 //@ lower => {count}"], REJECTED[6])
+    print("# A clause of it names one that no formula of its length can have, so that its log is not followed\n")
+    for var in FAR:
+        row(f"the variable {var} in the upper part", kind, [f"word 4 //@ upper => {var}", "behind //@ upper", f"front //@ c => //@ c {var}"], "17 no memory")
+        row(f"the variable {var} in the lower part", kind, [f"word 3 //@ lower => {var}", "behind //@ lower", f"front //@ c => //@ c {var}"], "17 no memory")
+    print("# So does a clause of the log\n")
+    row("the variable 67108864 in the log of the upper part", kind, ["word 4 //@ upper => 67108864", "behind //@ upper", "front //@ l => //@ l 67108864"], "17 no memory")
+    row("the variable 67108864 in the log of the lower part", kind, ["word 3 //@ lower => 67108864", "behind //@ lower", "front //@ l => //@ l 67108864"], "17 no memory")
 
 
 main()

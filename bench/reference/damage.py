@@ -1,11 +1,11 @@
 #!/usr/bin/env python3
-"""Rows of lines whose streams fail or give and take few bytes at a time, for every command of the program.
+"""Rows of lines whose streams fail, give and take few bytes at a time, end by giving none, or make no room, for every command of the program.
 
   damage.py > crates/rows_commands/data/stream_faults.txt
 
 Of a call with a text of n bytes and steps of s bytes, the source is asked once for each s bytes and once behind them; the sink takes what is
-written s bytes at a time. A line whose read fails writes nothing. One whose write fails has written what the writes before it took. The
-whole results below are known apart: from the rows of the other files, by hand. A sketch without functions has a certificate without parts, which is
+written s bytes at a time. A line whose read fails writes nothing. One whose write fails has written what the writes before it took. A source that gives
+no bytes has ended, and a line whose sink makes no room writes nothing. The whole results below are known apart: from the rows of the other files, by hand. A sketch without functions has a certificate without parts, which is
 written by hand. The lines `self`, `--help` and `--version` read nothing; of the help the front is known."""
 import sys
 
@@ -16,6 +16,7 @@ RECORD = "struct S { int v; }\n"
 CERTIFIED = "struct S {\n    int v;\n}\n//@ completion\n//@ value 0\n//@ holes\n//@ certificate 2\n//@ inputs 0\n//@ end\n"
 SELF = "self 0\nfunctions 2\nsites 3\nsteps 158\nvalue 0\nstatus 0\n"
 HELP = "Completes sketches"
+PRODUCTS = "x * (y + z) == x * y + x * z"
 
 # (title, words, text, status, what is written)
 LINES = [
@@ -47,9 +48,30 @@ LINES = [
     ("the version", "--version", "", 0, "sketch 0.1.0\n"),
     ("synth with a certificate", "synth --cert", RECORD, 0, CERTIFIED),
     ("synth with a certificate, spent before it", "synth --cert --rounds 1", "harness void main(int x) { assert x != 7; }\n", 2, "//@ spent rounds 1\n//@ choice\n//@ input 0 7\n"),
+    (
+        "synth with a certificate, conflicts spent",
+        "synth --cert --conflicts 1",
+        f"harness void main(int x, int y, int z) {{ assert {PRODUCTS} + ??; }}\n",
+        2,
+        "//@ spent conflicts 1\n",
+    ),
+    (
+        "synth with a certificate, conflicts spent with a completion",
+        "synth --cert --conflicts 1",
+        f"harness void m(int x, int y, int z) {{ minimize({PRODUCTS} ? 0 : 1); }}\n",
+        3,
+        f"harness void m(int x, int y, int z) {{\n    minimize({PRODUCTS} ? 0 : 1);\n}}\n//@ completion\n//@ holes\n//@ spent conflicts 1\n",
+    ),
     ("check, accepted", "check", f"{RECORD}//%%\n{CERTIFIED}", 0, "accepted\n"),
     ("check, rejected", "check", f"{RECORD}//%%\n{CERTIFIED.replace('holes', 'holes 0')}", 6, "rejected 1\n"),
     ("self", "self 0", "", 0, SELF),
+]
+# (title, words, text, status, the message)
+REFUSED = [
+    ("a text that is refused", "synth", "void f() { y = 1; }\n", 12, " type 1 11 12"),
+    ("a function that is not there", "exec g", "void f() { }\n", 18, " exec NoFunction"),
+    ("a certificate of another form", "check", f"{RECORD}//%%\n{CERTIFIED.replace('certificate 2', 'certificate 7')}", 19, " certificate Version 7"),
+    ("no line", "synth exec", "", 10, " usage"),
 ]
 # Words of lines that read nothing.
 UNREAD = ("--", "self")
@@ -99,9 +121,22 @@ def shorts(title, words, text, status, out):
         both(f"{title}: {r} bytes a read, {10 - r} a write", words, [f"source {r}", f"sink {10 - r}"], text, status, "", out)
 
 
+def ends(title, words, text, status, out):
+    """The source gives no bytes where it ends, and the sink makes no room."""
+    if not words.startswith(UNREAD):
+        both(f"{title}: no bytes at the end", words, ["zero"], text, status, "", out)
+        both(f"{title}: 5 bytes a read, and none at the end", words, ["source 5", "zero"], text, status, "", out)
+    full(title, words, text)
+
+
+def full(title, words, text):
+    both(f"{title}: no room", words, ["full"], text, 17, " no memory", "")
+
+
 def of_help():
-    """The front of the help: writes of six bytes that fail, and short writes."""
+    """The front of the help: writes of six bytes that fail, a sink without room, and short writes."""
     print("# the help\n")
+    full("the help", "--help", "")
     for k in range(4):
         both(f"the help: write {k + 1} fails", "--help", [f"sink 6 fails {k}"], "", 15, " write fault", HELP[: 6 * k])
     for w in range(1, 10):
@@ -109,8 +144,16 @@ def of_help():
             print("\n".join([f"=== the help: {w} bytes a write{', behind the adapters' if settings else ''}", "--help", f"sink {w}", *settings, "---", "--- 0", f"{HELP}.."]) + "\n")
 
 
+def of_refused():
+    """Texts that are refused, and words that are no line: no room is asked for."""
+    print("# What is refused writes nothing, so it asks for no room.\n")
+    for title, words, text, status, message in REFUSED:
+        both(f"{title}: no room", words, ["full"], text, status, message, "")
+    both("a text that is refused: no bytes at the end", "synth", ["zero"], REFUSED[0][2], 12, REFUSED[0][4], "")
+
+
 def main():
-    print("# Written by bench/reference/damage.py, which says how: lines whose reads and writes fail in turn, and streams of a few bytes a call.\n")
+    print("# Written by bench/reference/damage.py, which says how: lines whose reads and writes fail in turn, streams of a few bytes a call, sources that give no bytes at their end, and sinks without room.\n")
     print("# A completion: each read and each write of a byte fails in turn.\n")
     reads("one byte a call", "synth", DOUBLED, 1)
     writes("one byte a call", "synth", DOUBLED, DONE, 1)
@@ -119,7 +162,9 @@ def main():
         reads(title, words, text, 8)
         writes(title, words, text, out, 10)
         shorts(title, words, text, status, out)
+        ends(title, words, text, status, out)
     of_help()
+    of_refused()
 
 
 if __name__ == "__main__":

@@ -8,6 +8,7 @@ mod forced;
 mod gates;
 mod logs;
 mod numbers;
+mod sessions;
 mod shared_gates;
 mod solving;
 
@@ -20,6 +21,7 @@ fn tell(alloc: Global, report: &mut Report) -> Result<(), AllocError> {
     clauses::tell(alloc, report)?;
     logs::tell(alloc, report)?;
     solving::tell(alloc, report)?;
+    sessions::tell(alloc, report)?;
     gates::tell(alloc, report)?;
     shared_gates::tell(alloc, report)?;
     encoding::tell(alloc, report)

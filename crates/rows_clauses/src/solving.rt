@@ -6,8 +6,13 @@ use sk_clause::{ClauseList, Lit};
 use sk_sat::{Answer, Solver};
 use std::alloc::{AllocError, Global};
 
-// Adds a clause, without its literals of variables that are not there.
-fn put(alloc: Global, solver: &mut Solver, vars: usize, clause: &[Lit]) -> Result<(), AllocError>
+/// Adds a clause, without its literals of variables that are not there.
+pub fn put(
+    alloc: Global,
+    solver: &mut Solver,
+    vars: usize,
+    clause: &[Lit],
+) -> Result<(), AllocError>
     requires { vars ≤ solver.old.vars }
     ensures { OnOk result (solver.new.vars ≡ solver.old.vars) }
 {
@@ -21,8 +26,8 @@ fn put(alloc: Global, solver: &mut Solver, vars: usize, clause: &[Lit]) -> Resul
     Ok(())
 }
 
-// A solver with the clauses.
-fn solver_of(alloc: Global, vars: usize, list: &ClauseList) -> Result<Solver, AllocError> {
+/// A solver with the clauses.
+pub fn solver_of(alloc: Global, vars: usize, list: &ClauseList) -> Result<Solver, AllocError> {
     let mut solver = Solver::new(alloc);
     solver.vars(vars)?;
     for i in 0..list.len() {
@@ -52,7 +57,7 @@ fn are_met(values: &[bool], list: &ClauseList) -> bool {
 
 /// What an answer is, and how many values or clauses it shows.
 #[derive(Clone, Copy, PartialEq)]
-enum Told {
+pub enum Told {
     Sat(usize),
     Unsat(usize),
     /// `Unsat`, with any log.
@@ -62,7 +67,8 @@ enum Told {
     Wrong,
 }
 
-fn tell_answer(list: &ClauseList, answer: &Answer) -> Told {
+/// What an answer to a call on these clauses tells.
+pub fn tell_answer(list: &ClauseList, answer: &Answer) -> Told {
     match answer {
         Answer::Sat(values) => {
             if are_met(values.as_slice(), list) {
@@ -125,7 +131,7 @@ fn rows() -> &'static [Solved] {
 }
 
 /// Whether what was told is what is wanted.
-fn is_as_wanted(told: Told, wanted: Told) -> bool {
+pub fn is_as_wanted(told: Told, wanted: Told) -> bool {
     match (told, wanted) {
         (Told::Unsat(_), Told::Refuted) => true,
         _ => told == wanted,

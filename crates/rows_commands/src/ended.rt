@@ -1,6 +1,7 @@
 //! How a line ends on a text in memory.
+use crate::fakes::{FakeSink, FakeSource};
 use crate::halting::Halting;
-use crate::settings::{Settings, Stream};
+use crate::settings::Settings;
 use row_files::{Ended, head_of, words_of};
 use sk_app::{Ending, StdSink, StdSource, message, run, status};
 use sk_base::{List, MemSink, MemSource};
@@ -15,19 +16,12 @@ pub fn run_line(
     settings: Settings,
 ) -> Result<Ended, AllocError> {
     let words = words_of(alloc, line)?;
-    let Settings {
-        source,
-        sink,
-        adapted,
-        explained,
-        ..
-    } = settings;
-    if explained {
-        run_explained(alloc, words.as_slice(), text, source, sink)
-    } else if adapted {
-        run_adapted(alloc, words.as_slice(), text, source, sink)
+    if settings.explained {
+        run_explained(alloc, words.as_slice(), text, settings)
+    } else if settings.adapted {
+        run_adapted(alloc, words.as_slice(), text, settings)
     } else {
-        run_in_memory(alloc, words.as_slice(), text, source, sink)
+        run_in_memory(alloc, words.as_slice(), text, settings)
     }
 }
 
@@ -36,14 +30,34 @@ fn run_in_memory(
     alloc: Global,
     words: &[String],
     text: Vec<u8>,
-    source: Stream,
-    sink: Stream,
+    settings: Settings,
 ) -> Result<Ended, AllocError> {
-    let mut source = MemSource::new(List::from_vec(text), source.fails, source.step);
-    let mut sink = MemSink::new(alloc, sink.fails, sink.step);
+    let (mut source, mut sink) = streams_of(alloc, text, settings);
     let ending = run(alloc, words, &mut source, &mut sink);
-    let output = Vec::from_slice(alloc, sink.bytes())?;
+    let output = Vec::from_slice(alloc, sink.sink().bytes())?;
     told(alloc, &ending, output)
+}
+
+// The streams in memory, as they are set.
+fn streams_of(
+    alloc: Global,
+    text: Vec<u8>,
+    settings: Settings,
+) -> (FakeSource<MemSource>, FakeSink<MemSink>) {
+    let Settings {
+        source,
+        sink,
+        blanks,
+        gives_zero,
+        is_full,
+        ..
+    } = settings;
+    let source = MemSource::new(List::from_vec(text), source.fails, source.step);
+    let sink = MemSink::new(alloc, sink.fails, sink.step);
+    (
+        FakeSource::new(source, blanks, gives_zero),
+        FakeSink::new(sink, is_full),
+    )
 }
 
 // The streams are a reader and a writer, behind the adapters of standard input and output.
@@ -51,12 +65,21 @@ fn run_adapted(
     alloc: Global,
     words: &[String],
     text: Vec<u8>,
-    source: Stream,
-    sink: Stream,
+    settings: Settings,
 ) -> Result<Ended, AllocError> {
-    let mut source = StdSource::new(Halting::reader(text, source));
+    let Settings {
+        source,
+        sink,
+        blanks,
+        gives_zero,
+        is_full,
+        ..
+    } = settings;
+    let reader = StdSource::new(Halting::reader(text, source));
+    let mut source = FakeSource::new(reader, blanks, gives_zero);
     let mut writer = Halting::writer(alloc, sink);
-    let ending = run(alloc, words, &mut source, &mut StdSink::new(&mut writer));
+    let mut sink = FakeSink::new(StdSink::new(&mut writer), is_full);
+    let ending = run(alloc, words, &mut source, &mut sink);
     told(alloc, &ending, writer.into_bytes())
 }
 
@@ -65,12 +88,10 @@ fn run_explained(
     alloc: Global,
     words: &[String],
     text: Vec<u8>,
-    source: Stream,
-    sink: Stream,
+    settings: Settings,
 ) -> Result<Ended, AllocError> {
-    let source = MemSource::new(List::from_vec(text), source.fails, source.step);
+    let (source, sink) = streams_of(alloc, text, settings);
     let mut source = KeptSource::new(alloc, source);
-    let sink = MemSink::new(alloc, sink.fails, sink.step);
     let mut sink = KeptSink::new(alloc, sink);
     let ending = run(alloc, words, &mut source, &mut sink);
     let (Some(text), Some(answer)) = (source.kept(), sink.kept()) else {

@@ -78,12 +78,39 @@ fn ended(
     settings: Settings,
     text: Vec<u8>,
 ) -> Result<Ended, AllocError> {
+    if settings.is_damaged() {
+        return damaged(alloc, words, settings, text);
+    }
     let is_once = settings.once || settings.explained || !words.starts_with(b"synth");
     let came = run_line(alloc, words, text, settings)?;
     if is_once || came.head.as_slice() != b"0".as_slice() {
         return Ok(came);
     }
     completed_again(alloc, words, came)
+}
+
+// How a line ends over streams that fail. Behind it the same line writes over whole streams what begins with what was written. Where
+// it does not, that is answered.
+fn damaged(
+    alloc: Global,
+    words: &[u8],
+    settings: Settings,
+    text: Vec<u8>,
+) -> Result<Ended, AllocError> {
+    let again = Vec::from_slice(alloc, text.as_slice())?;
+    let came = run_line(alloc, words, text, settings)?;
+    let whole = run_line(alloc, words, again, calm_settings(alloc))?;
+    if whole.body.as_slice().starts_with(came.body.as_slice()) {
+        return Ok(came);
+    }
+    told_again(alloc, whole)
+}
+
+// An end that came where the line was run again, and is another than was wanted.
+fn told_again(alloc: Global, again: Ended) -> Result<Ended, AllocError> {
+    let head = joined(alloc, &[b"again ", again.head.as_slice()])?;
+    let body = again.body;
+    Ok(Ended { head, body })
 }
 
 // What was completed is itself a text, whose completion differs by its holes alone: it has none. Where it does not, that
@@ -94,9 +121,7 @@ fn completed_again(alloc: Global, words: &[u8], came: Ended) -> Result<Ended, Al
     if is_without_holes(again.body.as_slice(), came.body.as_slice()) {
         return Ok(came);
     }
-    let head = joined(alloc, &[b"again ", again.head.as_slice()])?;
-    let body = again.body;
-    Ok(Ended { head, body })
+    told_again(alloc, again)
 }
 
 // Whether a result has no holes, and is another one but for its holes.

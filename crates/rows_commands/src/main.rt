@@ -4,6 +4,7 @@
 #![tactic(auto)]
 
 mod ended;
+mod fakes;
 mod fates;
 mod halting;
 mod judged;

@@ -28,6 +28,12 @@ pub enum Texts {
 pub struct Settings {
     pub source: Stream,
     pub sink: Stream,
+    /// How many blanks the source gives behind the text.
+    pub blanks: u32,
+    /// Whether the source gives `Bytes(0)` where it has ended, in place of `End`.
+    pub gives_zero: bool,
+    /// Whether the sink refuses to make room.
+    pub is_full: bool,
     /// Whether the streams are a reader and a writer, behind the adapters of standard input and output.
     pub adapted: bool,
     /// Whether the completion of the text is not to be completed again.
@@ -35,6 +41,16 @@ pub struct Settings {
     /// Whether what is told to people of the ending is compared, and not what is written.
     pub explained: bool,
     pub texts: Texts,
+}
+
+impl Settings {
+    /// Whether a stream fails, and it is what is written that is compared.
+    pub fn is_damaged(&self) -> bool {
+        let fails = self.is_full
+            || !self.source.fails.as_slice().is_empty()
+            || !self.sink.fails.as_slice().is_empty();
+        fails && !self.explained
+    }
 }
 
 // A stream that gives or takes all there is, and never fails.
@@ -75,6 +91,17 @@ fn failing<'a>(words: &'a [String]) -> Option<&'a [String]> {
     }
 }
 
+// Sets how many blanks stand behind the text; nothing is set where the word is no number.
+fn set_blanks(settings: &mut Settings, count: &str) -> bool {
+    match count.parse::<u32>() {
+        Ok(blanks) => {
+            settings.blanks = blanks;
+            true
+        }
+        Err(_) => false,
+    }
+}
+
 // Sets the stream of this name; nothing is set where there is none.
 fn set_stream(settings: &mut Settings, name: &str, stream: Stream) -> bool {
     match name {
@@ -93,6 +120,8 @@ fn set_stream(settings: &mut Settings, name: &str, stream: Stream) -> bool {
 // Sets what a word alone sets; nothing is set where it sets nothing.
 fn set_word(settings: &mut Settings, word: &str) -> bool {
     match word {
+        "zero" => settings.gives_zero = true,
+        "full" => settings.is_full = true,
         "once" => settings.once = true,
         "adapted" => settings.adapted = true,
         "explained" => settings.explained = true,
@@ -107,6 +136,7 @@ fn set_word(settings: &mut Settings, word: &str) -> bool {
 fn set(alloc: Global, settings: &mut Settings, words: &[String]) -> Result<bool, AllocError> {
     match words {
         [word] => Ok(set_word(settings, word.as_str())),
+        [word, count] if word.as_str() == "blanks" => Ok(set_blanks(settings, count.as_str())),
         [name, step, rest @ ..] => set_numbers(alloc, settings, name.as_str(), step.as_str(), rest),
         _ => Ok(false),
     }
@@ -134,6 +164,9 @@ pub fn calm_settings(alloc: Global) -> Settings {
     Settings {
         source: calm(alloc),
         sink: calm(alloc),
+        blanks: 0,
+        gives_zero: false,
+        is_full: false,
         adapted: false,
         once: false,
         explained: false,

@@ -25,9 +25,9 @@ use Rattle.sk_model.specs.Nodes.{nodes}
 use Rattle.sk_clause.specs.declared.lit.Lit.{Lit}
 use Rattle.sk_cnf.specs.declared.growing.Encoded.{Encoded}
 use Rattle.sk_oblig_queries.specs.declared.query.Query.{Query}
-use Rattle.sk_loop_laws.specs.Honest.{Honest}
-use Rattle.sk_loop_laws.specs.Shown.{AreSpent, Learnt, IsOfSearch}
-use Rattle.sk_min_laws.specs.Best.{IsBest, Meeting}
+use Rattle.sk_loop_laws.specs.Honest.{Honest, inputs_of}
+use Rattle.sk_loop_laws.specs.Shown.{AreSpent, HasRoom, Learnt, IsOfSearch}
+use Rattle.sk_min_laws.specs.Best.{IsBest, Meeting, NoneBelow}
 use Rattle.sk_min.specs.Least.{IsKnown, IsKnownOf, IsFreeSpent}
 use Rattle.sk_min.specs.Least as least
 use Rattle.sk_cert.specs.declared.certificate.Certificate.{Certificate}
@@ -40,7 +40,7 @@ use Rattle.sk_front_laws.proofs.Whole.{texts_keep, texts_fit}
 use Rattle.sk_built_laws.specs.Built.{IsReady}
 use Rattle.sk_app.specs.declared.completion.Completion.{Completion}
 use Rattle.sk_app_texts.specs.SelfTexts.{self_text}
-use Rattle.sk_app.specs.Completing.{IsLeast}
+use Rattle.sk_app.specs.Completing.{IsLeast, IsNoChoice, IsShownWithin}
 use Rattle.sk_app.specs.Summary.{IsSummaryOf}
 use Rattle.sk_app.specs.ResultText.{spaced, completion_lines, completed_text, none_text, IsWithCertificate, IsCompletion, IsNone}
 use Rattle.sk_app.specs.SpentText.{spent_result, OfRounds, OfConflicts}
@@ -125,26 +125,38 @@ module _ (set : Set) where
     shown : (a : Choice) → InRange e a → Shows (layout (fill e a)) bounds (fill e a)
     shown a range = let f = filled a range in programs_shown bounds (fill e a) bits_high f.0 f.1
 
-    completion_of : (cert : Bool) (c : Completion) (out : List ℕ) → IsLeast bounds e c → IsWithCertificate cert e bounds (Some c.choice) c.value (completed_text c) out → IsCompletion set cert text out
-    completion_of cert c out least is = record {
+    completion_of : (budget : Budget) (cert : Bool) (c : Completion) (out : List ℕ) → IsLeast bounds e c → IsShownWithin e bounds budget (λ inputs. NoneBelow e bounds inputs c.value) → IsWithCertificate cert e bounds (Some c.choice) c.value (completed_text c) out → IsCompletion set budget cert text out
+    completion_of budget cert c out least within is = record {
       bounds = bounds;
       e = e;
       c = c;
       only = ready.only;
       least = least;
+      within = within;
       shows = subst (λ p. Shows (layout p) bounds p) (sym least.completes.is_filling) (shown c.choice least.completes.in_range);
       is = is;
     }
 
     -- What is found of it
 
-    pub best_found : (choice : Choice) (value : ℕ) (out : List ℕ) → IsBest e bounds choice value → out ≡ completed_text (record { choice = choice; filled = fill e choice; value = value }) → IsCompletion set false text out
-    best_found choice value out best is =
-        let c : Completion = record { choice = choice; filled = fill e choice; value = value } in
-        completion_of false c out (least_of bounds e c refl best) is
+    -- pairs of the search show it
+    shown_by : (budget : Budget) (pairs : List Pair) (Shown : List Input → Type 0) → Honest e bounds pairs → HasRoom budget pairs → Shown (inputs_of pairs) → IsShownWithin e bounds budget Shown
+    shown_by budget pairs Shown honest room shown = record { pairs = pairs; honest = honest; room = room; shown = shown }
 
-    pub none_found : (inputs : List Input) (out : List ℕ) → least.IsNone e bounds inputs → out ≡ none_text → IsNone set false text out
-    none_found inputs out none is = record { bounds = bounds; e = e; only = ready.only; none = λ b range meets. none.meets b (record { range = range; meets = meets }); is = is }
+    pub best_found : (budget : Budget) (pairs : List Pair) (choice : Choice) (value : ℕ) (out : List ℕ) → Honest e bounds pairs → HasRoom budget pairs → NoneBelow e bounds (inputs_of pairs) value → IsBest e bounds choice value → out ≡ completed_text (record { choice = choice; filled = fill e choice; value = value }) → IsCompletion set budget false text out
+    best_found budget pairs choice value out honest room below best is =
+        let c : Completion = record { choice = choice; filled = fill e choice; value = value } in
+        completion_of budget false c out (least_of bounds e c refl best) (shown_by budget pairs (λ inputs. NoneBelow e bounds inputs value) honest room below) is
+
+    pub none_found : (budget : Budget) (pairs : List Pair) (out : List ℕ) → Honest e bounds pairs → HasRoom budget pairs → least.IsNone e bounds (inputs_of pairs) → out ≡ none_text → IsNone set budget false text out
+    none_found budget pairs out honest room none is = record {
+      bounds = bounds;
+      e = e;
+      only = ready.only;
+      none = λ b range meets. none.meets b (record { range = range; meets = meets });
+      within = shown_by budget pairs (IsNoChoice e bounds) honest room none.passes;
+      is = is;
+    }
 
     -- With certificates
 
@@ -152,16 +164,17 @@ module _ (set : Set) where
     behind : (choice : Option Choice) (value : ℕ) (front out : List ℕ) → (c : Certificate) → IsCertificate out c → (c.text ++ result_lines c.choice c.value) ≡ front → out ≡ front ++ certificate_lines c
     behind choice value front out c is same = is.is ∙ ap (λ t. t ++ certificate_lines c) same
 
-    pub certified_found : (choice : Choice) (value : ℕ) (out : List ℕ) → IsBest e bounds choice value → IsCertified e bounds (Some choice) value out → IsCompletion set true text out
-    certified_found choice value out best shows =
+    pub certified_found : (budget : Budget) (pairs : List Pair) (choice : Choice) (value : ℕ) (out : List ℕ) → Honest e bounds pairs → HasRoom budget pairs → NoneBelow e bounds (inputs_of pairs) value → IsBest e bounds choice value → IsCertified e bounds (Some choice) value out → IsCompletion set budget true text out
+    certified_found budget pairs choice value out honest room below best shows =
         let c : Completion = record { choice = choice; filled = fill e choice; value = value } in
-        completion_of true c out (least_of bounds e c refl best) (record { shows = shows; is = behind (Some choice) value (completed_text c) out shows.certificate shows.is (begins_so e bounds choice value shows.certificate shows.its_choice shows.its_value shows.certifies.layout) })
+        completion_of budget true c out (least_of bounds e c refl best) (shown_by budget pairs (λ inputs. NoneBelow e bounds inputs value) honest room below) (record { shows = shows; is = behind (Some choice) value (completed_text c) out shows.certificate shows.is (begins_so e bounds choice value shows.certificate shows.its_choice shows.its_value shows.certifies.layout) })
 
-    pub none_certified : (out : List ℕ) → IsCertified e bounds None 0 out → IsNone set true text out
-    none_certified out shows = record {
+    pub none_certified : (budget : Budget) (pairs : List Pair) (out : List ℕ) → Honest e bounds pairs → HasRoom budget pairs → IsNoChoice e bounds (inputs_of pairs) → IsCertified e bounds None 0 out → IsNone set budget true text out
+    none_certified budget pairs out honest room none shows = record {
       bounds = bounds;
       e = e;
       only = ready.only;
+      within = shown_by budget pairs (IsNoChoice e bounds) honest room none;
       none = λ b range meets. subst (λ x. is_right e bounds x shows.certificate.value) shows.its_choice shows.right b (record { range = range; meets = meets });
       is = record { shows = shows; is = behind None 0 none_text out shows.certificate shows.is (begins_none e bounds shows.certificate shows.its_choice shows.its_value shows.certifies.layout) };
     }
@@ -194,12 +207,13 @@ module _ (set : Set) where
     by_search false q best free search = (free, search)
     by_search true q best free search = tt
 
-    pub conflicts_found : (cert : Bool) (budget : Budget) (pairs : List Pair) (q : Query) (f : Encoded) (log : List (List Lit)) (best : Option Choice) (out : List ℕ) → Learnt e bounds budget.conflicts pairs q f log → IsKnownOf e bounds pairs q best → IsSpentBy cert e q best → out ≡ spent_result e best (OfConflicts budget.conflicts) → IsSpentConflicts set budget cert text pairs q f log best out
-    conflicts_found cert budget pairs q f log best out learnt known by is = record {
+    pub conflicts_found : (cert : Bool) (budget : Budget) (pairs : List Pair) (q : Query) (f : Encoded) (log : List (List Lit)) (best : Option Choice) (out : List ℕ) → Learnt e bounds budget.conflicts pairs q f log → HasRoom budget pairs → IsKnownOf e bounds pairs q best → IsSpentBy cert e q best → out ≡ spent_result e best (OfConflicts budget.conflicts) → IsSpentConflicts set budget cert text pairs q f log best out
+    conflicts_found cert budget pairs q f log best out learnt room known by is = record {
       bounds = bounds;
       e = e;
       only = ready.only;
       learnt = learnt;
+      room = room;
       known = known;
       by = by;
       meets = known_of_meets pairs q best known;

@@ -687,7 +687,7 @@ module _ (words : List (List ℕ)) (r : Ending) (f : Effect) where
   for_self P a m (of_memory s) n h = m n s.is
 
   abbrev Completion : Type 0
-  Completion = ForSearch words (λ set budget cert. IfSome f.left_old (λ text. Writes (IsCompletion set cert text) f.held_old f.held_new)) ⊎ ForSelf words (λ n. Writes (IsSummary n) f.held_old f.held_new)
+  Completion = ForSearch words (λ set budget cert. IfSome f.left_old (λ text. Writes (IsCompletion set budget cert text) f.held_old f.held_new)) ⊎ ForSelf words (λ n. Writes (IsSummary n) f.held_old f.held_new)
 
   completed_of : Kind → r ≡ ending.Completed → Completion
   completed_of (of_none n s) e = let q = sym s.is ∙ e in cc
@@ -732,7 +732,7 @@ module _ {words : List (List ℕ)} {r : Ending} {f : Effect} (a : Answers words 
   pub not_a_line : r ≡ ending.NotALine → IsNoLine words
   not_a_line = not_a_line_of words r f the
 
-  pub completed : r ≡ ending.Completed → ForSearch words (λ set budget cert. IfSome f.left_old (λ text. Writes (IsCompletion set cert text) f.held_old f.held_new)) ⊎ ForSelf words (λ n. Writes (IsSummary n) f.held_old f.held_new)
+  pub completed : r ≡ ending.Completed → ForSearch words (λ set budget cert. IfSome f.left_old (λ text. Writes (IsCompletion set budget cert text) f.held_old f.held_new)) ⊎ ForSelf words (λ n. Writes (IsSummary n) f.held_old f.held_new)
   completed = completed_of words r f the
 
   pub ends_self : (n : ℕ) → IsLine words (line.Itself n) → EndsSelf r f.write_faults_old f.write_faults_new
@@ -741,7 +741,7 @@ module _ {words : List (List ℕ)} {r : Ending} {f : Effect} (a : Answers words 
   pub prefix_self : (n : ℕ) → IsLine words (line.Itself n) → r ≡ ending.WriteFault → WritesPart (IsSummary n) f.held_old f.held_new
   prefix_self = for_self words r f (λ n. r ≡ ending.WriteFault → WritesPart (IsSummary n) f.held_old f.held_new) (λ n s e. self_cut words r f n s e) (λ n m e. let q = sym m ∙ e in cc) the
 
-  pub none : r ≡ ending.NoCompletion → ForSearch words (λ set budget cert. IfSome f.left_old (λ text. Writes (IsNone set cert text) f.held_old f.held_new))
+  pub none : r ≡ ending.NoCompletion → ForSearch words (λ set budget cert. IfSome f.left_old (λ text. Writes (IsNone set budget cert text) f.held_old f.held_new))
   none e = let s = synth_of words r f ending.NoCompletion refl refl refl (λ q. cc) the e in record { set = s.set; budget = s.budget; cert = s.cert; is = s.is; holds = (s.holds).none e }
 
   pub spent_rounds : (pairs : List Pair) (best : Option Choice) → r ≡ ending.SpentRounds pairs best → ForSearch words (λ set budget cert. AreSpent budget.rounds pairs × IfSome f.left_old (λ text. Writes (IsSpentRounds set budget text pairs best) f.held_old f.held_new))

@@ -108,8 +108,8 @@ of_one x b e = elim (sort x b) [
 with_certificate : (cert : Bool) (e : Expanded) (bounds : Bounds) (choice : Option Choice) (value : ℕ) (a b out : List ℕ) → a ≡ b → IsWithCertificate cert e bounds choice value a out → IsWithCertificate cert e bounds choice value b out
 with_certificate cert e bounds choice value a b out same h = subst (λ t. IsWithCertificate cert e bounds choice value t out) same h
 
-solution : (set : Set) (cert : Bool) (text out : List ℕ) → IsCompletion set cert text out → ForSketch set (IsSolution cert) text out
-solution set cert text out w =
+solution : (set : Set) (budget : Budget) (cert : Bool) (text out : List ℕ) → IsCompletion set budget cert text out → ForSketch set (IsSolution cert) text out
+solution set budget cert text out w =
     let is = w.least.completes.is_filling in
     record {
       bounds = w.bounds;
@@ -127,8 +127,8 @@ solution set cert text out w =
       };
     }
 
-has_none : (set : Set) (cert : Bool) (text out : List ℕ) → IsNone set cert text out → ForSketch set (HasNone cert) text out
-has_none set cert text out w = record { bounds = w.bounds; e = w.e; only = w.only; holds = (w.is, w.none) }
+has_none : (set : Set) (budget : Budget) (cert : Bool) (text out : List ℕ) → IsNone set budget cert text out → ForSketch set (HasNone cert) text out
+has_none set budget cert text out w = record { bounds = w.bounds; e = w.e; only = w.only; holds = (w.is, w.none) }
 
 module _ {words : List (List ℕ)} {r : Ending} {f : Effect} (a : Answers words r f) where
   abbrev c : Call
@@ -139,13 +139,13 @@ module _ {words : List (List ℕ)} {r : Ending} {f : Effect} (a : Answers words 
 
   zero : (set : Set) (budget : Budget) (cert : Bool) → IsSearch words set budget cert → status_of r ≡ 0 → IfSome f.left_old (Got (λ s. ForSketch s (IsSolution cert)) set)
   zero set budget cert h e = elim (of_search a set budget cert h) [
-    | inl s ↦ mapped f.left_old (Got (λ s. IsCompletion s cert) set) (Got (λ s. ForSketch s (IsSolution cert)) set) (λ text w. record { out = w.out; is = solution set cert text w.out w.is; appends = w.appends }) (s.completed (of_zero r s.ends e))
+    | inl s ↦ mapped f.left_old (Got (λ s. IsCompletion s budget cert) set) (Got (λ s. ForSketch s (IsSolution cert)) set) (λ text w. record { out = w.out; is = solution set budget cert text w.out w.is; appends = w.appends }) (s.completed (of_zero r s.ends e))
     | inr m ↦ (let z : 17 ≡ 0 = sym (ap status_of m) ∙ e in absurd (omega (arith, z)))
   ]
 
   one : (set : Set) (budget : Budget) (cert : Bool) → IsSearch words set budget cert → status_of r ≡ 1 → IfSome f.left_old (Got (λ s. ForSketch s (HasNone cert)) set)
   one set budget cert h e = elim (of_search a set budget cert h) [
-    | inl s ↦ mapped f.left_old (Got (λ s. IsNone s cert) set) (Got (λ s. ForSketch s (HasNone cert)) set) (λ text w. record { out = w.out; is = has_none set cert text w.out w.is; appends = w.appends }) (s.none (of_one r s.ends e))
+    | inl s ↦ mapped f.left_old (Got (λ s. IsNone s budget cert) set) (Got (λ s. ForSketch s (HasNone cert)) set) (λ text w. record { out = w.out; is = has_none set budget cert text w.out w.is; appends = w.appends }) (s.none (of_one r s.ends e))
     | inr m ↦ (let z : 17 ≡ 1 = sym (ap status_of m) ∙ e in absurd (omega (arith, z)))
   ]
 

@@ -87,11 +87,11 @@ VersionEnds c = IsLine c.words line.Version → Ends (λ e. e ≡ VersionShown) 
 -- The sink got the result text of a filling that meets its obligations and costs least, with a certificate where the line asks for one;
 -- or, for a line `self`, the summary of such a filling.
 abbrev pub TellsCompletion : Call → Type 0
-TellsCompletion c = c.ending ≡ Completed → ForSearch c.words (λ set budget cert. OfText c (λ text. Gets c (IsCompletion set cert text))) ⊎ ForSelf c.words (λ n. Gets c (IsSummary n))
+TellsCompletion c = c.ending ≡ Completed → ForSearch c.words (λ set budget cert. OfText c (λ text. Gets c (IsCompletion set budget cert text))) ⊎ ForSelf c.words (λ n. Gets c (IsSummary n))
 
 -- No filling meets them. The sink got a line that says so, with a certificate where the line asks for one.
 abbrev pub TellsNone : Call → Type 0
-TellsNone c = c.ending ≡ NoCompletion → ForSearch c.words (λ set budget cert. OfText c (λ text. Gets c (IsNone set cert text)))
+TellsNone c = c.ending ≡ NoCompletion → ForSearch c.words (λ set budget cert. OfText c (λ text. Gets c (IsNone set budget cert text)))
 
 -- The line's budget of rounds is spent, which is not 0: the pairs are as many. The sink got them, and a choice whose filling
 -- meets its obligations, where one is known.

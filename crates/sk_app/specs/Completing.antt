@@ -1,12 +1,16 @@
 -- Completions of a sketch, and which costs least.
 use Rattle.std.specs.Prelude.{ℕ, ◌≡◌, ◌≤◌, List, None}
 use Rattle.sk_base.specs.declared.bounds.Bounds.{Bounds}
+use Rattle.sk_base.specs.declared.bounds.Budget.{Budget}
 use Rattle.sk_model.specs.declared.expanded.Choice.{Choice}
 use Rattle.sk_model.specs.declared.expanded.Expanded.{Expanded}
 use Rattle.sk_model.specs.Fill.{InRange, fill}
 use Rattle.sk_model.specs.Meets.{Meets, IsGreatestCost}
 use Rattle.sk_model.specs.declared.expanded.Input.{Input}
+use Rattle.sk_model.specs.declared.expanded.Pair.{Pair}
 use Rattle.sk_oblig_queries.specs.Queries.{IsWanted}
+use Rattle.sk_loop_laws.specs.Honest.{Honest, inputs_of}
+use Rattle.sk_loop_laws.specs.Shown.{HasRoom}
 use Rattle.sk_app.specs.declared.completion.Completion.{Completion}
 
 -- The filling of a choice in range, which meets its obligations, and its greatest cost.
@@ -19,6 +23,13 @@ pub record IsCompletion (bounds : Bounds) (e : Expanded) (c : Completion) : Type
 -- No choice in range passes even these inputs.
 abbrev pub IsNoChoice : Expanded → Bounds → List Input → Type 0
 IsNoChoice e bounds inputs = (choice : Choice) → IsWanted e bounds inputs None choice → ⊥
+
+-- Honest pairs show this by their inputs, and the budget of rounds, if there is one, has room for a further pair.
+pub record IsShownWithin (e : Expanded) (bounds : Bounds) (budget : Budget) (Shown : List Input → Type 0) : Type 0 where
+  pub pairs : List Pair
+  pub honest : Honest e bounds pairs
+  pub room : HasRoom budget pairs
+  pub shown : Shown (inputs_of pairs)
 
 -- A completion, and none costs less.
 pub record IsLeast (bounds : Bounds) (e : Expanded) (c : Completion) : Type 0 where

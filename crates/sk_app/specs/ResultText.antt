@@ -2,6 +2,7 @@
 use Rattle.std.specs.Prelude.{ℕ, ◌≡◌, Bool, true, false, Option, Some, None, List, [], ◌∷◌, ◌++◌, codes}
 use Rattle.std.specs.Fmt.{decimal}
 use Rattle.sk_base.specs.declared.bounds.Bounds.{Bounds}
+use Rattle.sk_base.specs.declared.bounds.Budget.{Budget}
 use Rattle.sk_model.specs.declared.expanded.Choice.{Choice}
 use Rattle.sk_model.specs.declared.expanded.Expanded.{Expanded}
 use Rattle.sk_model.specs.Fill.{InRange, fill}
@@ -9,11 +10,12 @@ use Rattle.sk_model.specs.Meets.{Meets}
 use Rattle.sk_print.specs.Layout.{layout}
 use Rattle.sk_print.specs.Shows.{Shows}
 use Rattle.sk_cert.specs.Certificates.{certificate_lines}
+use Rattle.sk_min_laws.specs.Best.{NoneBelow}
 use Rattle.sk_min_certificate.specs.Certifications.{IsCertified}
 use Rattle.sk_opts.specs.declared.line.Set.{Set}
 use Rattle.sk_app.specs.declared.completion.Completion.{Completion}
 use Rattle.sk_built_laws.specs.Built.{IsOnly}
-use Rattle.sk_app.specs.Completing.{IsLeast}
+use Rattle.sk_app.specs.Completing.{IsLeast, IsNoChoice, IsShownWithin}
 
 -- each number with a space before it
 abbrev pub spaced : List ℕ → List ℕ
@@ -45,21 +47,24 @@ IsWithCertificate true e bounds choice value front out = HasCertificate e bounds
 
 -- The result text is that of a completion: the filling of a choice in range, which meets its obligations on every input
 -- in range, with its greatest cost, and no filling that does so costs less; the text shows the filled program. With these
--- options the text of the sketch has no other bounds and no other expansion. A certificate stands behind it where one is asked for.
-pub record IsCompletion (set : Set) (cert : Bool) (text out : List ℕ) : Type 0 where
+-- options the text of the sketch has no other bounds and no other expansion. Pairs within the budget of rounds show that none costs less. A
+-- certificate stands behind it where one is asked for.
+pub record IsCompletion (set : Set) (budget : Budget) (cert : Bool) (text out : List ℕ) : Type 0 where
   pub bounds : Bounds
   pub e : Expanded
   pub c : Completion
   pub only : IsOnly set text bounds e
   pub least : IsLeast bounds e c
+  pub within : IsShownWithin e bounds budget (λ inputs. NoneBelow e bounds inputs c.value)
   pub shows : Shows (layout c.filled) bounds c.filled
   pub is : IsWithCertificate cert e bounds (Some c.choice) c.value (completed_text c) out
 
--- The result text says that there is no completion, and no filling in range meets its obligations. A certificate stands behind it
--- where one is asked for.
-pub record IsNone (set : Set) (cert : Bool) (text out : List ℕ) : Type 0 where
+-- The result text says that there is no completion, and no filling in range meets its obligations, which pairs within the budget of
+-- rounds show. A certificate stands behind it where one is asked for.
+pub record IsNone (set : Set) (budget : Budget) (cert : Bool) (text out : List ℕ) : Type 0 where
   pub bounds : Bounds
   pub e : Expanded
   pub only : IsOnly set text bounds e
   pub none : (b : Choice) → InRange e b → Meets (fill e b) bounds → ⊥
+  pub within : IsShownWithin e bounds budget (IsNoChoice e bounds)
   pub is : IsWithCertificate cert e bounds None 0 none_text out

@@ -10,8 +10,8 @@ use Rattle.sk_app.specs.Spent.{AreLearnt, IsSpentRounds, IsSpentConflicts}
 
 -- the result text of an ending, with these options and budgets, and with a certificate or without
 abbrev pub IsResultOf : Set → Budget → Bool → List ℕ → Ending → List ℕ → Type 0
-IsResultOf set budget cert text Completed out = IsCompletion set cert text out
-IsResultOf set budget cert text NoCompletion out = IsNone set cert text out
+IsResultOf set budget cert text Completed out = IsCompletion set budget cert text out
+IsResultOf set budget cert text NoCompletion out = IsNone set budget cert text out
 IsResultOf set budget cert text (SpentRounds pairs best) out = IsSpentRounds set budget text pairs best out
 IsResultOf set budget cert text (SpentConflicts pairs q f log best) out = IsSpentConflicts set budget cert text pairs q f log best out
 IsResultOf set budget cert text _ out = ⊥

@@ -13,7 +13,7 @@ use Rattle.sk_print.specs.Layout.{layout}
 use Rattle.sk_print.specs.Shows.{Shows}
 use Rattle.sk_oblig_queries.specs.declared.query.Query.{Query}
 use Rattle.sk_loop_laws.specs.Honest.{Honest}
-use Rattle.sk_loop_laws.specs.Shown.{AreSpent, Learnt, IsOfSearch}
+use Rattle.sk_loop_laws.specs.Shown.{AreSpent, HasRoom, Learnt, IsOfSearch}
 use Rattle.sk_min.specs.Least.{IsKnown, IsKnownOf, IsFreeSpent}
 use Rattle.sk_opts.specs.declared.line.Set.{Set}
 use Rattle.sk_built_laws.specs.Built.{IsOnly}
@@ -45,12 +45,14 @@ IsSpentBy false e q best = IsFreeSpent e best × IsOfSearch q
 IsSpentBy true e q best = Unit {0}
 
 -- As many clauses were learnt as the budget of conflicts says, from the formula of a query to which the pairs
--- lead. The result text tells the choice that is known, whose filling meets its obligations.
+-- lead, and the budget of rounds has room for a further pair. The result text tells the choice that is known, whose filling meets
+-- its obligations.
 pub record IsSpentConflicts (set : Set) (budget : Budget) (cert : Bool) (text : List ℕ) (pairs : List Pair) (q : Query) (f : Encoded) (log : List (List Lit)) (best : Option Choice) (out : List ℕ) : Type 0 where
   pub bounds : Bounds
   pub e : Expanded
   pub only : IsOnly set text bounds e
   pub learnt : Learnt e bounds budget.conflicts pairs q f log
+  pub room : HasRoom budget pairs
   pub known : IsKnownOf e bounds pairs q best
   pub by : IsSpentBy cert e q best
   pub meets : IfSome best (IsMeeting bounds e)

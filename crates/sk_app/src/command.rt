@@ -58,8 +58,8 @@ fn synth<S: Source, K: Sink>(
 ) -> Ending
     requires { IsInRanges set.now }
     ensures ends { IsTrue (is_of_synth result) }
-    ensures completed { result ≡ Ending.Completed → IfSome (S.left source.old) (λ text. Writes (IsCompletion set.now cert text) (K.held sink.old) (K.held sink.new)) }
-    ensures none { result ≡ Ending.NoCompletion → IfSome (S.left source.old) (λ text. Writes (IsNone set.now cert text) (K.held sink.old) (K.held sink.new)) }
+    ensures completed { result ≡ Ending.Completed → IfSome (S.left source.old) (λ text. Writes (IsCompletion set.now budget.now cert text) (K.held sink.old) (K.held sink.new)) }
+    ensures none { result ≡ Ending.NoCompletion → IfSome (S.left source.old) (λ text. Writes (IsNone set.now budget.now cert text) (K.held sink.old) (K.held sink.new)) }
     ensures rounds { (pairs : List Pair) (best : Option Choice) → result ≡ Ending.SpentRounds pairs best → AreSpent budget.now.rounds pairs × IfSome (S.left source.old) (λ text. Writes (IsSpentRounds set.now budget.now text pairs best) (K.held sink.old) (K.held sink.new)) }
     ensures conflicts { (pairs : List Pair) (q : Query) (formula : Encoded) (log : List (List Lit)) (best : Option Choice) → result ≡ Ending.SpentConflicts pairs q formula log best → AreLearnt budget.now.conflicts log × IfSome (S.left source.old) (λ text. Writes (IsSpentConflicts set.now budget.now cert text pairs q formula log best) (K.held sink.old) (K.held sink.new)) }
     ensures told { IfSome (S.left source.old) (λ text. IsToldOf set.now text result (S.faults source.old) (S.faults source.new) (K.faults sink.old) (K.faults sink.new)) }

@@ -7,6 +7,7 @@ ghost use Rattle.sk_opts.specs.declared.line.Set.{Set};
 ghost use Rattle.sk_oblig.specs.Formulas.{IsAskable};
 ghost use Rattle.sk_built_laws.specs.Built.{IsReady};
 ghost use Rattle.sk_loop_laws.specs.Honest.{Honest, inputs_of};
+ghost use Rattle.sk_loop_laws.specs.Shown.{HasRoom};
 ghost use Rattle.sk_min_laws.specs.Best.{IsBest, NoneBelow};
 ghost use Rattle.sk_min_certificate.specs.Certifications.{FillingsFit};
 ghost use Rattle.sk_app.specs.Completing.{IsNoChoice};
@@ -73,6 +74,7 @@ fn certified_best(
     requires honest { Honest expanded.now bounds.now pairs }
     requires best { IsBest expanded.now bounds.now choice value }
     requires below { NoneBelow expanded.now bounds.now (inputs_of pairs) value }
+    requires room { HasRoom budget.now pairs }
     ensures found { (set : Set) (text : List ℕ) → IsReady set text bounds.now expanded.now → IfOk result (λ found. IsFound set budget.now true found text) }
     ensures possible { IfOk result (IsPossible budget.now) }
 {
@@ -121,6 +123,7 @@ fn certified_none(
     requires few { length expanded.now.sites ≤ 4294967296 }
     requires honest { Honest expanded.now bounds.now pairs }
     requires none { IsNoChoice expanded.now bounds.now (inputs_of pairs) }
+    requires room { HasRoom budget.now pairs }
     ensures found { (set : Set) (text : List ℕ) → IsReady set text bounds.now expanded.now → IfOk result (λ found. IsFound set budget.now true found text) }
     ensures possible { IfOk result (IsPossible budget.now) }
 {

@@ -44,8 +44,8 @@ fn test_parts(
 ///
 /// # Errors
 ///
-/// Memory is wanting, or what `formula` counts as that; a formula is listed of more than 67,108,864 variables; or there are
-/// more obligations than 32 bits number.
+/// Memory is wanting, or what `formula` counts as that; a formula or its log names a variable past 65,536, past all names and past all
+/// literals; or there are more obligations than 32 bits number.
 pub fn accepts(
     alloc: Global,
     expanded: &Expanded,

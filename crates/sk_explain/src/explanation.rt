@@ -8,12 +8,13 @@ use sk_app::{Ending, TextFault};
 use sk_base::{Name, Span};
 use sk_explain_answers::{tell_differences, tell_inputs};
 use sk_explain_causes::{
-    push_not_written, push_passed_over, push_warnings, tell_failed, tell_none, tell_not_filled,
-    tell_not_lowered, tell_not_run, tell_not_tagged, tell_size, tell_skipped, tell_spent,
-    tell_text, tell_type,
+    push_choices, push_holding, push_not_written, push_passed_over, push_warnings, tell_failed,
+    tell_none, tell_not_filled, tell_not_lowered, tell_not_run, tell_not_tagged, tell_size,
+    tell_skipped, tell_spent, tell_text, tell_type,
 };
 use sk_explain_notes::{Command, Note, Told, tell_words};
 use sk_explain_places::{Spot, push_excerpt, push_place, spot_of};
+use sk_explain_runs::push_runs;
 use sk_lexer::LexFault;
 use sk_parser::ParseFault;
 use std::alloc::{AllocError, Global};
@@ -149,9 +150,20 @@ fn tell_search(
     ending: &Ending,
 ) -> Result<(), AllocError> {
     match ending {
-        Ending::NoCompletion => tell_none(told)?,
-        Ending::SpentRounds { pairs: _, best } => tell_spent(told, b"--rounds", best.is_some())?,
-        Ending::SpentConflicts { best, .. } => tell_spent(told, b"--conflicts", best.is_some())?,
+        Ending::Completed => {
+            push_holding(alloc, told, words, text)?;
+            push_runs(alloc, told, words, text, answer)?;
+        }
+        Ending::NoCompletion => {
+            tell_none(told)?;
+            push_choices(alloc, told, text)?;
+        }
+        Ending::SpentRounds { pairs, best } => {
+            tell_spent(told, b"--rounds", pairs.len(), best.is_some())?
+        }
+        Ending::SpentConflicts { pairs, best, .. } => {
+            tell_spent(told, b"--conflicts", pairs.len(), best.is_some())?
+        }
         _ => {}
     }
     tell_answer(alloc, told, words, text, answer, ending)?;

@@ -40,16 +40,23 @@ none_title = one (codes "no values of the open parts meet all that is asked on e
 
 abbrev pub none_notes : List ℕ
 none_notes =
-    one_line (codes "a passed bound is a failed run: --bnd-unroll-amnt and --bnd-inline-amnt are part of what is asked")
-    ++ one_line (codes "--bnd-cbits is the width of a hole, --bnd-inbits that of an input")
+    (one_line (codes "a passed bound is a failed run: --bnd-unroll-amnt and --bnd-inline-amnt are part of what is asked")
+    ++ one_line (codes "--bnd-cbits is the width of a hole, --bnd-inbits that of an input"))
+    ++ one_line (codes "sketch why writes inputs that no values pass together, none of which can be left out")
 
 abbrev pub spent_title : List ℕ → List ℕ
 spent_title option = said (codes "the budget of " ∷ option ∷ codes " is spent" ∷ [])
 
-abbrev pub spent_notes : Bool → List ℕ
-spent_notes is_known =
+-- whether a completion is known
+abbrev pub known_notes : Bool → List ℕ
+known_notes is_known =
     if is_known then one_line (codes "what is written meets all that is asked, and may not be of least value")
     else one_line (codes "no completion is known, and there may be one")
+
+-- the same, and how many inputs broke a choice
+abbrev pub spent_notes : ℕ → Bool → List ℕ
+spent_notes count is_known =
+    known_notes is_known ++ one (codes "inputs that broke a choice: ") ++ decimal count ++ one_line (codes "; with a larger number the search goes on")
 
 -- Runs
 

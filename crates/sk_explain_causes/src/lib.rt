@@ -4,6 +4,7 @@
 mod calls;
 mod declared;
 mod fillings;
+mod holding;
 mod lines;
 mod lowering;
 mod operands;
@@ -19,9 +20,10 @@ mod typing;
 
 pub use calls::tell_not_run;
 pub use fillings::tell_not_filled;
+pub use holding::push_holding;
 pub use lowering::{push_not_written, tell_not_lowered, tell_not_tagged};
 pub use reading::tell_text;
 pub use runs::{tell_failed, tell_skipped};
-pub use searches::{push_passed_over, push_warnings, tell_none, tell_spent};
+pub use searches::{push_choices, push_passed_over, push_warnings, tell_none, tell_spent};
 pub use sizes::tell_size;
 pub use typing::tell_type;

@@ -7,6 +7,7 @@ use crate::pieces::{bytes_of, has_key, is_key, some_tokens, token_from, tokens_f
 use crate::searches::push_passed_over;
 use sk_adt::AdtFault;
 use sk_base::Span;
+use sk_explain_forms::push_colon;
 use sk_explain_notes::Told;
 use sk_tree::{Key, Kind, Token};
 use std::alloc::{AllocError, Global};
@@ -107,7 +108,12 @@ pub fn tell_not_lowered(
         Some(token) => bytes_of(text, token.span),
         None => b"",
     };
-    tell_word(told, word, fault)
+    tell_word(told, word, fault)?;
+    match fault {
+        AdtFault::NoForm { at: _ } => push_colon(told, text, tokens.as_slice()),
+        AdtFault::Twice { .. } | AdtFault::NoVariant { .. } => Ok(()),
+        AdtFault::TooMany { .. } | AdtFault::Memory => Ok(()),
+    }
 }
 
 // Tells which rule of tags is broken.

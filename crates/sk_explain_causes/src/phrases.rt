@@ -49,3 +49,19 @@ pub fn tell_two(
     push_note(told, second)?;
     Ok(())
 }
+
+/// Appends to the title, and three lines. After a refusal title and notes are given up: nothing is told.
+pub fn tell_three(
+    told: &mut Told,
+    title: &[u8],
+    first: &[u8],
+    second: &[u8],
+    third: &[u8],
+) -> Result<(), AllocError>
+    ensures title { OnOk result (told.new.title.bytes.items ≡ told.old.title.bytes.items ++ one title.now) }
+    ensures notes { OnOk result (told.new.notes.bytes.items ≡ told.old.notes.bytes.items ++ ((one_line first.now ++ one_line second.now) ++ one_line third.now)) }
+{
+    tell_two(told, title, first, second)?;
+    push_note(told, third)?;
+    Ok(())
+}

@@ -7,6 +7,9 @@ use crate::pieces::{
     bytes_of, closes, is_key, opens, some_tokens, token_from, tokens_before, tokens_read,
 };
 use crate::strings::{MOST_COUNTED, strings_at};
+use sk_explain_forms::{
+    push_left_out, push_left_out_byte, push_left_out_string, push_open_pattern,
+};
 use sk_explain_notes::Told;
 use sk_explain_places::place_of;
 use sk_front::TextFault;
@@ -134,6 +137,15 @@ fn tell_bad_byte(told: &mut Told, byte: Option<u8>) -> Result<(), AllocError>
             told.title(&[b"no token begins here"])?;
             Ok(())
         }
+    }
+}
+
+// Tells which form begins with a byte that begins no token.
+fn push_byte(told: &mut Told, text: &[u8], fault: &LexFault) -> Result<(), AllocError> {
+    match fault {
+        LexFault::BadByte { at } => push_left_out_byte(told, text, *at as usize),
+        LexFault::OpenComment { .. } | LexFault::LiteralTooLarge { .. } => Ok(()),
+        LexFault::OpenString { .. } | LexFault::Memory => Ok(()),
     }
 }
 
@@ -269,6 +281,12 @@ fn tell_no_reading(
     let tokens = some_tokens(alloc, text)?;
     let token = token_from(tokens.as_slice(), at);
     push_no_reading(told, text, token)?;
+    if push_open_pattern(told, text, tokens.as_slice())? {
+        return Ok(());
+    }
+    if push_left_out(alloc, told, text, tokens.as_slice(), at)? {
+        return Ok(());
+    }
     if is_algebraic(token) && !reads.lowers {
         return told.note(&[b"sketch lower makes a plain sketch of a text with algebraic types"]);
     }
@@ -307,6 +325,14 @@ fn tell_strings(alloc: Global, told: &mut Told, text: &[u8], at: u32) -> Result<
     ])
 }
 
+// Tells of a pattern with a string that reads as no expression.
+fn tell_string(alloc: Global, told: &mut Told, text: &[u8], at: u32) -> Result<(), AllocError> {
+    let tokens = some_tokens(alloc, text)?;
+    told.title(&[b"a string of the pattern reads as no expression"])?;
+    told.note(&[b"a string has no call, no new, no ??(n), no ?: and no parentheses"])?;
+    push_left_out_string(told, text, tokens.as_slice(), at)
+}
+
 // Tells why the tokens of a text read as no tree. Want of memory has an ending of its own.
 fn tell_parse(
     alloc: Global,
@@ -316,10 +342,7 @@ fn tell_parse(
 ) -> Result<(), AllocError> {
     match fault {
         ParseFault::NoReading { at } => tell_no_reading(alloc, told, reads, *at),
-        ParseFault::BadAlternative { at: _ } => {
-            told.title(&[b"a string of the pattern reads as no expression"])?;
-            told.note(&[b"a string has no call, no new, no ??(n), no ?: and no parentheses"])
-        }
+        ParseFault::BadAlternative { at } => tell_string(alloc, told, reads.text, *at),
         ParseFault::TooManyStrings { at } => tell_strings(alloc, told, reads.text, *at),
         ParseFault::Memory => told.title(&[b"out of memory"]),
     }
@@ -335,7 +358,10 @@ pub fn tell_text(
     fault: &TextFault,
 ) -> Result<(), AllocError> {
     match fault {
-        TextFault::Lex(fault) => tell_lex(told, text, fault),
+        TextFault::Lex(fault) => {
+            tell_lex(told, text, fault)?;
+            push_byte(told, text, fault)
+        }
         TextFault::Parse(fault) => {
             let line = line_of(alloc, words)?;
             let lowers = lowers(&line);

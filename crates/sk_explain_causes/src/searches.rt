@@ -1,11 +1,13 @@
 //! Searches that ended: what was asked, and what of the pragmas was passed over.
 ghost use Rattle.std.specs.Prelude.{◌≡◌, ◌++◌, OnOk};
 ghost use Rattle.sk_explain_notes.specs.Notes.{one_line};
-ghost use Rattle.sk_explain_causes.specs.Titles.{none_title, none_notes, spent_title, spent_notes};
+ghost use Rattle.sk_explain_causes.specs.Titles.{none_title, none_notes, spent_title, known_notes, spent_notes};
 
-use crate::phrases::{push_note, tell_two};
+use crate::phrases::{push_note, tell_three};
 use crate::pieces::{has_key, is_key, some_tokens};
 use crate::results::push_unreturned;
+use sk_explain_forms::push_chosen;
+use sk_explain_names::{push_dropped, push_unasked};
 use sk_explain_notes::{CHOICES, Choice, Range, Told, nearest};
 use sk_explain_places::place_of;
 use sk_tree::{Key, Kind, Token};
@@ -175,17 +177,29 @@ pub fn push_passed_over(alloc: Global, told: &mut Told, text: &[u8]) -> Result<(
     push_unreturned(alloc, told, tokens.as_slice())
 }
 
-/// Warns of a text that a search ended on: that nothing was asked, and what it passes over. After a refusal title and notes
-/// are given up: nothing is told.
+/// Warns of a text that a search ended on: that nothing was asked at all or of a function, what it passes over, and which
+/// patterns drop strings. After a refusal title and notes are given up: nothing is told.
 pub fn push_warnings(alloc: Global, told: &mut Told, text: &[u8]) -> Result<(), AllocError>
     ensures { told.new.title ≡ told.old.title }
 {
     let tokens = some_tokens(alloc, text)?;
     let tokens = tokens.as_slice();
-    if !has_key(tokens, Key::Harness) && !has_key(tokens, Key::Implements) {
+    if has_key(tokens, Key::Harness) || has_key(tokens, Key::Implements) {
+        push_unasked(alloc, told, text, tokens)?;
+    } else {
         told.note(&[b"warning: nothing is asked: the text has no harness and no implements"])?;
     }
-    push_passed_over(alloc, told, text)
+    push_passed_over(alloc, told, text)?;
+    push_dropped(alloc, told, text, tokens)
+}
+
+/// Tells of a text without a completion that has bits which of its patterns has a choice where a bitwise or may be meant. After
+/// a refusal title and notes are given up: nothing is told.
+pub fn push_choices(alloc: Global, told: &mut Told, text: &[u8]) -> Result<(), AllocError>
+    ensures { told.new.title ≡ told.old.title }
+{
+    let tokens = some_tokens(alloc, text)?;
+    push_chosen(told, text, tokens.as_slice())
 }
 
 /// Tells that no completion meets what is asked. After a refusal title and notes are given up: nothing is told.
@@ -193,17 +207,18 @@ pub fn tell_none(told: &mut Told) -> Result<(), AllocError>
     ensures title { OnOk result (told.new.title.bytes.items ≡ told.old.title.bytes.items ++ none_title) }
     ensures notes { OnOk result (told.new.notes.bytes.items ≡ told.old.notes.bytes.items ++ none_notes) }
 {
-    tell_two(
+    tell_three(
         told,
         b"no values of the open parts meet all that is asked on every input",
         b"a passed bound is a failed run: --bnd-unroll-amnt and --bnd-inline-amnt are part of what is asked",
         b"--bnd-cbits is the width of a hole, --bnd-inbits that of an input",
+        b"sketch why writes inputs that no values pass together, none of which can be left out",
     )
 }
 
 // What there is to know where a budget is spent.
 fn spent_phrase(is_known: bool) -> &'static [u8]
-    ensures { one_line result.now ≡ spent_notes is_known }
+    ensures { one_line result.now ≡ known_notes is_known }
 {
     if is_known {
         b"what is written meets all that is asked, and may not be of least value"
@@ -212,11 +227,22 @@ fn spent_phrase(is_known: bool) -> &'static [u8]
     }
 }
 
-/// Tells that a budget is spent. After a refusal title and notes are given up: nothing is told.
-pub fn tell_spent(told: &mut Told, option: &[u8], is_known: bool) -> Result<(), AllocError>
+/// Tells that a budget is spent, with so many inputs that broke a choice each. After a refusal title and notes are given up:
+/// nothing is told.
+pub fn tell_spent(
+    told: &mut Told,
+    option: &[u8],
+    count: usize,
+    is_known: bool,
+) -> Result<(), AllocError>
     ensures title { OnOk result (told.new.title.bytes.items ≡ told.old.title.bytes.items ++ spent_title option.now) }
-    ensures notes { OnOk result (told.new.notes.bytes.items ≡ told.old.notes.bytes.items ++ spent_notes is_known) }
+    ensures notes { OnOk result (told.new.notes.bytes.items ≡ told.old.notes.bytes.items ++ spent_notes count is_known) }
 {
     told.title(&[b"the budget of ", option, b" is spent"])?;
-    push_note(told, spent_phrase(is_known))
+    push_note(told, spent_phrase(is_known))?;
+    told.notes.say(&[b"inputs that broke a choice: "])?;
+    told.notes.number(count as u64)?;
+    told.notes
+        .line(&[b"; with a larger number the search goes on"])?;
+    Ok(())
 }

@@ -1,10 +1,17 @@
 //! Texts that break a rule of names and types.
+ghost use Rattle.std.specs.Prelude.{◌≡◌};
+
 use crate::declared::push_declarations;
 use crate::lines::{line_of, lowers, set_of};
 use crate::operands::push_operands;
 use crate::pieces::{bytes_of, is_mark, is_word, some_tokens};
 use sk_base::Span;
+use sk_explain_forms::push_left_out_string;
+use sk_explain_names::{
+    push_not_constant, push_not_length, tell_nowhere, tell_twice_at, tell_type_at,
+};
 use sk_explain_notes::{Told, near_by};
+use sk_explain_types::tell_finding;
 use sk_tree::{Mark, Token};
 use sk_types_laws::{Rule, TypeFault};
 use std::alloc::{AllocError, Global};
@@ -106,6 +113,23 @@ fn nearest_word<'a>(
     Ok(found)
 }
 
+// Tells of a name that is not there, at a span that is no word.
+fn tell_unknown(
+    alloc: Global,
+    told: &mut Told,
+    text: &[u8],
+    tokens: &[Token],
+    span: Span,
+) -> Result<(), AllocError> {
+    if tell_finding(alloc, told, text, tokens, span)? {
+        return Ok(());
+    }
+    if tell_type_at(alloc, told, text, tokens, span)? {
+        return Ok(());
+    }
+    told.title(&[rule_title(Rule::UnknownName)])
+}
+
 fn tell_unknown_name(
     alloc: Global,
     told: &mut Told,
@@ -114,10 +138,11 @@ fn tell_unknown_name(
     span: Span,
 ) -> Result<(), AllocError> {
     if !is_lone_word(tokens, span) {
-        return told.title(&[rule_title(Rule::UnknownName)]);
+        return tell_unknown(alloc, told, text, tokens, span);
     }
     let word = bytes_of(text, span);
     told.title(&[b"unknown name '", word, b"'"])?;
+    push_not_length(alloc, told, text, tokens, span)?;
     match nearest_word(alloc, text, tokens, word)? {
         Some(near) => told.title(&[b"; is '", near, b"' meant?"]),
         None => Ok(()),
@@ -145,7 +170,8 @@ fn tell_number(alloc: Global, told: &mut Told, words: &[String]) -> Result<(), A
     }
 }
 
-// Tells of a type that cannot stand where it does: the other cause that there may be, and what is declared there.
+// Tells of a type that cannot stand where it does: what is wanted and found, or the other cause that there may be, and what is
+// declared there.
 fn tell_mismatch(
     alloc: Global,
     told: &mut Told,
@@ -153,10 +179,13 @@ fn tell_mismatch(
     tokens: &[Token],
     span: Span,
 ) -> Result<(), AllocError> {
-    if has_call(tokens, span) {
-        told.title(&[b", or a call has another number of arguments than its function"])?;
+    if !tell_finding(alloc, told, text, tokens, span)? {
+        told.title(&[rule_title(Rule::Mismatch)])?;
+        if has_call(tokens, span) {
+            told.title(&[b", or a call has another number of arguments than its function"])?;
+        }
+        push_operands(told, text, tokens, span)?;
     }
-    push_operands(told, text, tokens, span)?;
     push_declarations(alloc, told, text, tokens, span)
 }
 
@@ -169,6 +198,73 @@ fn push_field(alloc: Global, told: &mut Told, words: &[String]) -> Result<(), Al
     Ok(())
 }
 
+// Tells which rule a text breaks, and where, at a place that has no span.
+fn tell_rule_nowhere(
+    alloc: Global,
+    told: &mut Told,
+    text: &[u8],
+    tokens: &[Token],
+    rule: Rule,
+) -> Result<(), AllocError> {
+    if tell_nowhere(alloc, told, text, tokens, rule)? {
+        return Ok(());
+    }
+    told.title(&[rule_title(rule)])?;
+    told.note(&[b"what breaks the rule is a name at the top, a field, a parameter or a result"])
+}
+
+// Tells of a name that stands twice.
+fn tell_twice(
+    alloc: Global,
+    told: &mut Told,
+    text: &[u8],
+    tokens: &[Token],
+    span: Span,
+) -> Result<(), AllocError> {
+    if tell_twice_at(alloc, told, text, tokens, span)? {
+        return Ok(());
+    }
+    told.title(&[rule_title(Rule::Twice)])
+}
+
+// Tells what else there is to say of a rule that a text breaks at a span.
+fn push_more(
+    alloc: Global,
+    told: &mut Told,
+    text: &[u8],
+    tokens: &[Token],
+    fault: &TypeFault,
+) -> Result<(), AllocError>
+    ensures { told.new.title ≡ told.old.title }
+{
+    match fault.rule {
+        Rule::NotConstant => push_not_constant(alloc, told, text, tokens, fault.span),
+        Rule::NoAlternative => push_left_out_string(told, text, tokens, fault.span.from),
+        _ => Ok(()),
+    }
+}
+
+// Tells which rule a text breaks at a span.
+fn tell_rule_at(
+    alloc: Global,
+    told: &mut Told,
+    words: &[String],
+    text: &[u8],
+    tokens: &[Token],
+    fault: &TypeFault,
+) -> Result<(), AllocError> {
+    match fault.rule {
+        Rule::UnknownName => tell_unknown_name(alloc, told, text, tokens, fault.span),
+        Rule::LiteralRange => tell_number(alloc, told, words),
+        Rule::Twice => tell_twice(alloc, told, text, tokens, fault.span),
+        Rule::Mismatch => tell_mismatch(alloc, told, text, tokens, fault.span),
+        rule => {
+            told.title(&[rule_title(rule)])?;
+            push_more(alloc, told, text, tokens, fault)
+        }
+    }
+}
+
 /// Tells which rule a text breaks. After a refusal title and notes are given up: nothing is told.
 pub fn tell_type(
     alloc: Global,
@@ -178,20 +274,10 @@ pub fn tell_type(
     fault: &TypeFault,
 ) -> Result<(), AllocError> {
     let tokens = some_tokens(alloc, text)?;
-    match fault.rule {
-        Rule::UnknownName => {
-            tell_unknown_name(alloc, told, text, tokens.as_slice(), fault.span)?;
-        }
-        Rule::LiteralRange => tell_number(alloc, told, words)?,
-        rule => told.title(&[rule_title(rule)])?,
-    }
-    if fault.rule == Rule::Mismatch {
-        tell_mismatch(alloc, told, text, tokens.as_slice(), fault.span)?;
-    }
     if fault.span.to == 0 {
-        told.note(&[
-            b"what breaks the rule is a name at the top, a field, a parameter or a result",
-        ])?;
+        tell_rule_nowhere(alloc, told, text, tokens.as_slice(), fault.rule)?;
+    } else {
+        tell_rule_at(alloc, told, words, text, tokens.as_slice(), fault)?;
     }
     told.note(&[rule_note(fault.rule)])?;
     if fault.rule == Rule::UnknownName {

@@ -102,7 +102,8 @@ fn push_mark(out: &mut Vec<u8>, spot: &Spot) -> Result<(), AllocError>
     Ok(())
 }
 
-/// Appends the line of a place with the mark under it, where the line has at most 160 bytes.
+/// Appends the line of a place with the mark under it, where the line has at most 160 bytes. After a refusal what was written is given
+/// up with the call that writes it.
 pub fn push_excerpt(out: &mut Vec<u8>, spot: &Spot) -> Result<(), AllocError>
     ensures { OnOk result (out.new.items ≡ out.old.items ++ excerpt_text spot.now) }
 {
@@ -114,7 +115,7 @@ pub fn push_excerpt(out: &mut Vec<u8>, spot: &Spot) -> Result<(), AllocError>
     Ok(())
 }
 
-/// Appends the numbers of a place, as `LINE:COLUMN`.
+/// Appends the numbers of a place, as `LINE:COLUMN`. After a refusal what was written is given up with the call that writes it.
 pub fn push_place(out: &mut Vec<u8>, place: Place) -> Result<(), AllocError>
     ensures { OnOk result (out.new.items ≡ out.old.items ++ place_text place) }
 {

@@ -11,6 +11,7 @@ use sk_base::Bounds;
 use sk_clause::Log;
 use sk_cnf::Encoded;
 use sk_loop_copies::copy_choice;
+use sk_loop_guesses::guess;
 use sk_model::{Choice, Expanded, Input as InputOf};
 use sk_oblig::{formula, input_of};
 use sk_oblig_queries::Query;
@@ -43,9 +44,9 @@ fn solved(alloc: Global, encoded: &Encoded, budget: u64) -> Result<Answered, All
     Ok(answered)
 }
 
-/// Looks for an input that speaks against a choice within a limit.
+// Looks for an input that speaks against a choice within a limit, by a formula.
 #[tactic(auto, using(crate::proofs::Countering::countering))]
-pub fn counter(
+fn asked(
     alloc: Global,
     expanded: &Expanded,
     bounds: &Bounds,
@@ -74,5 +75,27 @@ pub fn counter(
             formula,
             log,
         }),
+    }
+}
+
+/// Looks for an input that speaks against a choice within a limit: first among the guesses, then by a formula.
+pub fn counter(
+    alloc: Global,
+    expanded: &Expanded,
+    bounds: &Bounds,
+    choice: &Choice,
+    limit: Option<u64>,
+    budget: u64,
+) -> Result<Countered, AllocError>
+    requires askable { IsAskable expanded.now bounds.now }
+    requires range { InRange expanded.now choice.now }
+    ensures { IfOk result (IsCountered expanded.now bounds.now choice.now limit budget) }
+{
+    match guess(alloc, expanded, bounds, choice, limit)? {
+        Some(guessed) => Ok(Countered::Input(guessed)),
+        None => {
+            let countered = asked(alloc, expanded, bounds, choice, limit, budget)?;
+            Ok(countered)
+        }
     }
 }

@@ -269,15 +269,14 @@ asks {f} {x} {bounds} {d} q r leaves askable root is count puts = record {
 }
 
 -- of a simpler graph
-pub puts_root : {f : Encoded} {old new : Graph} (leaves : List Leaf) (root simple : BoolId) (made : List BoolId) → KeepsRoots old (root ∷ []) new made → made ≡ simple ∷ [] → IsEncoding f leaves new (simple ∷ []) → Puts f leaves old root
+pub puts_root : {f : Encoded} {old new : Graph} (leaves : List Leaf) (root simple : BoolId) (made : List BoolId) → KeepsRoots old (root ∷ []) new made → slice_get made 0 ≡ Some simple → IsEncoding f leaves new (simple ∷ []) → Puts f leaves old root
 puts_root {f} {old} {new} leaves root simple made keeps is enc = record {
   named = enc.means.encodes.named;
   within = enc.means.encodes.within;
   distinct = enc.means.encodes.distinct;
   exact = λ bits e long says.
       let both = enc.means.said bits e long says in
-      let here : slice_get made 0 ≡ Some simple = ap (λ (ms : List BoolId). slice_get ms 0) is in
-      let same : bool_value new e simple ≡ bool_value old e root = keeps.value 0 root simple refl here new (Grows-refl new) e in (
+      let same : bool_value new e simple ≡ bool_value old e root = keeps.value 0 root simple refl is new (Grows-refl new) e in (
         λ h. sym same ∙ both.0 h 0 simple (omega arith),
         λ h. both.1 (only simple new e (same ∙ h)),
       );
@@ -288,8 +287,8 @@ puts_root {f} {old} {new} leaves root simple made keeps is enc = record {
     only s g e h zero d l = h
     only s g e h (suc i) d l = absurd (omega (arith, l))
 
-pub simple_there : {old new : Graph} (root simple : BoolId) (made : List BoolId) → KeepsRoots old (root ∷ []) new made → made ≡ simple ∷ [] → HasBool new.nodes simple
-simple_there root simple made keeps is = keeps.there 0 simple (ap (λ (ms : List BoolId). slice_get ms 0) is)
+pub simple_there : {old new : Graph} (root simple : BoolId) (made : List BoolId) → KeepsRoots old (root ∷ []) new made → slice_get made 0 ≡ Some simple → HasBool new.nodes simple
+simple_there root simple made keeps is = keeps.there 0 simple is
 
 pub root_there : (g : Graph) (r : BoolId) → HasBool g.nodes r → All (HasBool g.nodes) (r ∷ [])
 root_there g r h zero d l = h

@@ -20,7 +20,7 @@ use Rattle.sk_cnf.specs.Leaves.{Says}
 use Rattle.sk_oblig_queries.specs.declared.query.Query.{Query}
 use Rattle.sk_oblig_queries.specs.declared.query.Query.TheVariants as query
 use Rattle.sk_oblig_queries.specs.Numbers.{numbers_said}
-use Rattle.sk_oblig_queries.specs.Queries.{Holds, IsBad, widths_of_query}
+use Rattle.sk_oblig_queries.specs.Queries.{Holds, IsBad, input_of_query, widths_of_query}
 use Rattle.sk_oblig_queries.specs.Widths.{sites_widths}
 use Rattle.sk_sym.specs.Outcome.{choice_of}
 use Rattle.sk_oblig_laws.specs.Laws.{StartsBelow, choice_env, input_env}
@@ -54,7 +54,21 @@ IsAnswer e bounds (query.Bad choice limit) input = IsBad e bounds choice limit i
 IsAnswer e bounds (query.BadAt choice o limit) input = IsBad e bounds choice (Some limit) input × (input.obligation ≡ o)
 IsAnswer e bounds (query.Wanted inputs limit) input = ⊥
 
+-- An input of the obligation with a number that speaks against the choice; none only where the one that the bits of `Bad` say does not.
+abbrev pub IsSaidAt : Expanded → Bounds → Choice → Option ℕ → ℕ → List Bool → Option Input → Type 0
+IsSaidAt e bounds choice limit o bits (Some input) = IsBad e bounds choice limit input
+IsSaidAt e bounds choice limit o bits None = IsBad e bounds choice limit (input_of_query e bounds (query.Bad choice limit) o bits) → ⊥
+
+-- An input that speaks against the choice; none only where the bits of `Bad` say none.
+abbrev pub IsSaid : Expanded → Bounds → Choice → Option ℕ → List Bool → Option Input → Type 0
+IsSaid e bounds choice limit bits (Some input) = IsBad e bounds choice limit input
+IsSaid e bounds choice limit bits None = Holds e bounds (query.Bad choice limit) bits → ⊥
+
 -- ---- Step by step
+
+-- of the first so many obligations the bits say no input that speaks against the choice
+abbrev pub NoneBefore : Expanded → Bounds → Choice → Option ℕ → List Bool → ℕ → Type 0
+NoneBefore e bounds choice limit bits count = (o : ℕ) → o < count → IsBad e bounds choice limit (input_of_query e bounds (query.Bad choice limit) o bits) → ⊥
 
 -- the list of at most one
 abbrev pub at_most_one : Option Obligation → List Obligation

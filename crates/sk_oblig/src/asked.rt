@@ -1,6 +1,6 @@
 //! Whether the input speaks against a choice, as a node.
 
-ghost use Rattle.std.specs.Prelude.{◌≡◌, ◌-◌, ◌≤◌, ◌+◌, true, IfOk};
+ghost use Rattle.std.specs.Prelude.{◌≡◌, ◌-◌, ◌≤◌, ◌+◌, true, IfOk, IfSome};
 ghost use Rattle.sk_dag.specs.Eval.{Keeps};
 ghost use Rattle.sk_expand_sites.specs.Needs.{HasItsSites};
 ghost use Rattle.sk_model.specs.Fill.{InRange};
@@ -11,6 +11,7 @@ ghost use Rattle.sk_oblig.specs.Nodes.{SaysAnyBad, SaysBad, has_inputs as has};
 use crate::plain::{count_of, has_inputs, params_of};
 use sk_base::Bounds;
 use sk_dag::{BoolId, Dag};
+use sk_limits::never;
 use sk_model::{Choice, Expanded, Obligation};
 use sk_oblig_arguments::arguments;
 use sk_oblig_checks::check;
@@ -80,19 +81,22 @@ fn speaks(
     Ok(r)
 }
 
-// The scalar behind those of an obligation. More than can be numbered count as want of memory.
+// The scalar behind those of an obligation, if it can be numbered.
+fn scalar_behind(expanded: &Expanded, obligation: Obligation, first: u32) -> Option<u32>
+    ensures { IfSome result (λ next. next ≡ first + count_of (takes expanded.now.prog obligation)) }
+{
+    let count = count_of(params_of(&expanded.prog, obligation))?;
+    let next = u64::from(first).checked_add(count)?;
+    u32::try_from(next).ok()
+}
+
+// The same of the inputs of a text, which can all be numbered.
 fn behind(expanded: &Expanded, obligation: Obligation, first: u32) -> Result<u32, AllocError>
     ensures { IfOk result (λ next. next ≡ first + count_of (takes expanded.now.prog obligation)) }
 {
-    let Some(count) = count_of(params_of(&expanded.prog, obligation)) else {
-        return Err(AllocError);
-    };
-    let Some(next) = u64::from(first).checked_add(count) else {
-        return Err(AllocError);
-    };
-    match u32::try_from(next) {
-        Ok(next) => Ok(next),
-        Err(_) => Err(AllocError),
+    match scalar_behind(expanded, obligation, first) {
+        Some(next) => Ok(next),
+        None => Err(never()),
     }
 }
 

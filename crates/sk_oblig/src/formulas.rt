@@ -1,6 +1,6 @@
 //! Queries as formulas.
 
-ghost use Rattle.std.specs.Prelude.{◌≡◌, ◌-◌, ◌≤◌, ◌∷◌, [], slice_get, IfOk};
+ghost use Rattle.std.specs.Prelude.{◌≡◌, ◌-◌, ◌≤◌, ◌<◌, length, slice_get, Some, IfOk};
 ghost use Rattle.sk_dag.specs.Graph.{HasBool};
 ghost use Rattle.sk_expand_sites.specs.Needs.{HasItsSites};
 ghost use Rattle.sk_model.specs.Fill.{InRange};
@@ -133,14 +133,12 @@ fn root_of(
     }
 }
 
-// The one root of a simpler graph. Another number of roots, which is never, counts as want of memory.
-fn single(roots: &[BoolId]) -> Result<BoolId, AllocError>
-    ensures { IfOk result (λ r. roots.now ≡ r ∷ []) }
+// The first of some roots.
+fn first(roots: &[BoolId]) -> BoolId
+    requires { 0 < length roots.now }
+    ensures { slice_get roots.now 0 ≡ Some result }
 {
-    match roots {
-        [root] => Ok(*root),
-        _ => Err(AllocError),
-    }
+    roots[0]
 }
 
 // The clauses by which a root is true, of a simpler graph.
@@ -151,7 +149,7 @@ fn put(alloc: Global, dag: &Dag, root: BoolId, leaves: &[Leaf]) -> Result<Encode
     ensures { IfOk result (λ f. Puts f leaves.now dag.now root) }
 {
     let made = simplify(alloc, dag, &[root])?;
-    let simple = single(made.roots.as_slice())?;
+    let simple = first(made.roots.as_slice());
     let f = encode(alloc, &made.dag, simple, leaves)?;
     Ok(f)
 }

@@ -1,17 +1,18 @@
 //! The input that an answer of the solver says.
 
-ghost use Rattle.std.specs.Prelude.{◌≡◌, slice_get, Some, IfOk, IfSome};
+ghost use Rattle.std.specs.Prelude.{◌≡◌, slice_get, Some, IfOk};
 ghost use Rattle.sk_clause.specs.Meaning.{Meets, valuation};
 ghost use Rattle.sk_model.specs.Fill.{InRange};
 ghost use Rattle.sk_model.specs.Obligations.{obligations};
-ghost use Rattle.sk_oblig_queries.specs.Queries.{AsksFor, IsBad};
+ghost use Rattle.sk_oblig_queries.specs.Queries.{AsksFor};
 ghost use Rattle.sk_oblig_queries.specs.declared.query.Query.TheVariants as query_form;
-ghost use Rattle.sk_oblig.specs.Formulas.{IsAskable, IsAsked, AsksInput, IsAnswer};
+ghost use Rattle.sk_oblig.specs.Formulas.{IsAskable, IsAsked, IsSaid, IsSaidAt, AsksInput, IsAnswer};
 
 use crate::judging::speaks;
 use crate::plain::has_inputs;
 use sk_base::Bounds;
 use sk_cnf::Encoded;
+use sk_limits::number_of;
 use sk_model::{Choice, Expanded, Input, Obligation};
 use sk_oblig_queries::{Query, bits_of_names, input_of_bits, obligations};
 use std::alloc::{AllocError, Global};
@@ -32,7 +33,7 @@ fn bad_input(
     requires range { InRange expanded.now choice.now }
     requires query { query.now ≡ query_form.Bad choice.now limit }
     requires found { slice_get (obligations expanded.now.prog) number ≡ Some obligation }
-    ensures { IfOk result (λ found. IfSome found (λ input. IsBad expanded.now bounds.now choice.now limit input)) }
+    ensures { IfOk result (IsSaidAt expanded.now bounds.now choice.now limit number bits.now) }
 {
     if !has_inputs(&expanded.prog, obligation) {
         return Ok(None);
@@ -46,18 +47,8 @@ fn bad_input(
     Ok(Some(input))
 }
 
-// The place of an obligation as an input has it. More than can be numbered count as want of memory.
-fn number_of(place: usize) -> Result<u32, AllocError>
-    ensures { IfOk result (λ number. number ≡ place) }
-{
-    match u32::try_from(place) {
-        Ok(number) => Ok(number),
-        Err(_) => Err(AllocError),
-    }
-}
-
-// The first input that the bits of a query say which speaks against the choice. Where none does, which is never where the
-// bits say what the query asks for, that counts as want of memory.
+// The first input of these obligations that the bits of a query say which speaks against the choice, if one does.
+#[tactic(auto, using(crate::proofs::Answering::first))]
 fn first_bad(
     alloc: Global,
     expanded: &Expanded,
@@ -67,12 +58,12 @@ fn first_bad(
     bits: &[bool],
     choice: &Choice,
     limit: Option<u64>,
-) -> Result<Input, AllocError>
+) -> Result<Option<Input>, AllocError>
     requires askable { IsAskable expanded.now bounds.now }
     requires range { InRange expanded.now choice.now }
     requires query { query.now ≡ query_form.Bad choice.now limit }
     requires listed { listed.now ≡ obligations expanded.now.prog }
-    ensures { IfOk result (λ input. IsBad expanded.now bounds.now choice.now limit input) }
+    ensures { IfOk result (IsSaid expanded.now bounds.now choice.now limit bits.now) }
 {
     for place in 0..listed.len() {
         let number = number_of(place)?;
@@ -80,11 +71,45 @@ fn first_bad(
         let found = bad_input(
             alloc, expanded, bounds, query, number, obligation, bits, choice, limit,
         )?;
-        if let Some(input) = found {
-            return Ok(input);
+        if found.is_some() {
+            return Ok(found);
         }
     }
-    Err(AllocError)
+    Ok(None)
+}
+
+/// The first input that bits say, as those of a query `Bad`, which speaks against its choice; none only where they say what no such query
+/// asks for.
+///
+/// # Errors
+///
+/// Memory is wanting, or what `execute` counts as that.
+pub fn bad_said(
+    alloc: Global,
+    expanded: &Expanded,
+    bounds: &Bounds,
+    query: &Query,
+    bits: &[bool],
+    choice: &Choice,
+    limit: Option<u64>,
+) -> Result<Option<Input>, AllocError>
+    requires askable { IsAskable expanded.now bounds.now }
+    requires range { InRange expanded.now choice.now }
+    requires query { query.now ≡ query_form.Bad choice.now limit }
+    ensures { IfOk result (IsSaid expanded.now bounds.now choice.now limit bits.now) }
+{
+    let all = obligations(alloc, &expanded.prog)?;
+    let found = first_bad(
+        alloc,
+        expanded,
+        bounds,
+        query,
+        all.as_slice(),
+        bits,
+        choice,
+        limit,
+    )?;
+    Ok(found)
 }
 
 /// The input that values of all variables say by the names of a formula for a query that asks for one: where they meet the
@@ -111,18 +136,19 @@ pub fn input_of(
     let bits = bits_of_names(alloc, encoded, found)?;
     match query {
         Query::Bad { choice, limit } => {
-            let all = obligations(alloc, &expanded.prog)?;
-            let input = first_bad(
+            let said = bad_said(
                 alloc,
                 expanded,
                 bounds,
                 query,
-                all.as_slice(),
                 bits.as_slice(),
                 choice,
                 *limit,
             )?;
-            Ok(input)
+            match said {
+                Some(input) => Ok(input),
+                None => unreachable!(),
+            }
         }
         Query::BadAt { obligation, .. } => {
             let input = input_of_bits(
@@ -135,6 +161,6 @@ pub fn input_of(
             )?;
             Ok(input)
         }
-        Query::Wanted { .. } => Err(AllocError),
+        Query::Wanted { .. } => unreachable!(),
     }
 }

@@ -1,6 +1,6 @@
 //! Whether arguments speak against a choice, and what the choice costs on an input.
 
-ghost use Rattle.std.specs.Prelude.{◌≡◌, ◌↔◌, true, slice_get, Some, IfOk};
+ghost use Rattle.std.specs.Prelude.{◌≡◌, ◌↔◌, true, slice_get, Some, IfOk, IsSome};
 ghost use Rattle.sk_dag.specs.Graph.{HasBool, HasCost};
 ghost use Rattle.sk_model.specs.declared.outcome.Outcome.{Outcome};
 ghost use Rattle.sk_model.specs.Fill.{InRange, fill};
@@ -23,14 +23,15 @@ use sk_prog::{FunId, Prog, Value};
 use sk_sym::{SymOutcome, execute};
 use std::alloc::{AllocError, Global};
 
-// The obligation of an input. One of none, which no input is, counts as want of memory.
+// The obligation of an input.
 fn obligation_of(alloc: Global, prog: &Prog, input: &Input) -> Result<Obligation, AllocError>
+    requires { IsSome (slice_get (obligations prog.now) input.now.obligation) }
     ensures { IfOk result (λ o. slice_get (obligations prog.now) input.now.obligation ≡ Some o) }
 {
     let all = obligations(alloc, prog)?;
     match all.get(input.obligation as usize) {
         Some(obligation) => Ok(*obligation),
-        None => Err(AllocError),
+        None => unreachable!(),
     }
 }
 

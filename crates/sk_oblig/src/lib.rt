@@ -10,7 +10,7 @@ mod range;
 mod wanted;
 
 pub use formulas::formula;
-pub use inputs::input_of;
+pub use inputs::{bad_said, input_of};
 pub use judging::cost_of;
 pub use range::in_range;
 pub use wanted::is_fine;

@@ -9,6 +9,7 @@ ghost use Rattle.sk_oblig_queries.specs.Numbers.{bits_of_size};
 ghost use Rattle.sk_oblig.specs.Nodes.{SaysInRange};
 
 use sk_dag::{BoolId, Dag};
+use sk_limits::behind;
 use sk_model::Site;
 use sk_sym_folds::{and, flag, not, or};
 use std::alloc::AllocError;
@@ -91,16 +92,6 @@ fn is_below(dag: &mut Dag, site: u32, size: u64) -> Result<BoolId, AllocError>
     let above = exceeds_low(dag, site, width_of(size - 1), size - 1)?;
     let r = not(dag, above)?;
     Ok(r)
-}
-
-// The place behind one. More than can be numbered count as want of memory.
-fn behind(place: u32) -> Result<u32, AllocError>
-    ensures { IfOk result (λ next. next ≡ place + 1) }
-{
-    match place.checked_add(1) {
-        Some(next) => Ok(next),
-        None => Err(AllocError),
-    }
 }
 
 /// Whether each value of the choice is below the size of its site, where none has more bits than the size asks for.

@@ -1,6 +1,6 @@
 //! Arguments as shapes over the scalars of the input.
 
-ghost use Rattle.std.specs.Prelude.{◌≡◌, ◌+◌, ◌*◌, IfOk, replicate};
+ghost use Rattle.std.specs.Prelude.{◌≡◌, ◌<◌, ◌+◌, ◌*◌, IfOk, OnErr, replicate};
 ghost use Rattle.sk_dag.specs.Eval.{Keeps};
 ghost use Rattle.sk_oblig_arguments.specs.Arguments.{AllRead, AreArguments, ReadsElem, ReadsValue};
 ghost use Rattle.sk_prog.specs.declared.ty.Elem.TheVariants as elem;
@@ -10,19 +10,18 @@ ghost use Rattle.sk_oblig_queries.specs.Widths.{elem_width, numbers_of as count_
 use crate::constant::constant_null;
 use sk_base::List;
 use sk_dag::{Dag, Shape};
+use sk_limits::too_many;
 use sk_prog::{Elem, ParamDef, Ty};
 use std::alloc::{AllocError, Global};
 
-// A later scalar. More than can be numbered count as want of memory.
+// A later scalar. It is refused where it has no room in 32 bits.
 fn later(first: u32, count: u64) -> Result<u32, AllocError>
-    ensures { IfOk result (λ at. at ≡ first + count) }
+    ensures at { IfOk result (λ at. at ≡ first + count) }
+    ensures refused { OnErr result (4294967295 < first + count) }
 {
-    let Some(at) = u64::from(first).checked_add(count) else {
-        return Err(AllocError);
-    };
-    match u32::try_from(at) {
+    match u32::try_from(u128::from(first) + u128::from(count)) {
         Ok(at) => Ok(at),
-        Err(_) => Err(AllocError),
+        Err(_) => Err(too_many()),
     }
 }
 

@@ -9,12 +9,13 @@ ghost use Rattle.sk_prog.specs.declared.value.Value.TheVariants as value;
 
 use sk_base::{List, wrap};
 use sk_dag::{Dag, Shape, Targets, WordId};
+use sk_limits::never;
 use sk_prog::Value;
 use sk_sym_folds::{flag, word};
 use smallvec::SmallVec;
 use std::alloc::{AllocError, Global};
 
-// A word that is given. A number that is none of the width counts as want of memory.
+// A word that is given. Each `int` of an input in range is one of the width.
 fn word_if(dag: &mut Dag, number: i64) -> Result<WordId, AllocError>
     ensures keeps { Keeps dag.old dag.new }
     ensures there { IfOk result (λ r. HasWord dag.new.nodes r) }
@@ -22,7 +23,7 @@ fn word_if(dag: &mut Dag, number: i64) -> Result<WordId, AllocError>
 {
     let wrapped = wrap(dag.int_bits(), number);
     if wrapped != number {
-        return Err(AllocError);
+        return Err(never());
     }
     let r = word(dag, wrapped)?;
     Ok(r)
@@ -52,7 +53,7 @@ pub(crate) fn constant_null(alloc: Global) -> Shape
     })
 }
 
-/// A value as a shape. One that names a record, or an `int` that is no word of the width, counts as want of memory.
+/// A value as a shape. No value of an input names a record.
 #[cycle(constant)]
 #[tactic(auto, using(crate::proofs::Shaping::arrays))]
 pub(crate) fn constant(alloc: Global, dag: &mut Dag, value: &Value) -> Result<Shape, AllocError>
@@ -69,7 +70,7 @@ pub(crate) fn constant(alloc: Global, dag: &mut Dag, value: &Value) -> Result<Sh
             Ok(r)
         }
         Value::Null => Ok(constant_null(alloc)),
-        Value::Place(_) => Err(AllocError),
+        Value::Place(_) => Err(never()),
         Value::Array(values) => {
             let parts = constants(alloc, dag, values.as_slice())?;
             Ok(Shape::Array(parts))

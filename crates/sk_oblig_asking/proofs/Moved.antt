@@ -1,5 +1,5 @@
 -- A node that says what one of another graph says.
-use Rattle.std.proofs.Common.{◌≡◌, ℕ, List, [], ◌∷◌, slice_get, Option, Some, refl, sym, ap, ◌∙◌}
+use Rattle.std.proofs.Common.{◌≡◌, ℕ, List, [], ◌∷◌, slice_get, Option, Some, refl, sym, ◌∙◌}
 use Rattle.sk_base.specs.declared.bounds.Bounds.{Bounds}
 use Rattle.sk_dag.specs.declared.env.Env.{Env}
 use Rattle.sk_dag.specs.declared.node.BoolId.{BoolId}
@@ -13,12 +13,10 @@ use Rattle.sk_model.specs.declared.expanded.Input.{Input}
 use Rattle.sk_oblig.specs.Nodes.{SaysFine}
 use Rattle.sk_oblig.proofs.Whole.{root_there}
 
-pub moved_value : {old new to : Graph} (root simple r : BoolId) (made : List BoolId) → KeepsRoots old (root ∷ []) new made → made ≡ simple ∷ []
+pub moved_value : {old new to : Graph} (root simple r : BoolId) (made : List BoolId) → KeepsRoots old (root ∷ []) new made → slice_get made 0 ≡ Some simple
     → ((g : Graph) → Grows to g → (e : Env) → bool_value g e r ≡ bool_value new e simple)
     → (g : Graph) → Grows to g → (e : Env) → bool_value g e r ≡ bool_value old e root
-moved_value {old} {new} {to} root simple r made keeps is same g m e =
-    let here : slice_get made 0 ≡ Some simple = ap (λ (ms : List BoolId). slice_get ms 0) is in
-    same g m e ∙ keeps.value 0 root simple refl here new (Grows-refl new) e
+moved_value {old} {new} {to} root simple r made keeps is same g m e = same g m e ∙ keeps.value 0 root simple refl is new (Grows-refl new) e
 
 pub fine_moved : {d to : Graph} {x : Expanded} {bounds : Bounds} {limit : Option ℕ} {input : Input} (fine r : BoolId) → SaysFine d x bounds limit input fine → HasBool to.nodes r
     → ((g : Graph) → Grows to g → (e : Env) → bool_value g e r ≡ bool_value d e fine) → SaysFine to x bounds limit input r

@@ -1,6 +1,6 @@
 //! What an input asks of a choice, in a graph that holds more.
 
-ghost use Rattle.std.specs.Prelude.{◌≡◌, ◌∷◌, [], IfOk};
+ghost use Rattle.std.specs.Prelude.{◌≡◌, ◌<◌, length, slice_get, Some, IfOk};
 ghost use Rattle.sk_dag.specs.declared.env.Env.{Env};
 ghost use Rattle.sk_dag.specs.Graph.{Graph, Grows, HasBool};
 ghost use Rattle.sk_dag.specs.Eval.{bool_value, Keeps};
@@ -9,21 +9,18 @@ ghost use Rattle.sk_oblig.specs.Nodes.{SaysFine};
 
 use sk_base::Bounds;
 use sk_dag::{BoolId, Dag};
-use sk_limits::never;
 use sk_model::{Expanded, Input};
 use sk_oblig::is_fine;
 use sk_oblig_queries::obligations;
 use sk_simplify::simplify;
 use std::alloc::{AllocError, Global};
 
-// The one root of a simpler graph of one root.
-fn single(roots: &[BoolId]) -> Result<BoolId, AllocError>
-    ensures { IfOk result (λ r. roots.now ≡ r ∷ []) }
+// The first of some roots.
+fn first(roots: &[BoolId]) -> BoolId
+    requires { 0 < length roots.now }
+    ensures { slice_get roots.now 0 ≡ Some result }
 {
-    match roots {
-        [root] => Ok(*root),
-        _ => Err(never()),
-    }
+    roots[0]
 }
 
 // A node with the value of one of another graph, which is simplified on the way.
@@ -36,7 +33,7 @@ fn moved(alloc: Global, to: &mut Dag, dag: &Dag, root: BoolId) -> Result<BoolId,
     ensures value { IfOk result (λ r. (g : Graph) → Grows to.new g → (e : Env) → bool_value g e r ≡ bool_value dag.now e root) }
 {
     let made = simplify(alloc, dag, &[root])?;
-    let simple = single(made.roots.as_slice())?;
+    let simple = first(made.roots.as_slice());
     let r = to.graft(&made.dag, simple)?;
     Ok(r)
 }

@@ -1,6 +1,6 @@
 -- Two shapes that name no records are seen as the same exactly where they are worth the same.
-use Rattle.std.proofs.Common.{◌≡◌, ℕ, Bool, true, false, List, [], map, Option, Some, None, ◌↔◌, refl, sym, ap, subst, ◌∙◌}
-use Rattle.std.proofs.lemmas.Option.{same_Some}
+use Rattle.std.proofs.Common.{◌≡◌, true, false, true≢false, List, [], Option, Some, None, ◌↔◌, refl, sym, ap, ◌∙◌}
+use Rattle.std.proofs.lemmas.Option.{same_Some, none-some}
 use Rattle.sk_dag.specs.declared.env.Env.{Env}
 use Rattle.sk_dag.specs.declared.node.BoolId.{BoolId}
 use Rattle.sk_dag.specs.declared.shape.Shape.{Shape}
@@ -8,17 +8,16 @@ use Rattle.sk_dag.specs.declared.shape.Shape.TheVariants as shape
 use Rattle.sk_dag.specs.Graph.{Graph, Grows, HasBool}
 use Rattle.sk_dag.specs.Eval.{bool_value}
 use Rattle.sk_dag.specs.EvalShape.{shape_value}
-use Rattle.sk_arr.specs.Answers.{shapes_value, IsEquality}
+use Rattle.sk_arr.specs.Answers.{IsEquality}
 use Rattle.sk_arr.proofs.Standing.{array_stands}
 use Rattle.sk_prog.specs.declared.value.Value.{Value}
 use Rattle.sk_prog.specs.declared.value.Value.TheVariants as value
 use Rattle.sk_prog.specs.declared.value.Value.TheOpen as V
 use Rattle.sk_prog.specs.declared.value.Value.TheViews.{out-Value, rolls-Array, out-roll-Value}
 use Rattle.sk_model.specs.Values.{equal, elements, elements_of}
-use Rattle.sk_heap.specs.declared.slot.Slot.{Slot}
-use Rattle.sk_heap_laws.specs.Values.{place_of, holds_in, value_of, value_in, IsLive}
+use Rattle.sk_heap_laws.specs.Values.{place_of, holds_in, value_of, value_in}
 use Rattle.sk_heap_laws.proofs.Equals.{equal_self, equal_is}
-use Rattle.sk_sym_state.specs.Seen.{IsWorth, AreWorth}
+use Rattle.sk_sym_state.specs.Seen.{IsWorth}
 use Rattle.sk_sym.specs.Outcome.{ResultSays}
 use Rattle.sk_oblig_arguments.proofs.Shaping.{array_worth}
 use Rattle.sk_oblig_checks.specs.Checks.{Agrees, ResultsAgree, AllAgree}
@@ -54,6 +53,23 @@ some_agree {d} {a} {b} {r} is = record { there = is.there; value = λ g e v w gr
     by g e None w grows x y = absurd x
     by g e (Some v) None grows x y = absurd y
     by g e (Some v) (Some w) grows x y = (λ h. ap Some ((is.value g e v w grows x y).0 h), λ h. (is.value g e v w grows x y).1 (same_Some v w h))
+
+-- a result on one side only
+pub none_and_some : {d : Graph} {a : Shape} {r : BoolId} → HasBool d.nodes r → ((g : Graph) → Grows d g → (e : Env) → bool_value g e r ≡ false) → ResultsAgree d None (Some a) r
+none_and_some {d} {a} {r} there never = record { there = there; value = λ g e v w grows x y. by g e v w grows x y }
+  where
+    by : (g : Graph) (e : Env) (v w : Option Value) → Grows d g → ResultSays g e None v → ResultSays g e (Some a) w → (bool_value g e r ≡ true) ↔ (v ≡ w)
+    by g e None None grows x y = absurd y
+    by g e None (Some w) grows x y = (λ h. absurd (true≢false (sym h ∙ never g grows e)), λ same. absurd (none-some w same))
+    by g e (Some v) w grows x y = absurd x
+
+pub some_and_none : {d : Graph} {a : Shape} {r : BoolId} → HasBool d.nodes r → ((g : Graph) → Grows d g → (e : Env) → bool_value g e r ≡ false) → ResultsAgree d (Some a) None r
+some_and_none {d} {a} {r} there never = record { there = there; value = λ g e v w grows x y. by g e v w grows x y }
+  where
+    by : (g : Graph) (e : Env) (v w : Option Value) → Grows d g → ResultSays g e (Some a) v → ResultSays g e None w → (bool_value g e r ≡ true) ↔ (v ≡ w)
+    by g e None w grows x y = absurd x
+    by g e (Some v) None grows x y = (λ h. absurd (true≢false (sym h ∙ never g grows e)), λ same. absurd (none-some v (sym same)))
+    by g e (Some v) (Some w) grows x y = absurd y
 
 elements_array : (vs : List Value) → elements (value.Array vs) ≡ vs
 elements_array vs = ap elements_of (ap out-Value (sym (rolls-Array vs)) ∙ out-roll-Value (V.Array vs))

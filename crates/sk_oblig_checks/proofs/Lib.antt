@@ -1,3 +1,4 @@
+pub mod Unlike
 pub mod Agreeing
 pub mod Endings
 pub mod Checks

@@ -13,7 +13,7 @@ use sk_sym_folds::flag;
 use sk_sym_state::alike;
 use std::alloc::AllocError;
 
-/// Whether two values are the same that name no records. Values of different forms count as want of memory.
+/// Whether two values are the same that name no records. Values of different forms are not.
 #[tactic(auto, using(crate::proofs::Agreeing::agrees))]
 fn agree(dag: &mut Dag, a: &Shape, b: &Shape) -> Result<BoolId, AllocError>
     requires a { Stands dag.old a.now }
@@ -22,7 +22,8 @@ fn agree(dag: &mut Dag, a: &Shape, b: &Shape) -> Result<BoolId, AllocError>
     ensures agrees { IfOk result (λ r. Agrees dag.new a.now b.now r) }
 {
     if !alike(a, b) {
-        return Err(AllocError);
+        let r = flag(dag, false)?;
+        return Ok(r);
     }
     let r = same(dag, a, b)?;
     Ok(r)
@@ -38,7 +39,7 @@ fn agree_on_none(dag: &mut Dag) -> Result<BoolId, AllocError>
     Ok(r)
 }
 
-/// Whether two results are the same that name no records. Where only one is there it counts as want of memory.
+/// Whether two results are the same that name no records. Where only one is there they are not.
 #[tactic(auto, using(crate::proofs::Agreeing::some_agree))]
 pub(crate) fn agree_on_results(
     dag: &mut Dag,
@@ -56,10 +57,16 @@ pub(crate) fn agree_on_results(
                 let r = agree_on_none(dag)?;
                 Ok(r)
             }
-            Some(_) => Err(AllocError),
+            Some(_) => {
+                let r = flag(dag, false)?;
+                Ok(r)
+            }
         },
         Some(x) => match b {
-            None => Err(AllocError),
+            None => {
+                let r = flag(dag, false)?;
+                Ok(r)
+            }
             Some(y) => {
                 let r = agree(dag, x, y)?;
                 Ok(r)
@@ -68,7 +75,7 @@ pub(crate) fn agree_on_results(
     }
 }
 
-/// Whether two lists of values are the same that name no records. Lists of different forms count as want of memory.
+/// Whether two lists of values are the same that name no records. Lists of different forms are not.
 #[tactic(auto, using(crate::proofs::Agreeing::lists))]
 pub(crate) fn agree_on_all(
     dag: &mut Dag,

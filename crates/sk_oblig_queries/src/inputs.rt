@@ -1,6 +1,6 @@
 //! The input of an obligation that bits say.
 
-ghost use Rattle.std.specs.Prelude.{◌≡◌, ◌≤◌, IfOk};
+ghost use Rattle.std.specs.Prelude.{◌≡◌, ◌≤◌, ◌^◌, IfOk, OnErr};
 ghost use Rattle.sk_prog.specs.declared.ty.Elem.TheVariants as elem;
 ghost use Rattle.sk_oblig_queries.specs.Queries.{input_of_query};
 ghost use Rattle.sk_oblig_queries.specs.Said.{args_said, elem_said, first_of, row_said, rows_said, value_said};
@@ -10,6 +10,7 @@ use crate::query::Query;
 use crate::slices::behind;
 use crate::widths::{first_number, numbers_of, params_at, widths_of};
 use sk_base::{Bounds, List};
+use sk_limits::never;
 use sk_model::{Expanded, Input};
 use sk_prog::{Elem, ParamDef, Ty, Value};
 use std::alloc::{AllocError, Global};
@@ -24,13 +25,14 @@ fn first_of(numbers: &[u64]) -> u64
     }
 }
 
-// An `int` that is too great for a value counts as want of memory.
+// An `int`. No input has one of more than 32 bits, so each has room in a value.
 fn int_of(number: u64) -> Result<Value, AllocError>
-    ensures { IfOk result (λ value. value ≡ elem_said elem.Int number) }
+    ensures int { IfOk result (λ value. value ≡ elem_said elem.Int number) }
+    ensures refused { OnErr result (2 ^ 63 ≤ number) }
 {
     match i64::try_from(number) {
         Ok(int) => Ok(Value::Int(int)),
-        Err(_) => Err(AllocError),
+        Err(_) => Err(never()),
     }
 }
 

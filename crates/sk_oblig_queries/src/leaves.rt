@@ -10,6 +10,7 @@ use crate::query::Query;
 use crate::widths::widths_of;
 use sk_base::{Bounds, List};
 use sk_cnf::Leaf;
+use sk_limits::number_of;
 use sk_model::Expanded;
 use std::alloc::{AllocError, Global};
 
@@ -21,16 +22,6 @@ fn leaf_of(query: &Query, place: u32, k: u32) -> Leaf
         Query::Bad { .. } => Leaf::Input { scalar: place, k },
         Query::BadAt { .. } => Leaf::Input { scalar: place, k },
         Query::Wanted { .. } => Leaf::Hole { site: place, k },
-    }
-}
-
-// The place as a leaf has it. More than can be numbered count as want of memory.
-fn place_of(place: usize) -> Result<u32, AllocError>
-    ensures { IfOk result (λ p. p ≡ place) }
-{
-    match u32::try_from(place) {
-        Ok(p) => Ok(p),
-        Err(_) => Err(AllocError),
     }
 }
 
@@ -53,7 +44,7 @@ fn leaves_of_widths(alloc: Global, query: &Query, widths: &[u32]) -> Result<List
 {
     let mut leaves = List::new(alloc);
     for i in 0..widths.len() {
-        let place = place_of(i)?;
+        let place = number_of(i)?;
         push_bits(&mut leaves, query, place, widths[i])?;
     }
     Ok(leaves)

@@ -4,19 +4,10 @@ ghost use Rattle.std.specs.Prelude.{◌≡◌, ◌++◌, IfOk, OnOk};
 ghost use Rattle.sk_model.specs.Obligations.{obligations, of_fun, of_kind, of_reference};
 
 use sk_base::List;
+use sk_limits::number_of;
 use sk_model::Obligation;
 use sk_prog::{Fun, FunId, FunKind, Prog};
 use std::alloc::{AllocError, Global};
-
-// The function with a number. More than can be numbered count as want of memory.
-fn id_of(number: usize) -> Result<FunId, AllocError>
-    ensures { IfOk result (λ f. f.index ≡ number) }
-{
-    match u32::try_from(number) {
-        Ok(index) => Ok(FunId { index }),
-        Err(_) => Err(AllocError),
-    }
-}
 
 fn push_kind(list: &mut List<Obligation>, f: FunId, kind: FunKind) -> Result<(), AllocError>
     ensures { OnOk result (list.new ≡ list.old ++ of_kind f kind) }
@@ -55,7 +46,8 @@ pub fn obligations(alloc: Global, prog: &Prog) -> Result<List<Obligation>, Alloc
 {
     let mut list = List::new(alloc);
     for (n, fun) in prog.funs.as_slice().iter().enumerate() {
-        let f = id_of(n)?;
+        let index = number_of(n)?;
+        let f = FunId { index };
         push_fun(&mut list, f, fun)?;
     }
     Ok(list)

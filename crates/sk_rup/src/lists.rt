@@ -77,9 +77,7 @@ impl Lists {
             len: 0,
             room: 0,
         };
-        let mut blocks = vec![in alloc; none; vars]?;
-        let negative = vec![in alloc; none; vars]?;
-        blocks.extend_from_slice(&negative)?;
+        let blocks = vec![in alloc; none; vars.saturating_mul(2)]?;
         Ok(Lists {
             blocks,
             watches: Vec::new(alloc),

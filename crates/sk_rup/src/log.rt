@@ -79,13 +79,16 @@ fn follow_all(checker: &mut Checker, log: &Log) -> Result<bool, AllocError>
 }
 
 /// Whether each clause of the log follows by reverse unit propagation from the clauses and what stands before it in
-/// the log. The only refusal is want of memory, which a clause with a variable from 2^31 on counts as.
+/// the log. It takes memory for each variable up to the greatest that stands in one of them, and none for the others. The only
+/// refusal is want of memory, which a clause with a variable from 2^31 on counts as.
 #[tactic(auto, using(crate::proofs::LogLemmas::logs))]
 pub fn each_follows(alloc: Global, clauses: &Clauses, log: &Log) -> Result<bool, AllocError>
     ensures { IfOk result (λ b. IsTrue b ↔ EachFollows clauses.now.clauses log.now) }
 {
-    let vars = vars_of(log, clauses.vars())?;
-    let mut checker = checker_of(alloc, vars, clauses.list())?;
+    let list = clauses.list();
+    let named = vars_of(list, 0)?;
+    let vars = vars_of(log, named)?;
+    let mut checker = checker_of(alloc, vars, list)?;
     let each = follow_all(&mut checker, log)?;
     Ok(each)
 }

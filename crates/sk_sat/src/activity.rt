@@ -33,6 +33,8 @@ pub struct Activity {
     places: Vec<u32>,
     /// Of each variable whether it is never decided.
     hidden: Vec<bool>,
+    /// Of each variable whether it is not to be hidden.
+    lasting: Vec<bool>,
 }
 
 // A sixteenth more, at least 1.
@@ -63,6 +65,7 @@ impl Activity {
             heap: Vec::new(alloc),
             places: Vec::new(alloc),
             hidden: Vec::new(alloc),
+            lasting: Vec::new(alloc),
         }
     }
 
@@ -75,6 +78,7 @@ impl Activity {
             self.target.push(None)?;
             self.places.push(NONE)?;
             self.hidden.push(false)?;
+            self.lasting.push(false)?;
         }
         self.heap.reserve(n.saturating_sub(self.heap.len()))?;
         for v in first..n {
@@ -198,13 +202,26 @@ impl Activity {
         }
     }
 
-    /// No variable is hidden any more.
-    pub fn show_all(&mut self) {
-        for v in 0..self.hidden.len() {
-            if v < self.hidden.len() && self.hidden[v] {
-                self.hidden[v] = false;
-                self.put(v);
+    /// Whether a variable is hidden, or is not to be hidden.
+    pub fn is_fixed(&self, v: usize) -> bool {
+        self.is_hidden(v) || v < self.lasting.len() && self.lasting[v]
+    }
+
+    /// Added clauses name a variable: where it was hidden, it is hidden no more, and is not to be hidden again.
+    pub fn name(&mut self, v: usize) {
+        if self.is_hidden(v) {
+            self.show(v);
+            if v < self.lasting.len() {
+                self.lasting[v] = true;
             }
+        }
+    }
+
+    /// A variable is hidden no more.
+    pub fn show(&mut self, v: usize) {
+        if v < self.hidden.len() && self.hidden[v] {
+            self.hidden[v] = false;
+            self.put(v);
         }
     }
 

@@ -1,22 +1,28 @@
 // The variables that were eliminated, and what gives their values back.
 ghost use Rattle.std.specs.Prelude.{◌≡◌, ◌<◌, length, None, IfSome, slice_index_or};
 
-use crate::activity::is_free;
+use crate::activity::{Activity, is_free};
 use crate::codes::is_true;
 use crate::known::Known;
 use crate::packed::Packed;
+use crate::watches::Watches;
 use sk_clause::Lit;
 use std::alloc::{AllocError, Global};
 
-/// So many conflicts stand before the first elimination of variables. Each later one waits twice as long.
-const FIRST: u64 = 300;
+/// So many conflicts, of whichever searches, stand before each elimination of variables.
+const WAIT: u64 = 300;
 
-/// A literal of an eliminated variable, and which of the clauses kept have it.
+/// A literal of an eliminated variable, which of the clauses kept have it, and which known clauses are its resolvents.
 #[derive(Clone, Copy, Drop)]
 struct Removed {
     lit: Lit,
+    /// Here begin the clauses with the literal, then those with its negation, and here they end.
     start: usize,
+    middle: usize,
     end: usize,
+    /// The numbers of the first resolvent, and of the first clause behind the last one.
+    first: usize,
+    last: usize,
 }
 
 /// The eliminated variables in the order in which they went. No contract says that their values are right: wrong ones
@@ -27,8 +33,10 @@ pub struct Eliminated {
     clauses: Vec<usize>,
     /// So many of them, from the first on, may have no value.
     left: usize,
-    /// So many conflicts of a search stand before the next elimination.
-    due: u64,
+    /// Whether there are clauses that no elimination has seen.
+    grown: bool,
+    /// How many conflicts came since the last one.
+    passed: u64,
 }
 
 /// Whether a clause has a true literal.
@@ -46,6 +54,13 @@ fn is_unmet(values: &[Option<bool>], known: &Known, i: usize) -> bool {
     i < known.len() && !is_met(values, known.get(i))
 }
 
+// The variables of a known clause are hidden no more.
+fn show(activity: &mut Activity, clause: &[Packed]) {
+    for packed in clause {
+        activity.show(packed.lit().var);
+    }
+}
+
 impl Eliminated {
     /// None. It takes no memory.
     pub fn new(alloc: Global) -> Eliminated {
@@ -53,44 +68,127 @@ impl Eliminated {
             removed: Vec::new(alloc),
             clauses: Vec::new(alloc),
             left: 0,
-            due: FIRST,
+            grown: true,
+            passed: 0,
         }
     }
 
-    /// Whether there are none.
-    pub fn is_empty(&self) -> bool {
-        self.removed.is_empty()
+    /// Counts a conflict. Whether it is time for an elimination.
+    pub fn count(&mut self) -> bool {
+        self.passed = self.passed.saturating_add(1);
+        self.grown && self.passed >= WAIT
     }
 
-    /// Whether it is time for an elimination after so many conflicts of a search.
-    pub fn is_due(&self, conflicts: u64) -> bool {
-        self.removed.is_empty() && conflicts >= self.due
+    /// There are clauses that no elimination has seen.
+    pub fn expect(&mut self) {
+        self.grown = true;
     }
 
-    /// The next elimination is to wait twice as long.
-    pub fn wait(&mut self) {
-        self.due = self.due.saturating_mul(2);
+    /// An elimination has seen all clauses.
+    pub fn finish(&mut self) {
+        self.grown = false;
+        self.passed = 0;
+        self.rewind();
     }
 
-    /// Takes a variable: a literal of it, and the clauses that have it.
-    pub fn push(&mut self, lit: Lit, clauses: &[usize]) -> Result<(), AllocError> {
-        let start = self.clauses.len();
+    // Puts clauses behind those kept.
+    fn extend(&mut self, clauses: &[usize]) -> Result<(), AllocError> {
         for i in clauses {
             self.clauses.push(*i)?;
         }
+        Ok(())
+    }
+
+    /// Takes a variable: a literal of it, the clauses that have it, those that have its negation, and the numbers of its
+    /// first resolvent and of the first clause behind the last one.
+    pub fn push(
+        &mut self,
+        lit: Lit,
+        clauses: &[usize],
+        others: &[usize],
+        first: usize,
+        last: usize,
+    ) -> Result<(), AllocError> {
+        let start = self.clauses.len();
+        self.extend(clauses)?;
+        let middle = self.clauses.len();
+        self.extend(others)?;
         self.removed.push(Removed {
             lit,
             start,
+            middle,
             end: self.clauses.len(),
+            first,
+            last,
         })?;
         Ok(())
     }
 
-    /// No variable is eliminated any more.
-    pub fn clear(&mut self) {
-        self.removed.clear();
-        self.clauses.clear();
-        self.left = 0;
+    // Moves the clauses of a variable down to a place. Where they end there.
+    fn shift(&mut self, removed: Removed, start: usize) -> usize {
+        let mut end = start;
+        for p in removed.start..removed.end {
+            if p < self.clauses.len() && end < self.clauses.len() {
+                self.clauses[end] = self.clauses[p];
+                end += 1;
+            }
+        }
+        end
+    }
+
+    // Moves a variable and its clauses down to places. Where the clauses end there.
+    fn keep(&mut self, removed: Removed, place: usize, start: usize) -> usize {
+        let end = self.shift(removed, start);
+        if place < self.removed.len() {
+            self.removed[place] = Removed {
+                start,
+                middle: start.saturating_add(removed.middle.saturating_sub(removed.start)),
+                end,
+                ..removed
+            };
+        }
+        end
+    }
+
+    // The clauses of a variable are back, and so are their variables.
+    fn bring_back(
+        &self,
+        removed: Removed,
+        known: &Known,
+        watches: &mut Watches,
+        activity: &mut Activity,
+    ) {
+        for p in removed.start..removed.end {
+            if p < self.clauses.len() && self.clauses[p] < known.len() {
+                watches.bring_back(self.clauses[p]);
+                show(activity, known.get(self.clauses[p]));
+            }
+        }
+        watches.retire(removed.first, removed.last);
+    }
+
+    /// Brings back the variables that are not hidden any more, and each later one that their clauses name. The watches
+    /// are to be made anew, if there were some.
+    pub fn restore(&mut self, known: &Known, watches: &mut Watches, activity: &mut Activity) {
+        let mut kept: usize = 0;
+        let mut end = 0;
+        for n in 0..self.removed.len() {
+            if n >= self.removed.len() {
+                break;
+            }
+            let removed = self.removed[n];
+            if activity.is_hidden(removed.lit.var) {
+                end = self.keep(removed, kept, end);
+                kept = kept.saturating_add(1);
+            } else {
+                self.bring_back(removed, known, watches, activity);
+            }
+        }
+        if kept < self.removed.len() {
+            self.removed.truncate(kept);
+            self.clauses.truncate(end);
+            watches.begin_anew();
+        }
     }
 
     /// Each of them may have no value.
@@ -103,7 +201,7 @@ impl Eliminated {
     fn wanted(&self, removed: Removed, values: &[Option<bool>], known: &Known) -> Lit
         ensures { result.var ≡ removed.lit.var }
     {
-        for p in removed.start..removed.end {
+        for p in removed.start..removed.middle {
             if p < self.clauses.len() && is_unmet(values, known, self.clauses[p]) {
                 return removed.lit;
             }

@@ -146,7 +146,8 @@ fn add_all(
     Ok(())
 }
 
-// Leaves a variable and its clauses out of the search. The clauses of one sign will give its value.
+// Leaves a variable and its clauses out of the search. The clauses of one sign will give its value. Its resolvents are
+// the clauses from one number up to another.
 fn leave_out(
     watches: &mut Watches,
     activity: &mut Activity,
@@ -154,11 +155,13 @@ fn leave_out(
     positive: &[usize],
     negative: &[usize],
     p: Lit,
+    first: usize,
+    last: usize,
 ) -> Result<(), AllocError> {
     if positive.len() <= negative.len() {
-        eliminated.push(p, positive)?;
+        eliminated.push(p, positive, negative, first, last)?;
     } else {
-        eliminated.push(p.negate(), negative)?;
+        eliminated.push(p.negate(), negative, positive, first, last)?;
     }
     watches.put_out(positive);
     watches.put_out(negative);
@@ -255,6 +258,7 @@ fn eliminate_one(
     if !found.is_cheap(known, watches, p, most)? {
         return Ok(());
     }
+    let first = known.len();
     add_all(
         known,
         fresh,
@@ -272,6 +276,8 @@ fn eliminate_one(
         &found.positive,
         &found.negative,
         p,
+        first,
+        known.len(),
     )
 }
 
@@ -290,7 +296,7 @@ fn pass(
     ensures { OnOk result (Gathers known.old known.new fresh.old fresh.new) }
 {
     for var in 0..values.len() {
-        if values[var].is_none() && !activity.is_hidden(var) {
+        if values[var].is_none() && !activity.is_fixed(var) {
             let p = Lit { var, neg: false };
             eliminate_one(known, fresh, watches, activity, eliminated, found, p, most)?;
         }
@@ -322,7 +328,6 @@ pub fn eliminate(
     }
     watches.drop_lessons(activity);
     watches.begin_anew();
-    eliminated.rewind();
-    eliminated.wait();
+    eliminated.finish();
     Ok(())
 }

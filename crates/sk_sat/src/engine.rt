@@ -43,6 +43,15 @@ fn known_of(alloc: Global, clauses: &ClauseList) -> Result<Known, AllocError>
     Ok(known)
 }
 
+// Clauses from a number on name their variables.
+fn name(activity: &mut Activity, clauses: &ClauseList, first: usize) {
+    for i in first..clauses.len() {
+        for l in clauses.get(i) {
+            activity.name(l.var);
+        }
+    }
+}
+
 #[tactic(auto, using(crate::proofs::EngineLemmas::engines))]
 impl Engine {
     /// So many variables, and the clauses that were learnt, but none of the added ones.
@@ -87,17 +96,16 @@ impl Engine {
         Ok(())
     }
 
-    // Brings the eliminated variables back.
-    fn wake(&mut self)
+    // Brings the eliminated variables back that added clauses name which it lacks, and those that they depend on.
+    fn wake(&mut self, added: &ClauseList)
         ensures known { self.new.known ≡ self.old.known }
         ensures trail { self.new.trail ≡ self.old.trail }
         ensures taken { self.new.taken ≡ self.old.taken }
     {
-        if !self.eliminated.is_empty() {
-            self.eliminated.clear();
-            self.activity.show_all();
-            self.watches.wake();
-        }
+        name(&mut self.activity, added, self.taken);
+        self.eliminated
+            .restore(&self.known, &mut self.watches, &mut self.activity);
+        self.eliminated.expect();
     }
 
     /// Takes the added clauses that it lacks.
@@ -111,7 +119,7 @@ impl Engine {
         ensures taken { OnOk result (self.new.taken ≡ length added.now) }
     {
         if self.taken < added.len() {
-            self.wake();
+            self.wake(added);
         }
         for i in self.taken..added.len() {
             self.known.push(added.get(i))?;

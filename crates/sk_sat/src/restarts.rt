@@ -145,12 +145,12 @@ impl Restarts {
         true
     }
 
-    /// Whether it is time for an elimination, which takes one of the restarts that may still come.
-    pub fn eliminates(&mut self, eliminated: &Eliminated) -> bool
+    /// Counts a conflict. Whether it is time for an elimination, which takes one of the restarts that may still come.
+    pub fn eliminates(&mut self, eliminated: &mut Eliminated) -> bool
         ensures due { result ≡ true → self.new.left + 1 ≡ self.old.left }
         ensures same { result ≡ false → self.new.left ≡ self.old.left }
     {
-        if self.left == 0 || !eliminated.is_due(self.conflicts) {
+        if self.left == 0 || !eliminated.count() {
             return false;
         }
         self.left -= 1;

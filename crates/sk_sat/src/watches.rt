@@ -28,6 +28,8 @@ enum Use {
     Last { at: u32, rest: u32 },
     /// It was added, and does not before its eliminated variable is back.
     Asleep,
+    /// The same of a resolvent.
+    Waiting,
     /// It never does again.
     Over,
 }
@@ -65,7 +67,7 @@ impl Use {
         match self {
             Use::Added | Use::Resolvent | Use::Always => false,
             Use::Last { at, rest } => at.saturating_add(rest) < now,
-            Use::Asleep | Use::Over => true,
+            Use::Asleep | Use::Waiting | Use::Over => true,
         }
     }
 
@@ -86,15 +88,16 @@ impl Use {
     fn put_out(self) -> Use {
         match self {
             Use::Added => Use::Asleep,
+            Use::Resolvent => Use::Waiting,
             _ => Use::Over,
         }
     }
 
-    // The use once all variables are back.
+    // The use once its eliminated variable is back.
     fn woken(self) -> Use {
         match self {
             Use::Asleep => Use::Added,
-            Use::Resolvent => Use::Over,
+            Use::Waiting => Use::Resolvent,
             other => other,
         }
     }
@@ -373,12 +376,20 @@ impl Watches {
         self.done = 0;
     }
 
-    /// No variable is eliminated any more: the clauses with them watch again, and resolvents do not.
-    pub fn wake(&mut self) {
-        for row in self.rows.iter_mut() {
-            row.used = row.used.woken();
+    /// The eliminated variable of a clause is back: it watches again once its watches are made anew.
+    pub fn bring_back(&mut self, i: usize) {
+        if i < self.rows.len() {
+            self.rows[i].used = self.rows[i].used.woken();
         }
-        self.begin_anew();
+    }
+
+    /// The variable of these resolvents is back: they watch no more.
+    pub fn retire(&mut self, first: usize, last: usize) {
+        for i in first..last {
+            if i < self.rows.len() {
+                self.rows[i].used = Use::Over;
+            }
+        }
     }
 
     // Makes the watches of clause i, if it has none, which watch nothing.

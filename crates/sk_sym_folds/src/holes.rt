@@ -15,18 +15,9 @@ ghost use Rattle.sk_sym_folds.specs.Chosen.{chosen_values};
 use crate::bits::{and, not, or};
 use sk_dag::word::wrap_unsigned;
 use sk_dag::{BoolId, Dag, WordId};
+use sk_limits::number_of;
 use sk_model::Choice;
 use std::alloc::AllocError;
-
-// The number by which a node names a site. More than can be named count as want of memory.
-fn number_of(site: usize) -> Result<u32, AllocError>
-    ensures { IfOk result (λ n. n ≡ site) }
-{
-    match u32::try_from(site) {
-        Ok(number) => Ok(number),
-        Err(_) => Err(AllocError),
-    }
-}
 
 // The value of a site under a choice.
 fn value_of(choice: &Choice, site: usize) -> u64

@@ -2,7 +2,7 @@
 use Rattle.std.proofs.lemmas.Bool.{ltb-true}
 use Rattle.std.proofs.lemmas.List.{take_more, take_all}
 use Rattle.std.proofs.lemmas.List.Elements.{All-head, All-tail}
-use Rattle.std.proofs.Common.{◌≡◌, ℕ, ℤ, pos, negsuc, ◌+◌, ◌<◌, ◌≤◌, Bool, true, false, true≢false, int_lt, List, [], ◌∷◌, ◌++◌, map, length, take, get_or, All, None, refl, sym, ap, subst, ◌∙◌, arith, if◌then◌else◌}
+use Rattle.std.proofs.Common.{◌≡◌, ℕ, ℤ, pos, negsuc, ◌+◌, ◌<◌, ◌≤◌, Bool, true, false, true≢false, int_lt, List, [], ◌∷◌, ◌++◌, map, length, take, get_or, All, Option, None, Some, refl, sym, ap, subst, ◌∙◌, arith, if◌then◌else◌}
 use Rattle.sk_base.specs.declared.span.Span.{Span}
 use Rattle.sk_dag.specs.declared.env.Env.{Env}
 use Rattle.sk_dag.specs.declared.node.BoolId.{BoolId}
@@ -31,7 +31,7 @@ use Rattle.sk_model.specs.Step.{pure}
 use Rattle.sk_model.specs.Values.{truth, elements_of}
 use Rattle.sk_model.specs.Operators.{bit, array_of, operand, Bits, sum_of, shift, moved_up, moved_down, on_operands}
 use Rattle.sk_heap_laws.specs.Values.{place_of, value_of, IsLive, AllLive}
-use Rattle.sk_heap_laws.proofs.Parts.{of_bit, of_array, live_bit, live_array, live_nil, live_cons}
+use Rattle.sk_heap_laws.proofs.Parts.{seen_law, of_bit, of_int, of_null, of_slot, of_array, live_bit, live_array, live_nil, live_cons}
 use Rattle.sk_sym_operators.specs.Worth.{worth, answered, bits_in}
 use Rattle.sk_sym_operators.specs.Answers.{IsComputed}
 use Rattle.sk_sym_operators.proofs.Operating.{worth_array, worth_int, lifted, OnForms}
@@ -85,7 +85,7 @@ tail_bits s list h = record { each = All-tail IsBit s list h.each }
 seen_is : (h : Graph) (e : Env) (s : Shape) (a : BoolId) → s ≡ shape.Bit a → shape_value h e s ≡ seen.Bit (bool_value h e a)
 seen_is h e s a is = ap (shape_value h e) is ∙ value_bit h e a
 
-bit_is : (p : ℕ → ℕ) (b : Bool) → bit (value_of p (seen.Bit b)) ≡ b
+pub bit_is : (p : ℕ → ℕ) (b : Bool) → bit (value_of p (seen.Bit b)) ≡ b
 bit_is p b = ap bit (of_bit p b)
 
 -- what bits are seen as
@@ -97,18 +97,14 @@ seen_as h e (s ∷ list) are =
     let itself : shape_value h e s ≡ seen.Bit (bit (value_of (λ n. 0) (shape_value h e s))) = look ∙ ap (λ b. seen.Bit b) (sym (ap (λ v. bit (value_of (λ n. 0) v)) look ∙ bit_is (λ n. 0) (bool_value h e one.0))) in
     λ i. itself i ∷ seen_as h e list (tail_bits s list are) i
 
-bits_live : (holds : ℕ → Bool) (h : Graph) (e : Env) (list : List Shape) → AreBits list → AllLive holds (shapes_value h e list)
+pub bits_live : (holds : ℕ → Bool) (h : Graph) (e : Env) (list : List Shape) → AreBits list → AllLive holds (shapes_value h e list)
 bits_live holds h e [] are = live_nil holds
 bits_live holds h e (s ∷ list) are =
     let one = head_bit s list are in
     live_cons holds (shape_value h e s) (shapes_value h e list) (subst (IsLive holds) (sym (seen_is h e s one.0 one.1)) (live_bit holds (bool_value h e one.0))) (bits_live holds h e list (tail_bits s list are))
 
-bits_pass : (test : ℕ → Bool) (list : List Shape) → AreBits list → AllSlotsPass test list
+pub bits_pass : (test : ℕ → Bool) (list : List Shape) → AreBits list → AllSlotsPass test list
 bits_pass test list are = record { each = λ i d lt. let one = the_bit (get_or list i d) (are.each i d lt) in subst (SlotsPass test) (sym one.1) (bit_passes test one.0) }
-
-bits_back : (p : ℕ → ℕ) (bs : List Bool) → map bit (map (value_of p) (seen_bits bs)) ≡ bs
-bits_back p [] = refl
-bits_back p (b ∷ bs) = λ i. bit_is p b i ∷ bits_back p bs i
 
 values_of_bits : (p : ℕ → ℕ) (bs : List Bool) → map (value_of p) (seen_bits bs) ≡ map truth bs
 values_of_bits p [] = refl
@@ -130,12 +126,28 @@ row_computed {g} {list} {fails} zs stand are there known = record {
         ap pure (sym (ap (value_of place) (value_array h e list ∙ ap (λ l. seen.Array l) (known h more e never))
         ∙ of_array place (seen_bits (zs h e)) ∙ ap (λ l. value.Array l) (values_of_bits place (zs h e))))
 
--- what an array of bits is as an operand
-pub row_operand : (holds : ℕ → Bool) (h : Graph) (e : Env) (a : Shape) (list : List Shape) → a ≡ shape.Array list → AreBits list → operand (worth holds h e a) ≡ Bits (bits_in h e list)
-row_operand holds h e a list is are =
+-- the bit of a value is where slots have any places
+bit_anywhere : (p q : ℕ → ℕ) (v : Seen) → bit (value_of p v) ≡ bit (value_of q v)
+bit_anywhere p q = seen_law (λ v. bit (value_of p v) ≡ bit (value_of q v))
+    (λ b. bit_is p b ∙ sym (bit_is q b))
+    (λ z. ap bit (of_int p z) ∙ sym (ap bit (of_int q z)))
+    slot
+    (λ vs below. ap bit (of_array p vs) ∙ sym (ap bit (of_array q vs)))
+  where
+    slot : (s : Option ℕ) → bit (value_of p (seen.Slot s)) ≡ bit (value_of q (seen.Slot s))
+    slot None = ap bit (of_null p) ∙ sym (ap bit (of_null q))
+    slot (Some n) = ap bit (of_slot p n) ∙ sym (ap bit (of_slot q n))
+
+bits_anywhere : (p : ℕ → ℕ) (h : Graph) (e : Env) (list : List Shape) → map bit (map (value_of p) (shapes_value h e list)) ≡ bits_in h e list
+bits_anywhere p h e [] = refl
+bits_anywhere p h e (s ∷ list) = λ i. bit_anywhere p (λ n. 0) (shape_value h e s) i ∷ bits_anywhere p h e list i
+
+-- what an array is as an operand
+pub row_operand : (holds : ℕ → Bool) (h : Graph) (e : Env) (a : Shape) (list : List Shape) → a ≡ shape.Array list → operand (worth holds h e a) ≡ Bits (bits_in h e list)
+row_operand holds h e a list is =
     ap operand (worth_array holds h e list is)
-    ∙ ap (λ l. Bits (map bit l)) (ap elements_of (outs-Values (map (value_of (place_of holds)) (shapes_value h e list))) ∙ ap (map (value_of (place_of holds))) (seen_as h e list are))
-    ∙ ap (λ l. Bits l) (bits_back (place_of holds) (bits_in h e list))
+    ∙ ap (λ l. Bits (map bit l)) (ap elements_of (outs-Values (map (value_of (place_of holds)) (shapes_value h e list))))
+    ∙ ap (λ l. Bits l) (bits_anywhere (place_of holds) h e list)
 
 -- ---- sums
 
@@ -144,7 +156,7 @@ summed {d} {g} {x} {y} {made} {a} {b} {fails} w same p q xs ys is keeps there ne
     subst (λ o. OnForms g w o a b (shape.Array made) fails) (sym same)
     (lifted (a ∷ b ∷ []) (λ h e holds span. on_operands w span op.Add (operand (worth holds h e a)) (operand (worth holds h e b)))
     (λ h more e holds live span.
-    (λ i. on_operands w span op.Add (row_operand holds h e a x p xs i) (row_operand holds h e b y q ys i))
+    (λ i. on_operands w span op.Add (row_operand holds h e a x p i) (row_operand holds h e b y q i))
     ∙ sym (ap (λ t. answered span t (array_of (sum_of (bits_in h e x) (bits_in h e y)))) (never h more e)))
     (row_computed (λ h e. sum_of (bits_in h e x) (bits_in h e y)) (AllStand-keeps keeps is.stand) is.bits there
     (λ h more e no_failure. is.value h (keeps.later h more) e (bits_in h e x) (bits_in h e y) (seen_as h e x xs) (seen_as h e y ys))))
@@ -179,7 +191,7 @@ shifted {g} {x} {made} {a} {b} {fails} w left count same p q xs is =
     subst (λ o. OnForms g w o a b (shape.Array made) fails) (sym same)
     (lifted (a ∷ b ∷ []) (λ h e holds span. on_operands w span (shift_of left) (operand (worth holds h e a)) (operand (worth holds h e b)))
     (λ h more e holds live span.
-    (λ i. on_operands w span (shift_of left) (row_operand holds h e a x p xs i) (operand (worth_int holds h e count q i)))
+    (λ i. on_operands w span (shift_of left) (row_operand holds h e a x p i) (operand (worth_int holds h e count q i)))
     ∙ as_shift left span (bits_in h e x) (word_value h e count)
     ∙ shift_is span left (bits_in h e x) (word_value h e count)
     ∙ sym (ap (λ t. answered span t (array_of (shift_bits left (bits_in h e x) (word_value h e count)))) (is.negative h more e)))

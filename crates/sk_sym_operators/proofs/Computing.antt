@@ -18,7 +18,7 @@ use Rattle.sk_prog.specs.declared.expr.BinOp.{BinOp}
 use Rattle.sk_prog.specs.declared.expr.BinOp.TheVariants as op
 use Rattle.sk_prog.specs.declared.value.Value.{Value}
 use Rattle.sk_prog.specs.declared.value.Value.TheVariants as value
-use Rattle.sk_model.specs.Step.{Comp, pure}
+use Rattle.sk_model.specs.Step.{Comp, pure, fail}
 use Rattle.sk_model.specs.Operators.{divided, number_operator, bit_operator, either_bit}
 use Rattle.sk_heap_laws.specs.Values.{value_of, IsLive}
 use Rattle.sk_heap_laws.proofs.Parts.{of_bit, of_int, live_bit, live_int}
@@ -54,6 +54,11 @@ computed_as m m' same is = record {
   live = is.live;
   value = λ h more e place span. same h more e span ∙ is.value h more e place span;
 }
+
+-- what always fails
+pub always_fails : {g : Graph} {fails : BoolId} → HasBool g.nodes fails → ((h : Graph) → Grows g h → (e : Env) → bool_value h e fails ≡ true) → IsComputed g (λ h e span. fail span) (shape.Bit fails) fails
+always_fails {g} {fails} there always = computed_as (λ h e span. answered span (bool_value h e fails) (value.Bit (bool_value h e fails))) (λ h e span. fail span)
+    (λ h more e span. sym (ap (λ b. answered span b (value.Bit (bool_value h e fails))) (always h more e))) (bit_computed there there)
 
 module _ {a g : Graph} {made : Shape} {fails : BoolId} where
   -- a word that is known, which never fails

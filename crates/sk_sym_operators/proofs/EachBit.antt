@@ -11,6 +11,7 @@ use Rattle.sk_dag.specs.Graph.{Graph, Grows, HasBool}
 use Rattle.sk_dag.specs.Eval.{bool_value, Keeps}
 use Rattle.sk_dag.specs.EvalShape.{shape_value}
 use Rattle.sk_dag.proofs.EvalLemmas.{Keeps-trans}
+use Rattle.sk_arr.specs.Forms.{IsBit}
 use Rattle.sk_arr.specs.Shapes.{AllStand}
 use Rattle.sk_arr.specs.Answers.{shapes_value}
 use Rattle.sk_arr.specs.Bits.{seen_bits, AreBits}
@@ -48,6 +49,10 @@ negation_is {a = a} {x = x} p there known = record {
   there = there;
   value = λ h more e u s. known h more e ∙ ap not (bit_value h e a x u p s);
 }
+
+-- an element of a list of bits
+pub bit_there : (list : List Shape) (i : ℕ) (s : Shape) → i < length list → s ≡ get_or list i s → AreBits list → IsBit s
+bit_there list i s l at are = subst IsBit (sym at) (are.each i s l)
 
 -- ---- those so far
 
@@ -154,7 +159,7 @@ pub joined : {d g : Graph} {x y made : List Shape} {a b : Shape} {fails : BoolId
 joined {d} {g} {x} {y} {made} {a} {b} {fails} w o goes p q xs ys is keeps there never =
     lifted (a ∷ b ∷ []) (λ h e holds span. on_operands w span o (operand (worth holds h e a)) (operand (worth holds h e b)))
     (λ h more e holds live span.
-    (λ i. on_operands w span o (row_operand holds h e a x p xs i) (row_operand holds h e b y q ys i))
+    (λ i. on_operands w span o (row_operand holds h e a x p i) (row_operand holds h e b y q i))
     ∙ operator_as span o (bits_in h e x) (bits_in h e y) goes
     ∙ sym (ap (λ t. answered span t (array_of (pairwise (bitwise o) (bits_in h e x) (bits_in h e y)))) (never h more e)))
     (row_computed (λ h e. pairwise (bitwise o) (bits_in h e x) (bits_in h e y)) (AllStand-keeps keeps is.stand) is.bits there
@@ -164,14 +169,14 @@ pub negated : {d g : Graph} {x made : List Shape} {a : Shape} {fails : BoolId} (
 negated {d} {g} {x} {made} {a} {fails} w p xs is keeps there never =
     lifted (a ∷ []) (λ h e holds span. unary_operator w span unary.Flip (worth holds h e a))
     (λ h more e holds live span.
-    ap (on_operand w span unary.Flip) (row_operand holds h e a x p xs)
+    ap (on_operand w span unary.Flip) (row_operand holds h e a x p)
     ∙ sym (ap (λ t. answered span t (array_of (map not (bits_in h e x)))) (never h more e)))
     (row_computed (λ h e. map not (bits_in h e x)) (AllStand-keeps keeps is.stand) is.bits there
     (λ h more e no_failure. is.value h (keeps.later h more) e (bits_in h e x) (seen_as h e x xs)))
 
 -- in the words of a match on the operator, and on the shape
-pub at_flip : {g : Graph} {o : UnOp} {a r : Shape} {fails : BoolId} (w : ℕ) → o ≡ unary.Flip → UnaryOf g w unary.Flip a r fails → UnaryOf g w o a r fails
-at_flip {g} {o} {a} {r} {fails} w same = subst (λ k. UnaryOf g w k a r fails) (sym same)
+pub at_operator : {g : Graph} {o k : UnOp} {a r : Shape} {fails : BoolId} (w : ℕ) → o ≡ k → UnaryOf g w k a r fails → UnaryOf g w o a r fails
+at_operator {g} {o} {k} {a} {r} {fails} w same = subst (λ k. UnaryOf g w k a r fails) (sym same)
 
 pub at_shape : {g : Graph} {a a' r : Shape} {fails : BoolId} (w : ℕ) → a ≡ a' → UnaryOf g w unary.Flip a' r fails → UnaryOf g w unary.Flip a r fails
 at_shape {g} {a} {a'} {r} {fails} w same = subst (λ s. UnaryOf g w unary.Flip s r fails) (sym same)

@@ -17,17 +17,21 @@ use Rattle.sk_dag.specs.EvalShape.{shape_value}
 use Rattle.sk_arr.specs.Shapes.{Alike, AlikeTo, AllAlike, SlotsPass}
 use Rattle.sk_arr.specs.Places.{is_within, element_of}
 use Rattle.sk_arr.specs.Answers.{shapes_value, IsRead}
+use Rattle.sk_arr.proofs.Parts.{shape_law}
 use Rattle.sk_arr.proofs.Standing.{bit_stands}
 use Rattle.sk_arr.proofs.Values.{value_array, length_map, all_push, bit_passes, parts_pass}
+use Rattle.sk_prog.specs.declared.value.Value.{Value}
 use Rattle.sk_prog.specs.declared.value.Value.TheVariants as value
-use Rattle.sk_prog.specs.declared.value.Value.TheViews.{outs-Array}
-use Rattle.sk_model.specs.Values.{elements_of, element}
+use Rattle.sk_prog.specs.declared.value.Value.TheViews.{outs-Bit, outs-Int, outs-Null, outs-Place, outs-Array}
+use Rattle.sk_model.specs.Step.{fail}
+use Rattle.sk_model.specs.Values.{elements_of, elements, element}
 use Rattle.sk_model.specs.Eval.{or_fail, indexed}
 use Rattle.sk_heap_laws.specs.Values.{place_of, value_of, IsLive, AllLive}
 use Rattle.sk_heap_laws.proofs.Parts.{live_head, array_live}
 use Rattle.sk_sym_operators.specs.Worth.{worth, answered}
 use Rattle.sk_sym_operators.specs.Answers.{IsOperated}
-use Rattle.sk_sym_operators.proofs.Operating.{worth_array, worth_int}
+use Rattle.sk_sym_operators.proofs.Operating.{worth_bit, worth_array, worth_int}
+use Rattle.sk_sym_operators.proofs.Meaning.{Fails, without, reference_law}
 
 -- ---- lists of one form
 
@@ -98,11 +102,74 @@ module _ {g : Graph} {a index r : Shape} {fails : BoolId} (list : List Shape) (x
       by h more e holds span true does = ap (λ o. or_fail span (option_map (value_of (place_of holds)) o))
           (none_outside (shapes_value h e list) (word_value h e x) (ap (λ n. not (is_within n (word_value h e x))) (length_map (shape_value h e) list) ∙ sym (is.left h more e) ∙ does))
 
+-- ---- what names no element
+
+abbrev fails_at : Span → Value → Value → Type 0
+fails_at span v u = indexed span v u ≡ fail span
+
+none_of : (span : Span) (v : Value) → elements v ≡ [] → (z : ℤ) → or_fail span (element v z) ≡ fail span
+none_of span v empty (pos i) = ap (λ l. or_fail span (slice_get l i)) empty
+none_of span v empty (negsuc i) = refl
+
+module _ (holds : ℕ → Bool) (h : Graph) (e : Env) where
+  -- a shape that is no array has no elements
+  pub no_elements : (s : Shape) → ((ss : List Shape) → s ≡ shape.Array ss → ⊥) → elements (worth holds h e s) ≡ []
+  no_elements = shape_law (λ s. ((ss : List Shape) → s ≡ shape.Array ss → ⊥) → elements (worth holds h e s) ≡ [])
+      (λ a other. ap elements (worth_bit holds h e a refl) ∙ ap elements_of (outs-Bit (bool_value h e a)))
+      (λ a other. ap elements (worth_int holds h e a refl) ∙ ap elements_of (outs-Int (word_value h e a)))
+      (λ t other. reference_law (λ v. elements v ≡ []) (ap elements_of outs-Null) (λ n. ap elements_of (outs-Place n)) holds h e t)
+      (λ ss below other. absurd (other ss refl))
+
+  pub row_elements : (list : List Shape) → elements (worth holds h e (shape.Array list)) ≡ map (value_of (place_of holds)) (shapes_value h e list)
+  row_elements list = ap elements (worth_array holds h e list refl) ∙ ap elements_of (outs-Array (map (value_of (place_of holds)) (shapes_value h e list)))
+
+  -- nothing is found where there are no elements, by an index of any form
+  none_found : (span : Span) (v : Value) → elements v ≡ [] → (index : Shape) → fails_at span v (worth holds h e index)
+  none_found span v empty = shape_law (λ index. fails_at span v (worth holds h e index))
+      (λ a. ap (indexed span v) (worth_bit holds h e a refl))
+      (λ a. ap (indexed span v) (worth_int holds h e a refl) ∙ none_of span v empty (word_value h e a))
+      (λ t. reference_law (fails_at span v) refl (λ n. refl) holds h e t)
+      (λ ss below. ap (indexed span v) (worth_array holds h e ss refl))
+
+  -- nor by what is no word
+  no_index : (span : Span) (v : Value) (index : Shape) → ((a : WordId) → index ≡ shape.Int a → ⊥) → fails_at span v (worth holds h e index)
+  no_index span v = shape_law (λ index. ((a : WordId) → index ≡ shape.Int a → ⊥) → fails_at span v (worth holds h e index))
+      (λ a other. ap (indexed span v) (worth_bit holds h e a refl))
+      (λ a other. absurd (other a refl))
+      (λ t other. reference_law (fails_at span v) refl (λ n. refl) holds h e t)
+      (λ ss below other. ap (indexed span v) (worth_array holds h e ss refl))
+
+abbrev pub IsIndexed : Graph → Shape → Shape → Shape → BoolId → Type 0
+IsIndexed g a index r fails = IsOperated g (a ∷ index ∷ []) (λ h e holds span. indexed span (worth holds h e a) (worth holds h e index)) r fails
+
+module _ {g : Graph} {a index r : Shape} {fails : BoolId} where
+  pub not_of_row : ((ss : List Shape) → a ≡ shape.Array ss → ⊥) → Fails g r fails → IsIndexed g a index r fails
+  not_of_row other = without (a ∷ index ∷ []) (λ h e holds span. indexed span (worth holds h e a) (worth holds h e index))
+      (λ h e holds span. none_found holds h e span (worth holds h e a) (no_elements holds h e a other) index)
+
+  pub not_by_word : ((x : WordId) → index ≡ shape.Int x → ⊥) → Fails g r fails → IsIndexed g a index r fails
+  not_by_word other = without (a ∷ index ∷ []) (λ h e holds span. indexed span (worth holds h e a) (worth holds h e index))
+      (λ h e holds span. no_index holds h e span (worth holds h e a) index other)
+
+  pub at_row : {a' index' : Shape} → a ≡ a' → index ≡ index' → IsIndexed g a' index' r fails → IsIndexed g a index r fails
+  at_row {a'} {index'} p q is = subst (λ x. IsIndexed g x index r fails) (sym p) (subst (λ y. IsIndexed g a' y r fails) (sym q) is)
+
+empty_row : (list : List Shape) → length list < 1 → list ≡ []
+empty_row [] l = refl
+empty_row (s ∷ list) l = absurd (omega (arith, l))
+
+-- an array without elements has none
+pub of_nothing : {g : Graph} {r : Shape} {fails : BoolId} (list : List Shape) (x : WordId) → length list < 1 → Fails g r fails → IsIndexed g (shape.Array list) (shape.Int x) r fails
+of_nothing list x l = without (shape.Array list ∷ shape.Int x ∷ []) (λ h e holds span. indexed span (worth holds h e (shape.Array list)) (worth holds h e (shape.Int x)))
+    (λ h e holds span. none_found holds h e span (worth holds h e (shape.Array list))
+    (row_elements holds h e list ∙ ap (λ l. map (value_of (place_of holds)) (shapes_value h e l)) (empty_row list l)) (shape.Int x))
+
+-- ---- a read of no elements, which fails
+
 below : (i : ℕ) (b : Bool) → nat_lt i 0 ≡ b → b ≡ false
 below i true e = absurd (omega (arith, ltb-true i 0 e))
 below i false e = refl
 
--- an array without elements has none
 pub read_nothing : {g : Graph} {fails : BoolId} (list : List Shape) (x : WordId) → length list < 1 → HasBool g.nodes fails → ((h : Graph) → Grows g h → (e : Env) → bool_value h e fails ≡ true) → IsRead g list x (shape.Bit fails) fails
 read_nothing {g} {fails} [] x l there always = record {
   stands = bit_stands g fails there;

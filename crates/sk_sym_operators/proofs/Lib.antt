@@ -1,6 +1,8 @@
 pub mod Computing
 pub mod Forms
 pub mod Operating
+pub mod Meaning
+pub mod FitRows
 pub mod Elements
 pub mod Slices
 pub mod BitRows

@@ -1,8 +1,9 @@
 -- Slices of arrays, by an index.
+use Rattle.std.proofs.lemmas.Bool.{leb-true}
 use Rattle.std.proofs.lemmas.List.{take-map, drop-map}
 use Rattle.std.proofs.lemmas.List.Elements.{All-head, All-take, All-drop}
 use Rattle.std.proofs.lemmas.Option.{none-some, same_Some}
-use Rattle.std.proofs.Common.{◌≡◌, ℕ, ℤ, pos, negsuc, ◌+◌, Bool, true, false, true≢false, not, List, [], ◌∷◌, map, length, take, drop, All, Option, Some, None, option_map, refl, sym, ap, subst, ◌∙◌}
+use Rattle.std.proofs.Common.{◌≡◌, ◌<◌, ◌≤◌, arith, ℕ, ℤ, pos, negsuc, ◌+◌, Bool, true, false, true≢false, not, List, [], ◌∷◌, map, length, take, drop, All, Option, Some, None, option_map, refl, sym, ap, subst, ◌∙◌}
 use Rattle.std.specs.Prelude.{nat_le, if◌then◌else◌}
 use Rattle.sk_base.specs.declared.span.Span.{Span}
 use Rattle.sk_dag.specs.declared.env.Env.{Env}
@@ -17,6 +18,7 @@ use Rattle.sk_dag.specs.EvalShape.{shape_value}
 use Rattle.sk_arr.specs.Shapes.{Stands, SlotsPass}
 use Rattle.sk_arr.specs.Places.{is_slice_within, slice_of}
 use Rattle.sk_arr.specs.Answers.{shapes_value}
+use Rattle.sk_arr.proofs.Parts.{shape_law}
 use Rattle.sk_arr.proofs.Standing.{array_stands}
 use Rattle.sk_arr.proofs.Values.{value_array, length_map, parts_pass, array_passes}
 use Rattle.sk_prog.specs.declared.value.Value.{Value}
@@ -29,7 +31,9 @@ use Rattle.sk_heap_laws.specs.Values.{place_of, value_of, IsLive, AllLive}
 use Rattle.sk_heap_laws.proofs.Parts.{live_head, array_live, live_array}
 use Rattle.sk_sym_operators.specs.Worth.{worth, answered}
 use Rattle.sk_sym_operators.specs.Answers.{IsOperated}
-use Rattle.sk_sym_operators.proofs.Operating.{worth_array, worth_int}
+use Rattle.sk_sym_operators.proofs.Operating.{worth_bit, worth_array, worth_int}
+use Rattle.sk_sym_operators.proofs.Meaning.{Fails, without, reference_law}
+use Rattle.sk_sym_operators.proofs.Elements.{no_elements, row_elements}
 use Rattle.sk_sym_operators.specs.Answers.{IsSlice}
 
 -- an array where there is one, and else a failure
@@ -94,3 +98,54 @@ module _ {g : Graph} {a index r : Shape} {fails : BoolId} {count : ℕ} (list : 
       by h more e holds span false never = ap (λ o. or_fails span (option_map (map (value_of (place_of holds))) o)) (is.sliced.value h more e never) ∙ ap (pure) (sym (worth_array holds h e is.parts is.whole))
       by h more e holds span true does = ap (λ o. or_fails span (option_map (map (value_of (place_of holds))) o))
           (none_outside (shapes_value h e list) (word_value h e x) count (ap (λ n. not (is_slice_within n count (word_value h e x))) (length_map (shape_value h e) list) ∙ sym (is.sliced.left h more e) ∙ does))
+
+-- ---- what is no slice
+
+module _ (span : Span) (count : ℕ) (v : Value) where
+  abbrev fails_from : Value → Type 0
+  fails_from u = sliced span count v u ≡ fail span
+
+  too_short : length (elements v) < count → (z : ℤ) → fails_from (value.Int z)
+  too_short short (pos i) = by (nat_le (i + count) (length (elements v))) refl
+    where
+      by : (b : Bool) → nat_le (i + count) (length (elements v)) ≡ b → fails_from (value.Int (pos i))
+      by true e = absurd (omega (arith, short, leb-true (i + count) (length (elements v)) e))
+      by false e = ap (λ b. if b then pure (value.Array (take count (drop i (elements v)))) else fail span) e
+  too_short short (negsuc i) = refl
+
+  module _ (holds : ℕ → Bool) (h : Graph) (e : Env) where
+    none_from : length (elements v) < count → (index : Shape) → fails_from (worth holds h e index)
+    none_from short = shape_law (λ index. fails_from (worth holds h e index))
+        (λ a. ap (sliced span count v) (worth_bit holds h e a refl))
+        (λ a. ap (sliced span count v) (worth_int holds h e a refl) ∙ too_short short (word_value h e a))
+        (λ t. reference_law fails_from refl (λ n. refl) holds h e t)
+        (λ ss below. ap (sliced span count v) (worth_array holds h e ss refl))
+
+    no_start : (index : Shape) → ((a : WordId) → index ≡ shape.Int a → ⊥) → fails_from (worth holds h e index)
+    no_start = shape_law (λ index. ((a : WordId) → index ≡ shape.Int a → ⊥) → fails_from (worth holds h e index))
+        (λ a other. ap (sliced span count v) (worth_bit holds h e a refl))
+        (λ a other. absurd (other a refl))
+        (λ t other. reference_law fails_from refl (λ n. refl) holds h e t)
+        (λ ss below other. ap (sliced span count v) (worth_array holds h e ss refl))
+
+abbrev pub IsSlicedBy : Graph → ℕ → Shape → Shape → Shape → BoolId → Type 0
+IsSlicedBy g count a index r fails = IsOperated g (a ∷ index ∷ []) (λ h e holds span. sliced span count (worth holds h e a) (worth holds h e index)) r fails
+
+module _ {g : Graph} (count : ℕ) {a index r : Shape} {fails : BoolId} where
+  pub not_of_row : 1 ≤ count → ((ss : List Shape) → a ≡ shape.Array ss → ⊥) → Fails g r fails → IsSlicedBy g count a index r fails
+  not_of_row some other = without (a ∷ index ∷ []) (λ h e holds span. sliced span count (worth holds h e a) (worth holds h e index))
+      (λ h e holds span. let none : length (elements (worth holds h e a)) ≡ 0 = ap length (no_elements holds h e a other) in
+      none_from span count (worth holds h e a) holds h e (omega (arith, none, some)) index)
+
+  pub not_by_word : ((x : WordId) → index ≡ shape.Int x → ⊥) → Fails g r fails → IsSlicedBy g count a index r fails
+  not_by_word other = without (a ∷ index ∷ []) (λ h e holds span. sliced span count (worth holds h e a) (worth holds h e index))
+      (λ h e holds span. no_start span count (worth holds h e a) holds h e index other)
+
+  pub at_row : {a' index' : Shape} → a ≡ a' → index ≡ index' → IsSlicedBy g count a' index' r fails → IsSlicedBy g count a index r fails
+  at_row {a'} {index'} p q is = subst (λ x. IsSlicedBy g count x index r fails) (sym p) (subst (λ y. IsSlicedBy g count a' y r fails) (sym q) is)
+
+-- an array that is shorter than the slice
+pub of_fewer : {g : Graph} {count : ℕ} {r : Shape} {fails : BoolId} (list : List Shape) (x : WordId) → length list < count → Fails g r fails → IsSlicedBy g count (shape.Array list) (shape.Int x) r fails
+of_fewer {count = count} list x l = without (shape.Array list ∷ shape.Int x ∷ []) (λ h e holds span. sliced span count (worth holds h e (shape.Array list)) (worth holds h e (shape.Int x)))
+    (λ h e holds span. let long : length (elements (worth holds h e (shape.Array list))) ≡ length list = ap length (row_elements holds h e list) ∙ length_map (value_of (place_of holds)) (shapes_value h e list) ∙ length_map (shape_value h e) list in
+    none_from span count (worth holds h e (shape.Array list)) holds h e (omega (arith, long, l)) (shape.Int x))

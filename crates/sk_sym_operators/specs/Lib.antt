@@ -1,3 +1,4 @@
 pub mod Worth
 pub mod Answers
 pub mod Bitwise
+pub mod Fitting

@@ -1,20 +1,23 @@
 //! The operators that go bit by bit.
 
-ghost use Rattle.std.specs.Prelude.{◌≡◌, ◌∷◌, [], length, IfOk, true};
+ghost use Rattle.std.specs.Prelude.{◌≡◌, ◌≢◌, ◌∷◌, [], length, IfOk, true};
 ghost use Rattle.sk_dag.specs.declared.env.Env.{Env};
 ghost use Rattle.sk_dag.specs.declared.shape.Shape.TheVariants.{Array};
 ghost use Rattle.sk_dag.specs.Graph.{Graph, Grows, HasBool};
 ghost use Rattle.sk_dag.specs.Eval.{bool_value, Keeps};
+ghost use Rattle.sk_arr.specs.Forms.{IsBit};
 ghost use Rattle.sk_arr.specs.Shapes.{Stands, AllStand};
+ghost use Rattle.sk_arr.specs.Bits.{AreBits};
+ghost use Rattle.sk_prog.specs.declared.expr.BinOp.TheVariants as op_is;
 ghost use Rattle.sk_prog.specs.declared.expr.UnOp.TheVariants as unary_is;
 ghost use Rattle.sk_model.specs.Operators.{operand, on_operands, unary_operator};
 ghost use Rattle.sk_sym_operators.specs.Worth.{worth};
 ghost use Rattle.sk_sym_operators.specs.Answers.{IsOperated};
 ghost use Rattle.sk_sym_operators.specs.Bitwise.{is_bitwise, bitwise, IsPair, ArePairs, IsNegation, AreNegations};
 
+use crate::fitting::{are_bits, fitted};
 use crate::operated::Operated;
-use crate::reading::bit_in;
-use crate::rows::{are_bits, are_rows};
+use crate::reading::{bit_in, meaningless};
 use sk_base::List;
 use sk_dag::{BoolId, Dag, Shape};
 use sk_prog::BinOp;
@@ -33,7 +36,7 @@ fn is_bitwise(op: BinOp) -> bool
     }
 }
 
-/// What an operator makes of two bits.
+/// What an operator makes of two bits, where it goes bit by bit.
 fn joined_bit(dag: &mut Dag, op: BinOp, x: BoolId, y: BoolId) -> Result<BoolId, AllocError>
     requires x { HasBool dag.old.nodes x }
     requires y { HasBool dag.old.nodes y }
@@ -55,7 +58,10 @@ fn joined_bit(dag: &mut Dag, op: BinOp, x: BoolId, y: BoolId) -> Result<BoolId, 
             let r = xor(dag, x, y)?;
             Ok(r)
         }
-        _ => Err(AllocError),
+        _ => {
+            let r = flag(dag, false)?;
+            Ok(r)
+        }
     }
 }
 
@@ -64,12 +70,12 @@ fn joined_bit(dag: &mut Dag, op: BinOp, x: BoolId, y: BoolId) -> Result<BoolId, 
 fn pair(dag: &mut Dag, op: BinOp, a: &Shape, b: &Shape) -> Result<BoolId, AllocError>
     requires a { Stands dag.old a.now }
     requires b { Stands dag.old b.now }
+    requires a_bit { IsBit a.now }
+    requires b_bit { IsBit b.now }
     ensures keeps { Keeps dag.old dag.new }
     ensures pair { IfOk result (λ r. IsPair dag.new (bitwise op) a.now b.now r) }
 {
-    let x = bit_in(a)?;
-    let y = bit_in(b)?;
-    let r = joined_bit(dag, op, x, y)?;
+    let r = joined_bit(dag, op, bit_in(a), bit_in(b))?;
     Ok(r)
 }
 
@@ -84,6 +90,8 @@ fn pairs(
 ) -> Result<List<Shape>, AllocError>
     requires x { AllStand dag.old x.now }
     requires y { AllStand dag.old y.now }
+    requires x_bits { AreBits x.now }
+    requires y_bits { AreBits y.now }
     requires long { length x.now ≡ length y.now }
     ensures keeps { Keeps dag.old dag.new }
     ensures pairs { IfOk result (λ made. ArePairs dag.new (bitwise op) x.now y.now made) }
@@ -98,8 +106,8 @@ fn pairs(
     Ok(made)
 }
 
-/// An operator on two arrays of bits, bit by bit.
-pub(crate) fn joined(
+/// An operator on two arrays of bits that are as long as each other, bit by bit.
+fn joined(
     alloc: Global,
     dag: &mut Dag,
     op: BinOp,
@@ -108,19 +116,15 @@ pub(crate) fn joined(
 ) -> Result<Operated, AllocError>
     requires x { AllStand dag.old x.now }
     requires y { AllStand dag.old y.now }
+    requires x_bits { AreBits x.now }
+    requires y_bits { AreBits y.now }
+    requires long { length x.now ≡ length y.now }
+    requires goes { is_bitwise op ≡ true }
     ensures keeps { Keeps dag.old dag.new }
     ensures operated { IfOk result (λ made. IsOperated dag.new (Array x.now ∷ Array y.now ∷ []) (λ h e holds span.
         on_operands dag.old.bits span op (operand (worth holds h e (Array x.now))) (operand (worth holds h e (Array y.now)))) made.value made.fails) }
 {
-    if !is_bitwise(op) {
-        return Err(AllocError);
-    }
-    let first = x.as_slice();
-    let second = y.as_slice();
-    if !are_rows(first, second) {
-        return Err(AllocError);
-    }
-    let made = pairs(alloc, dag, op, first, second)?;
+    let made = pairs(alloc, dag, op, x.as_slice(), y.as_slice())?;
     let fails = flag(dag, false)?;
     Ok(Operated {
         value: Shape::Array(made),
@@ -128,22 +132,49 @@ pub(crate) fn joined(
     })
 }
 
+/// An operator but `+` on two arrays of bits that are as long as each other.
+pub(crate) fn on_pairs(
+    alloc: Global,
+    dag: &mut Dag,
+    op: BinOp,
+    x: &List<Shape>,
+    y: &List<Shape>,
+) -> Result<Operated, AllocError>
+    requires x { AllStand dag.old x.now }
+    requires y { AllStand dag.old y.now }
+    requires x_bits { AreBits x.now }
+    requires y_bits { AreBits y.now }
+    requires long { length x.now ≡ length y.now }
+    requires no_sum { op ≢ op_is.Add }
+    ensures keeps { Keeps dag.old dag.new }
+    ensures operated { IfOk result (λ made. IsOperated dag.new (Array x.now ∷ Array y.now ∷ []) (λ h e holds span.
+        on_operands dag.old.bits span op (operand (worth holds h e (Array x.now))) (operand (worth holds h e (Array y.now)))) made.value made.fails) }
+{
+    if !is_bitwise(op) {
+        let made = meaningless(dag)?;
+        return Ok(made);
+    }
+    let made = joined(alloc, dag, op, x, y)?;
+    Ok(made)
+}
+
 /// The negation of a shape that is a bit.
 #[tactic(auto, using(sk_arr::proofs::Standing::inside))]
 fn negation(dag: &mut Dag, a: &Shape) -> Result<BoolId, AllocError>
-    requires { Stands dag.old a.now }
+    requires stands { Stands dag.old a.now }
+    requires bit { IsBit a.now }
     ensures keeps { Keeps dag.old dag.new }
     ensures negation { IfOk result (λ r. IsNegation dag.new a.now r) }
 {
-    let x = bit_in(a)?;
-    let r = not(dag, x)?;
+    let r = not(dag, bit_in(a))?;
     Ok(r)
 }
 
 /// The negations of the bits of a list, one by one.
 #[tactic(auto, using(crate::proofs::EachBit::going))]
 fn negations(alloc: Global, dag: &mut Dag, x: &[Shape]) -> Result<List<Shape>, AllocError>
-    requires { AllStand dag.old x.now }
+    requires stand { AllStand dag.old x.now }
+    requires bits { AreBits x.now }
     ensures keeps { Keeps dag.old dag.new }
     ensures negations { IfOk result (λ made. AreNegations dag.new x.now made) }
 {
@@ -156,20 +187,44 @@ fn negations(alloc: Global, dag: &mut Dag, x: &[Shape]) -> Result<List<Shape>, A
 }
 
 /// An array of bits with each bit negated.
+fn negated(alloc: Global, dag: &mut Dag, x: &List<Shape>) -> Result<Operated, AllocError>
+    requires stand { AllStand dag.old x.now }
+    requires bits { AreBits x.now }
+    ensures keeps { Keeps dag.old dag.new }
+    ensures operated { IfOk result (λ made. IsOperated dag.new (Array x.now ∷ []) (λ h e holds span.
+        unary_operator dag.old.bits span unary_is.Flip (worth holds h e (Array x.now))) made.value made.fails) }
+{
+    let made = negations(alloc, dag, x.as_slice())?;
+    let fails = flag(dag, false)?;
+    Ok(Operated {
+        value: Shape::Array(made),
+        fails,
+    })
+}
+
+/// An array of shapes that are not all bits with the bit of each negated; one that is no bit counts as false.
+fn others_negated(alloc: Global, dag: &mut Dag, x: &List<Shape>) -> Result<Operated, AllocError>
+    requires { AllStand dag.old x.now }
+    ensures keeps { Keeps dag.old dag.new }
+    ensures operated { IfOk result (λ made. IsOperated dag.new (Array x.now ∷ []) (λ h e holds span.
+        unary_operator dag.old.bits span unary_is.Flip (worth holds h e (Array x.now))) made.value made.fails) }
+{
+    let row = fitted(alloc, dag, x, x.len())?;
+    let made = negated(alloc, dag, &row)?;
+    Ok(made)
+}
+
+/// An array with the bit of each element negated.
 pub(crate) fn flipped(alloc: Global, dag: &mut Dag, x: &List<Shape>) -> Result<Operated, AllocError>
     requires { AllStand dag.old x.now }
     ensures keeps { Keeps dag.old dag.new }
     ensures operated { IfOk result (λ made. IsOperated dag.new (Array x.now ∷ []) (λ h e holds span.
         unary_operator dag.old.bits span unary_is.Flip (worth holds h e (Array x.now))) made.value made.fails) }
 {
-    let bits = x.as_slice();
-    if !are_bits(bits) {
-        return Err(AllocError);
+    if !are_bits(x.as_slice()) {
+        let made = others_negated(alloc, dag, x)?;
+        return Ok(made);
     }
-    let made = negations(alloc, dag, bits)?;
-    let fails = flag(dag, false)?;
-    Ok(Operated {
-        value: Shape::Array(made),
-        fails,
-    })
+    let made = negated(alloc, dag, x)?;
+    Ok(made)
 }

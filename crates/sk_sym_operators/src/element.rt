@@ -1,21 +1,21 @@
 //! Elements of arrays.
 
 ghost use Rattle.std.specs.Prelude.{◌≡◌, ◌↔◌, ◌≤◌, ◌<◌, ◌∷◌, [], length, IfOk, IsTrue};
+ghost use Rattle.sk_dag.specs.declared.shape.Shape.TheVariants.{Array, Int};
 ghost use Rattle.sk_dag.specs.Graph.{HasWord};
 ghost use Rattle.sk_dag.specs.Eval.{Keeps};
 ghost use Rattle.sk_arr.specs.Shapes.{AlikeTo, AllAlike, Stands, AllStand};
-ghost use Rattle.sk_arr.specs.Answers.{IsRead};
 ghost use Rattle.sk_model.specs.Eval.{indexed as indexed_of, sliced as sliced_of};
 ghost use Rattle.sk_sym_operators.specs.Worth.{worth};
-ghost use Rattle.sk_sym_operators.specs.Answers.{IsOperated, IsSlice};
+ghost use Rattle.sk_sym_operators.specs.Answers.{IsOperated};
 
 use crate::form::alike;
 use crate::operated::Operated;
-use crate::reading::{row_in, word_in};
+use crate::reading::meaningless;
 use sk_arr::{read, slice};
 use sk_base::List;
 use sk_dag::{Dag, Shape, WordId};
-use sk_sym_folds::flag;
+use sk_limits::never;
 use std::alloc::{AllocError, Global};
 
 /// Whether a shape is of the form of each of these.
@@ -39,17 +39,16 @@ pub fn are_alike(list: &[Shape]) -> bool
     like_all(&list[0], list)
 }
 
-/// What an index names in an array without elements: nothing.
-fn nothing(dag: &mut Dag, list: &List<Shape>, index: WordId) -> Result<Operated, AllocError>
-    requires { length list.now < 1 }
-    ensures keeps { Keeps dag.old dag.new }
-    ensures read { IfOk result (λ made. IsRead dag.new list.now index made.value made.fails) }
+/// Whether these are of one form, so that one shape can stand for whichever of them an index names. Those of an array of a
+/// typed program are.
+fn of_one_form(list: &[Shape]) -> Result<(), AllocError>
+    requires { 1 ≤ length list.now }
+    ensures { IfOk result (λ made. AllAlike list.now) }
 {
-    let fails = flag(dag, true)?;
-    Ok(Operated {
-        value: Shape::Bit(fails),
-        fails,
-    })
+    if !are_alike(list) {
+        return Err(never());
+    }
+    Ok(())
 }
 
 /// The element that an index names.
@@ -62,25 +61,25 @@ fn element(
     requires index { HasWord dag.old.nodes index }
     requires list { AllStand dag.old list.now }
     ensures keeps { Keeps dag.old dag.new }
-    ensures read { IfOk result (λ made. IsRead dag.new list.now index made.value made.fails) }
+    ensures operated { IfOk result (λ made. IsOperated dag.new (Array list.now ∷ Int index ∷ []) (λ h e holds span.
+        indexed_of span (worth holds h e (Array list.now)) (worth holds h e (Int index))) made.value made.fails) }
 {
     if list.len() < 1 {
-        let made = nothing(dag, list, index)?;
+        let made = meaningless(dag)?;
         return Ok(made);
     }
-    if !are_alike(list.as_slice()) {
-        return Err(AllocError);
-    }
+    of_one_form(list.as_slice())?;
     let (value, fails) = read(alloc, dag, list, index)?;
     Ok(Operated { value, fails })
 }
 
-/// The element of an array that an index names. It fails where the index leaves the range.
+/// The element of an array that an index names. It fails where the index leaves the range, and on shapes that are no array
+/// and no word.
 ///
 /// # Errors
 ///
-/// Memory is wanting, or the shapes are no array of elements of one form and no word. After a refusal the graph has all nodes
-/// that it had (`keeps`).
+/// Memory is wanting, or the elements are not of one form, which those of an array of a typed program are. After a refusal the
+/// graph has all nodes that it had (`keeps`).
 #[tactic(auto, using(sk_arr::proofs::Standing::inside))]
 pub fn indexed(
     alloc: Global,
@@ -94,13 +93,19 @@ pub fn indexed(
     ensures operated { IfOk result (λ made. IsOperated dag.new (a.now ∷ index.now ∷ []) (λ h e holds span.
         indexed_of span (worth holds h e a.now) (worth holds h e index.now)) made.value made.fails) }
 {
-    let list = row_in(a)?;
-    let x = word_in(index)?;
-    let made = element(alloc, dag, list, x)?;
+    let Shape::Array(list) = a else {
+        let made = meaningless(dag)?;
+        return Ok(made);
+    };
+    let Shape::Int(x) = index else {
+        let made = meaningless(dag)?;
+        return Ok(made);
+    };
+    let made = element(alloc, dag, list, *x)?;
     Ok(made)
 }
 
-/// So many elements from the one on that an index names, as an array.
+/// So many elements, at least one, from the one on that an index names, as an array.
 fn elements_from(
     alloc: Global,
     dag: &mut Dag,
@@ -110,25 +115,30 @@ fn elements_from(
 ) -> Result<Operated, AllocError>
     requires from { HasWord dag.old.nodes from }
     requires list { AllStand dag.old list.now }
+    requires some { 1 ≤ count }
     ensures keeps { Keeps dag.old dag.new }
-    ensures sliced { IfOk result (λ made. IsSlice dag.new list.now from count made.value made.fails) }
+    ensures operated { IfOk result (λ made. IsOperated dag.new (Array list.now ∷ Int from ∷ []) (λ h e holds span.
+        sliced_of span count (worth holds h e (Array list.now)) (worth holds h e (Int from))) made.value made.fails) }
 {
-    if count < 1 || count as usize > list.len() || !are_alike(list.as_slice()) {
-        return Err(AllocError);
+    if count as usize > list.len() {
+        let made = meaningless(dag)?;
+        return Ok(made);
     }
-    let (made, fails) = slice(alloc, dag, list, from, count)?;
+    of_one_form(list.as_slice())?;
+    let (parts, fails) = slice(alloc, dag, list, from, count)?;
     Ok(Operated {
-        value: Shape::Array(made),
+        value: Shape::Array(parts),
         fails,
     })
 }
 
-/// So many elements of an array from the one on that an index names. It fails where they leave the range.
+/// So many elements of an array from the one on that an index names. It fails where they leave the range, and on shapes that
+/// are no array and no word.
 ///
 /// # Errors
 ///
-/// Memory is wanting, the shapes are no array of elements of one form and no word, or the count is 0 or above the array's
-/// length. After a refusal the graph has all nodes that it had (`keeps`).
+/// Memory is wanting, the count is 0, or the elements are not of one form: no slice of a typed program is so. After a refusal
+/// the graph has all nodes that it had (`keeps`).
 #[tactic(auto, using(sk_arr::proofs::Standing::inside))]
 pub fn sliced(
     alloc: Global,
@@ -142,8 +152,17 @@ pub fn sliced(
     ensures keeps { Keeps dag.old dag.new }
     ensures operated { IfOk result (λ made. IsOperated dag.new (a.now ∷ index.now ∷ []) (λ h e holds span. sliced_of span count (worth holds h e a.now) (worth holds h e index.now)) made.value made.fails) }
 {
-    let list = row_in(a)?;
-    let from = word_in(index)?;
-    let made = elements_from(alloc, dag, list, from, count)?;
+    if count < 1 {
+        return Err(never());
+    }
+    let Shape::Array(list) = a else {
+        let made = meaningless(dag)?;
+        return Ok(made);
+    };
+    let Shape::Int(from) = index else {
+        let made = meaningless(dag)?;
+        return Ok(made);
+    };
+    let made = elements_from(alloc, dag, list, *from, count)?;
     Ok(made)
 }

@@ -4,6 +4,7 @@
 mod binary;
 mod bitwise;
 mod element;
+mod fitting;
 mod form;
 mod operated;
 mod reading;

@@ -1,39 +1,36 @@
-//! The parts of a shape of a wanted form. A shape of another form, which no typed program has there, counts as want of
-//! memory.
+//! The node of a shape that is known to be a bit, and what an operator without a meaning answers.
 
 ghost use Rattle.std.specs.Prelude.{◌≡◌, IfOk};
-ghost use Rattle.sk_dag.specs.declared.shape.Shape.TheVariants.{Bit, Int, Array};
+ghost use Rattle.sk_dag.specs.declared.shape.Shape.TheVariants.{Bit};
+ghost use Rattle.sk_dag.specs.Eval.{Keeps};
+ghost use Rattle.sk_arr.specs.Forms.{IsBit};
+ghost use Rattle.sk_model.specs.Step.{fail};
+ghost use Rattle.sk_sym_operators.specs.Answers.{IsComputed};
 
-use sk_base::List;
-use sk_dag::{BoolId, Shape, WordId};
+use crate::operated::Operated;
+use sk_dag::{BoolId, Dag, Shape};
+use sk_sym_folds::flag;
 use std::alloc::AllocError;
 
 /// The node of a bit.
-pub(crate) fn bit_in(a: &Shape) -> Result<BoolId, AllocError>
-    ensures { IfOk result (λ id. a.now ≡ Bit id) }
+pub(crate) fn bit_in(a: &Shape) -> BoolId
+    requires { IsBit a.now }
+    ensures { a.now ≡ Bit result }
 {
     match a {
-        Shape::Bit(id) => Ok(*id),
-        _ => Err(AllocError),
+        Shape::Bit(id) => *id,
+        _ => unreachable!(),
     }
 }
 
-/// The node of a word.
-pub(crate) fn word_in(a: &Shape) -> Result<WordId, AllocError>
-    ensures { IfOk result (λ id. a.now ≡ Int id) }
+/// What an operator answers that has no meaning for values of these types: it fails.
+pub(crate) fn meaningless(dag: &mut Dag) -> Result<Operated, AllocError>
+    ensures keeps { Keeps dag.old dag.new }
+    ensures computed { IfOk result (λ made. IsComputed dag.new (λ h e span. fail span) made.value made.fails) }
 {
-    match a {
-        Shape::Int(id) => Ok(*id),
-        _ => Err(AllocError),
-    }
-}
-
-/// The elements of an array.
-pub(crate) fn row_in(a: &Shape) -> Result<&List<Shape>, AllocError>
-    ensures { IfOk result (λ list. a.now ≡ Array list.now) }
-{
-    match a {
-        Shape::Array(list) => Ok(list),
-        _ => Err(AllocError),
-    }
+    let fails = flag(dag, true)?;
+    Ok(Operated {
+        value: Shape::Bit(fails),
+        fails,
+    })
 }

@@ -1,13 +1,15 @@
 //! The operators on words and on bits.
 
-ghost use Rattle.std.specs.Prelude.{◌≡◌, int_div, int_rem, IfOk};
+ghost use Rattle.std.specs.Prelude.{◌≡◌, ◌≢◌, int_div, int_rem, IfOk};
 ghost use Rattle.sk_base.specs.Word.{wrapped};
 ghost use Rattle.sk_dag.specs.Graph.{HasBool, HasWord};
 ghost use Rattle.sk_dag.specs.Eval.{bool_value, word_value, Keeps};
+ghost use Rattle.sk_prog.specs.declared.expr.BinOp.TheVariants as op_is;
 ghost use Rattle.sk_model.specs.Operators.{number_operator, bit_operator, divided};
 ghost use Rattle.sk_sym_operators.specs.Answers.{IsComputed};
 
 use crate::operated::{Operated, whole_bit, whole_word};
+use crate::reading::meaningless;
 use sk_dag::{BoolId, Dag, Shape, WordId};
 use sk_prog::BinOp;
 use sk_sym_folds::{add, and, div, eq, le, lt, mul, or, rem, sub, word, xor};
@@ -17,6 +19,8 @@ use std::alloc::AllocError;
 fn on_ring(dag: &mut Dag, op: BinOp, x: WordId, y: WordId) -> Result<Operated, AllocError>
     requires x { HasWord dag.old.nodes x }
     requires y { HasWord dag.old.nodes y }
+    requires no_quotient { op ≢ op_is.Div }
+    requires no_rest { op ≢ op_is.Rem }
     ensures keeps { Keeps dag.old dag.new }
     ensures computed { IfOk result (λ made. IsComputed dag.new (λ h e span. number_operator dag.old.bits span op (word_value h e x) (word_value h e y)) made.value made.fails) }
 {
@@ -56,7 +60,10 @@ fn on_ring(dag: &mut Dag, op: BinOp, x: WordId, y: WordId) -> Result<Operated, A
             let made = whole_bit(dag, r)?;
             Ok(made)
         }
-        _ => Err(AllocError),
+        _ => {
+            let made = meaningless(dag)?;
+            Ok(made)
+        }
     }
 }
 
@@ -150,6 +157,9 @@ pub(crate) fn on_bits(
             let made = whole_bit(dag, r)?;
             Ok(made)
         }
-        _ => Err(AllocError),
+        _ => {
+            let made = meaningless(dag)?;
+            Ok(made)
+        }
     }
 }

@@ -32,7 +32,7 @@ fn hole_count(ty: Option<Ty>) -> usize
     }
 }
 
-/// Passes the sites of expressions.
+/// Passes the sites of expressions. After a refusal the place is given up with the walk that holds it.
 #[cycle(pass_expr)]
 pub fn pass_exprs(at: &mut usize, es: &[PExpr]) -> Result<(), AllocError>
     ensures { OnOk result (at.new ≡ at.old + exprs_count es.now) }
@@ -66,7 +66,7 @@ fn pass_pattern(at: &mut usize, es: &[PExpr]) -> Result<(), AllocError>
 ///
 /// # Errors
 ///
-/// The place behind them has no room in a count (`too_many`).
+/// The place behind them has no room in a count (`too_many`). After a refusal the place is given up with the walk that holds it.
 #[cycle(pass_expr)]
 pub fn pass_expr(at: &mut usize, e: &PExpr) -> Result<(), AllocError>
     ensures { OnOk result (at.new ≡ at.old + expr_count e.now) }
@@ -125,7 +125,7 @@ fn pass_value(at: &mut usize, e: &Option<PExpr>) -> Result<(), AllocError>
     }
 }
 
-/// Passes the sites of statements.
+/// Passes the sites of statements. After a refusal the place is given up with the walk that holds it.
 #[cycle(pass_stmt)]
 pub fn pass_stmts(at: &mut usize, ss: &[PStmt]) -> Result<(), AllocError>
     ensures { OnOk result (at.new ≡ at.old + stmts_count ss.now) }
@@ -187,7 +187,7 @@ fn pass_assign(at: &mut usize, target: &PExpr, value: &PExpr) -> Result<(), Allo
 ///
 /// # Errors
 ///
-/// The place behind them has no room in a count (`too_many`).
+/// The place behind them has no room in a count (`too_many`). After a refusal the place is given up with the walk that holds it.
 #[cycle(pass_stmt)]
 pub fn pass_stmt(at: &mut usize, s: &PStmt) -> Result<(), AllocError>
     ensures { OnOk result (at.new ≡ at.old + stmt_count s.now) }

@@ -9,7 +9,7 @@ use Rattle.sk_oblig_arguments.proofs.argument.row_at.Goals as goal
 pub loop-k-preserved : goal.loop-k-preserved
 loop-k-preserved c = record {
   keeps = Keeps-trans c.loop-k.invariant.keeps c.in_ok-one.ensures.keeps;
-  read = row_more c.args.elem c.loop-k.k c.in_ok-one.ensures.keeps c.loop-k.invariant.read c.in_ok-one.ensures.reads c.in_ok-push.ensures.ok (c.in_ok-at.ensures ∙ ap (λ j. c.args.first + j) c.from.ensures);
+  read = row_more c.args.elem c.loop-k.k c.in_ok-one.ensures.keeps c.loop-k.invariant.read c.in_ok-one.ensures.reads c.in_ok-push.ensures.ok (c.in_ok-at.ensures.at ∙ ap (λ j. c.args.first + j) c.from.ensures);
 }
 
 pub returns-clause-read : goal.returns-clause-read

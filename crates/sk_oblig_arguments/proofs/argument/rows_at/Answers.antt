@@ -9,7 +9,7 @@ use Rattle.sk_oblig_arguments.proofs.argument.rows_at.Goals as goal
 pub loop-k-preserved : goal.loop-k-preserved
 loop-k-preserved c = record {
   keeps = Keeps-trans c.loop-k.invariant.keeps c.in_ok-row.ensures.keeps;
-  read = rows_more c.args.elem c.args.length c.loop-k.k c.in_ok-row.ensures.keeps c.loop-k.invariant.read c.in_ok-row.ensures.read c.in_ok-push.ensures.ok (c.in_ok-at.ensures ∙ ap (λ j. c.args.first + j * c.from-in-loop-k.result) c.from.ensures ∙ ap (λ j. c.args.first + c.args.length * j) c.from-in-loop-k.ensures);
+  read = rows_more c.args.elem c.args.length c.loop-k.k c.in_ok-row.ensures.keeps c.loop-k.invariant.read c.in_ok-row.ensures.read c.in_ok-push.ensures.ok (c.in_ok-at.ensures.at ∙ ap (λ j. c.args.first + j * c.from-in-loop-k.result) c.from.ensures ∙ ap (λ j. c.args.first + c.args.length * j) c.from-in-loop-k.ensures);
 }
 
 pub returns-clause-read : goal.returns-clause-read

@@ -8,4 +8,4 @@ returns-clause-value c = λ g m e h.
     let wide = c.width_of.ensures.wide in
     let n : value e.choice c.args.site < 2 ^ c.width_of.result = omega (arith, wide, h, c.if-k-size.false) in
     let k : c.args.k < 2 ^ c.width_of.result = omega (arith, wide, c.if-k-size.false) in
-    (rw c.in_ok-number.ensures at (c.in_ok-r-2.ensures.value g m e)) ∙ above_whole (value e.choice c.args.site) c.args.k c.width_of.result n k
+    (rw c.in_ok-number.ensures.number at (c.in_ok-r-2.ensures.value g m e)) ∙ above_whole (value e.choice c.args.site) c.args.k c.width_of.result n k

@@ -3,7 +3,7 @@ use Rattle.sk_dag.proofs.EvalLemmas.{Keeps-trans}
 use Rattle.sk_arr.proofs.Makers.{Keeps-refl}
 use Rattle.sk_arr.proofs.Standing.{Stands-keeps}
 use Rattle.sk_arr.proofs.Choices.{stand_at}
-use Rattle.sk_sym_operators.proofs.EachBit.{negations_none, negations_more, negations_done}
+use Rattle.sk_sym_operators.proofs.EachBit.{bit_there, negations_none, negations_more, negations_done}
 use Rattle.sk_sym_operators.proofs.bitwise.negations.Goals as goal
 
 pub loop-a-init : goal.loop-a-init
@@ -13,8 +13,11 @@ loop-a-init c = record {
   negations = rw c.new-made.ensures (negations_none c.args.dag.now c.args.x.now);
 }
 
-pub negation-requires : goal.negation-requires
-negation-requires c = Stands-keeps c.loop-a.invariant.keeps (stand_at c.args.x.now c.loop-a.a-index c.a-item.result c.loop-a-test.true c.a-item.is c.requires)
+pub negation-requires-clause-stands : goal.negation-requires-clause-stands
+negation-requires-clause-stands c = Stands-keeps c.loop-a.invariant.keeps (stand_at c.args.x.now c.loop-a.a-index c.a-item.result c.loop-a-test.true c.a-item.is c.requires.stand)
+
+pub negation-requires-clause-bit : goal.negation-requires-clause-bit
+negation-requires-clause-bit c = bit_there c.args.x.now c.loop-a.a-index c.a-item.result c.loop-a-test.true c.a-item.is c.requires.bits
 
 pub loop-a-preserved : goal.loop-a-preserved
 loop-a-preserved c =

@@ -4,7 +4,7 @@ use Rattle.sk_arr.proofs.Makers.{Keeps-refl}
 use Rattle.sk_arr.proofs.Standing.{Stands-keeps}
 use Rattle.sk_arr.proofs.Choices.{stand_at}
 use Rattle.sk_sym_operators.specs.Bitwise.{bitwise}
-use Rattle.sk_sym_operators.proofs.EachBit.{pairs_none, pairs_more, pairs_done}
+use Rattle.sk_sym_operators.proofs.EachBit.{bit_there, pairs_none, pairs_more, pairs_done}
 use Rattle.sk_sym_operators.proofs.bitwise.pairs.Goals as goal
 
 pub loop-a-init : goal.loop-a-init
@@ -25,6 +25,16 @@ pair-requires-clause-b c =
     let m : c.loop-a.a-index < length c.args.y.now = omega (arith, c.requires.long, c.loop-a-test.true) in
     let at : y ≡ get_or c.args.y.now c.loop-a.a-index y = subst (λ n. y ≡ get_or c.args.y.now n y) inv.place c.index-y-i.is in
     Stands-keeps inv.keeps (stand_at c.args.y.now c.loop-a.a-index y m at c.requires.y)
+
+pub pair-requires-clause-a_bit : goal.pair-requires-clause-a_bit
+pair-requires-clause-a_bit c = bit_there c.args.x.now c.loop-a.a-index c.a-item.result c.loop-a-test.true c.a-item.is c.requires.x_bits
+
+pub pair-requires-clause-b_bit : goal.pair-requires-clause-b_bit
+pair-requires-clause-b_bit c =
+    let y = c.index-y-i.result in
+    let m : c.loop-a.a-index < length c.args.y.now = omega (arith, c.requires.long, c.loop-a-test.true) in
+    let at : y ≡ get_or c.args.y.now c.loop-a.a-index y = subst (λ n. y ≡ get_or c.args.y.now n y) c.loop-a.invariant.place c.index-y-i.is in
+    bit_there c.args.y.now c.loop-a.a-index y m at c.requires.y_bits
 
 pub loop-a-preserved : goal.loop-a-preserved
 loop-a-preserved c =

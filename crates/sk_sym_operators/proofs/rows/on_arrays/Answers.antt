@@ -1,6 +1,9 @@
-use Rattle.std.proofs.Common.{refl}
-use Rattle.sk_sym_operators.proofs.BitRows.{at_forms}
+use Rattle.std.proofs.Common.{length, refl, sym, subst, ap, ◌∙◌}
+use Rattle.sk_arr.specs.Bits.{AreBits}
 use Rattle.sk_sym_operators.proofs.rows.on_arrays.Goals as goal
 
-pub returns-in_ok-made-in-Add-clause-operated : goal.returns-in_ok-made-in-Add-clause-operated
-returns-in_ok-made-in-Add-clause-operated c = at_forms _ refl refl c.in-Add.is c.in_ok-made-in-Add.ensures.operated
+pub on_even-requires-clause-y_bits : goal.on_even-requires-clause-y_bits
+on_even-requires-clause-y_bits c = subst AreBits c.as_slice-second.ensures (c.if-not-are_even.ensures.bits refl)
+
+pub on_even-requires-clause-long : goal.on_even-requires-clause-long
+on_even-requires-clause-long c = ap length (sym c.as_slice-first.ensures) ∙ c.if-not-are_even.ensures.long refl ∙ ap length c.as_slice-second.ensures

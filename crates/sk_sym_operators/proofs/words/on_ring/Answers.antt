@@ -1,4 +1,5 @@
 use Rattle.sk_sym_operators.proofs.Computing.{add_is, sub_is, mul_is, lt_is, le_is, gt_is, ge_is}
+use Rattle.sk_sym_operators.proofs.Meaning.{no_words}
 use Rattle.sk_sym_operators.proofs.words.on_ring.Goals as goal
 
 pub returns-in_ok-made-in-Add-clause-computed : goal.returns-in_ok-made-in-Add-clause-computed
@@ -21,3 +22,8 @@ returns-in_ok-made-in-Gt-clause-computed c = gt_is _ _ _ _ c.in-Gt.is c.in_ok-r-
 
 pub returns-in_ok-made-in-Ge-clause-computed : goal.returns-in_ok-made-in-Ge-clause-computed
 returns-in_ok-made-in-Ge-clause-computed c = ge_is _ _ _ _ c.in-Ge.is c.in_ok-r-in-Ge.ensures.value c.in_ok-made-in-Ge.ensures.keeps c.in_ok-made-in-Ge.ensures.computed
+
+pub returns-in_ok-made-in_default-clause-computed : goal.returns-in_ok-made-in_default-clause-computed
+returns-in_ok-made-in_default-clause-computed c =
+    let no = c.in_default in
+    no_words _ _ _ c.requires.no_quotient c.requires.no_rest no.not-Add no.not-Sub no.not-Mul no.not-Lt no.not-Le no.not-Gt no.not-Ge c.in_ok-made-in_default.ensures.computed

@@ -1,0 +1,7 @@
+//! Inputs that are guessed before a formula asks for one.
+#![tactic(auto)]
+
+mod guessing;
+mod pattern;
+
+pub use guessing::guess;

@@ -1,0 +1,4 @@
+pub mod Numbers
+pub mod Finding
+pub mod Trimming
+pub mod Keeping

@@ -1,0 +1,11 @@
+pub mod Constants
+pub mod Trimmed
+pub mod Called
+pub mod Renamed
+pub mod Stays
+pub mod Pruned
+pub mod Reached
+pub mod Words
+pub mod Numbered
+pub mod Trims
+pub mod Found

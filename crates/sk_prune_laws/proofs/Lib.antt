@@ -1,0 +1,10 @@
+pub mod Decided
+pub mod Rows
+pub mod Trims
+pub mod Renames
+pub mod Runs
+pub mod Keeps
+pub mod Named
+pub mod Full
+pub mod Plain
+pub mod Typed

@@ -1,0 +1,10 @@
+use Rattle.std.proofs.Common.{refl}
+use Rattle.sk_sym_operators.proofs.Operating.{not_is}
+use Rattle.sk_sym_operators.proofs.Meaning.{no_opposite}
+use Rattle.sk_sym_operators.proofs.single.opposite.Goals as goal
+
+pub returns-in_ok-made-in-Bit-clause-operated : goal.returns-in_ok-made-in-Bit-clause-operated
+returns-in_ok-made-in-Bit-clause-operated c = not_is c.args.dag.now.bits _ _ refl c.in-Bit.is c.in_ok-r-in-Bit.ensures.value c.in_ok-made-in-Bit.ensures.keeps c.in_ok-made-in-Bit.ensures.computed
+
+pub returns-in_ok-made-in_default-clause-operated : goal.returns-in_ok-made-in_default-clause-operated
+returns-in_ok-made-in_default-clause-operated c = no_opposite c.args.dag.now.bits c.args.a.now c.in_default.not-Bit c.in_ok-made-in_default.ensures.computed
