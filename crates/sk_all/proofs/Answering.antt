@@ -9,7 +9,7 @@ use Rattle.sk_model.specs.declared.expanded.Expanded.{Expanded}
 use Rattle.sk_model.specs.declared.expanded.Input.{Input}
 use Rattle.sk_model.specs.declared.expanded.Pair.{Pair}
 use Rattle.sk_model.specs.Inputs.{IsInput}
-use Rattle.sk_oblig.specs.Formulas.{IsAskable}
+use Rattle.sk_loop.specs.Formulas.{IsAskable}
 use Rattle.sk_loop_laws.specs.Honest.{Honest, inputs_of}
 use Rattle.sk_loop_laws.specs.Shown.{Completes, HasRoom, NonePasses as NonePassesWithin}
 use Rattle.sk_loop_laws.proofs.Completing.{completes_is_wanted}

@@ -1,1 +1,2 @@
 pub mod Reasons
+pub use Rattle.sk_loop.specs.Formulas

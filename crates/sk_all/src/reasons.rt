@@ -3,17 +3,17 @@
 ghost use Rattle.std.specs.Prelude.{◌≡◌, ◌+◌, ◌<◌, ◌++◌, All, IfOk, OnOk, None, length, true, false};
 ghost use Rattle.sk_model.specs.Inputs.{IsInput};
 ghost use Rattle.sk_loop_laws.specs.Honest.{inputs_of};
-ghost use Rattle.sk_oblig.specs.Formulas.{IsAskable};
+ghost use Rattle.sk_loop.specs.Formulas.{IsAskable};
 ghost use Rattle.sk_oblig_queries.specs.declared.query.Query.TheVariants as query_form;
 ghost use Rattle.sk_all.specs.Reasons.{AreDistinct, Explains, IsWhy, NonePasses, SomePasses, Thinned};
 
 use crate::answer::Why;
 use sk_base::{Bounds, Budget, List};
+use sk_loop::oblig::formula;
 use sk_loop::{Found, synthesise};
 use sk_loop_copies::copy_input;
 use sk_loop_refuted::refuted;
 use sk_model::{Expanded, Input, Pair};
-use sk_oblig::formula;
 use sk_oblig_queries::Query;
 use sk_sat::Answer;
 use std::alloc::{AllocError, Global};

@@ -13,7 +13,7 @@ use Rattle.sk_model.specs.Inputs.{IsInput}
 use Rattle.sk_model.specs.Meets.{Meets}
 use Rattle.sk_model.specs.Parts.{value}
 use Rattle.sk_model.specs.Stands.{AgreeWhereStands, standing, sites_stand}
-use Rattle.sk_oblig.specs.Formulas.{IsAskable}
+use Rattle.sk_loop.specs.Formulas.{IsAskable}
 use Rattle.sk_oblig_queries.specs.Queries.{IsBad, IsWanted}
 use Rattle.sk_loop.specs.declared.countered.Countered.{Countered}
 use Rattle.sk_loop.specs.declared.countered.Countered.TheVariants as countered

@@ -3,7 +3,7 @@
 ghost use Rattle.std.specs.Prelude.{◌≡◌, ◌+◌, ◌<◌, ◌≤◌, All, IfOk, OnOk, length};
 ghost use Rattle.sk_model.specs.Inputs.{IsInput};
 ghost use Rattle.sk_min_laws.specs.Best.{Meeting};
-ghost use Rattle.sk_oblig.specs.Formulas.{IsAskable};
+ghost use Rattle.sk_loop.specs.Formulas.{IsAskable};
 ghost use Rattle.sk_all_listing.specs.Completions.{IsListing, choices_of};
 ghost use Rattle.sk_all_listing.specs.Rounds.{AreListed, IsTurn, IsUnlisted};
 

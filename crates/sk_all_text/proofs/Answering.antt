@@ -7,7 +7,7 @@ use Rattle.sk_model.specs.declared.expanded.Choice.{Choice}
 use Rattle.sk_model.specs.declared.expanded.Expanded.{Expanded}
 use Rattle.sk_model.specs.declared.expanded.Input.{Input}
 use Rattle.sk_min_laws.specs.Best.{Meeting}
-use Rattle.sk_oblig.specs.Formulas.{IsAskable}
+use Rattle.sk_all.specs.Formulas.{IsAskable}
 use Rattle.sk_opts.specs.declared.line.Set.{Set}
 use Rattle.sk_front.specs.declared.expansion.Expansion.{Expansion}
 use Rattle.sk_front.specs.Front.{ExpandsWithin}

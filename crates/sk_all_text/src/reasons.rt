@@ -5,7 +5,7 @@ ghost use Rattle.sk_base.specs.declared.bounds.Bounds.{Bounds};
 ghost use Rattle.sk_model.specs.declared.expanded.Choice.{Choice};
 ghost use Rattle.sk_model.specs.declared.expanded.Expanded.{Expanded};
 ghost use Rattle.sk_min_laws.specs.Best.{Meeting};
-ghost use Rattle.sk_oblig.specs.Formulas.{IsAskable};
+ghost use Rattle.sk_all.specs.Formulas.{IsAskable};
 ghost use Rattle.sk_opts.specs.Ranges.{IsInRanges};
 ghost use Rattle.sk_front.specs.declared.fault.SketchFault.{SketchFault};
 ghost use Rattle.sk_front.specs.Texts.{most_bytes};

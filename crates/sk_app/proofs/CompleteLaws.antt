@@ -28,8 +28,8 @@ use Rattle.sk_oblig_queries.specs.declared.query.Query.{Query}
 use Rattle.sk_loop_laws.specs.Honest.{Honest, inputs_of}
 use Rattle.sk_loop_laws.specs.Shown.{AreSpent, HasRoom, Learnt, IsOfSearch}
 use Rattle.sk_min_laws.specs.Best.{IsBest, Meeting, NoneBelow}
-use Rattle.sk_min.specs.Least.{IsKnown, IsKnownOf, IsFreeSpent}
-use Rattle.sk_min.specs.Least as least
+use Rattle.sk_min_certificate.specs.Least.{IsKnown, IsKnownOf, IsFreeSpent}
+use Rattle.sk_min_certificate.specs.Least as least
 use Rattle.sk_cert.specs.declared.certificate.Certificate.{Certificate}
 use Rattle.sk_cert.specs.Certificates.{result_lines, certificate_lines, IsCertificate}
 use Rattle.sk_check_laws.specs.Parts.{HasLayout, is_layout}
@@ -37,7 +37,7 @@ use Rattle.sk_check_laws.specs.Right.{is_right}
 use Rattle.sk_min_certificate.specs.Certifications.{FillingsFit, IsCertified}
 use Rattle.sk_opts.specs.declared.line.Set.{Set}
 use Rattle.sk_front_laws.proofs.Whole.{texts_keep, texts_fit}
-use Rattle.sk_built_laws.specs.Built.{IsReady}
+use Rattle.sk_all_text.specs.Built.{IsReady}
 use Rattle.sk_app.specs.declared.completion.Completion.{Completion}
 use Rattle.sk_app_texts.specs.SelfTexts.{self_text}
 use Rattle.sk_app.specs.Completing.{IsLeast, IsNoChoice, IsShownWithin}

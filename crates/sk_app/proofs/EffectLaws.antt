@@ -57,7 +57,7 @@ use Rattle.sk_adt_text.specs.PlainTexts.{HasNoPlainForm, IsNotTagged, IsLoweredT
 use Rattle.sk_front.specs.Texts.{most_bytes, byte_of, HasSpan, IsTextFault}
 use Rattle.sk_front.proofs.TextLaws.{byte_within}
 use Rattle.sk_app_reading.specs.Streams.{Appends, AppendsPrefix, TakesFew}
-use Rattle.sk_built_laws.specs.Built.{IsBuilt}
+use Rattle.sk_all_text.specs.Built.{IsBuilt}
 use Rattle.sk_app.specs.ResultText.{IsCompletion, IsNone}
 use Rattle.sk_app.specs.Spent.{AreLearnt, IsSpentRounds, IsSpentConflicts}
 use Rattle.sk_app.specs.Results.{IsResult}

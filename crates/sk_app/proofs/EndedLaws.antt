@@ -11,7 +11,7 @@ use Rattle.sk_opts.specs.declared.line.Set.{Set}
 use Rattle.sk_app.specs.declared.prepare.Found.TheVariants as found
 use Rattle.sk_app.specs.declared.ending.Ending.{Ending}
 use Rattle.sk_app.specs.declared.ending.Ending.TheVariants as ending
-use Rattle.sk_built_laws.specs.Built.{IsTaken}
+use Rattle.sk_all_text.specs.Built.{IsTaken}
 use Rattle.sk_app.specs.Prepared.{Finds}
 use Rattle.sk_app.specs.Results.{HasResult, IsResultOf, IsResult}
 use Rattle.sk_app.specs.Ends.{IsDelivered, delivered, cut, no_room, Writes, WritesPart, writes_nothing, IsToldOf}

@@ -18,7 +18,7 @@ use Rattle.sk_front.specs.declared.fault.SketchFault.TheVariants as fault
 use Rattle.sk_lexer.specs.declared.fault.LexFault.TheVariants as lex
 use Rattle.sk_parser.specs.declared.fault.ParseFault.TheVariants as parse
 use Rattle.sk_expand_sizes.specs.declared.fault.SizeFault.TheVariants as size
-use Rattle.sk_all_listing.specs.Completions as listed
+use Rattle.sk_all_text.specs.Completions as listed
 use Rattle.sk_all_text.specs.AllTexts.{TellsListing, IsListing}
 use Rattle.sk_app.specs.declared.listing.Question.{Question}
 use Rattle.sk_app.specs.declared.listing.Question.TheVariants as question

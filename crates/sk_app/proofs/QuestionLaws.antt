@@ -13,7 +13,7 @@ use Rattle.sk_front.specs.declared.fault.SketchFault.TheVariants as fault
 use Rattle.sk_front.specs.Texts.{most_bytes, HasSpan}
 use Rattle.sk_front.specs.Front.{IsFaultOfSizes}
 use Rattle.sk_min_laws.specs.Best.{Meeting}
-use Rattle.sk_built_laws.specs.Built.{IsBuilt, IsTaken}
+use Rattle.sk_all_text.specs.Built.{IsBuilt, IsTaken}
 use Rattle.sk_app.specs.declared.listing.Question.{Question}
 use Rattle.sk_app.specs.declared.listing.Question.TheVariants as question
 use Rattle.sk_app.specs.Questions.{Reply, OfList, OfReasons, OfCompletion, IsReply, ending_with}

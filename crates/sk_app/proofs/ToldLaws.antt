@@ -15,7 +15,7 @@ use Rattle.sk_front.specs.Front.{IsUntyped, IsTooLarge, IsCause, IsSame, IsFault
 use Rattle.sk_front.proofs.FrontLaws.{one_cause, sizes_or_cause}
 use Rattle.sk_app.specs.declared.ending.Ending.{Ending}
 use Rattle.sk_app.specs.declared.ending.Ending.TheVariants as ending
-use Rattle.sk_built_laws.specs.Built.{IsBuilt, IsTaken}
+use Rattle.sk_all_text.specs.Built.{IsBuilt, IsTaken}
 use Rattle.sk_app.specs.Ends.{IsToldOf}
 use Rattle.sk_app.proofs.Endings.{EndsBuilt, EndsFaulty, EndsUntyped, EndsLarge, EndsLong}
 

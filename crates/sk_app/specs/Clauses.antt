@@ -33,7 +33,7 @@ use Rattle.sk_trace_text.specs.Traced.{IsNotTraced}
 use Rattle.sk_app.specs.declared.direct.Job.{Job}
 use Rattle.sk_app.specs.declared.ending.Ending.TheVariants.{Completed, NoCompletion, SpentRounds, SpentConflicts, HelpShown, VersionShown, ExecDone, ExecFailed, ExecSkipped, Lowered, Listed, Explained, Met, Accepted, Rejected, NotALine, NotText, NotTyped, TooLarge, NotRun, NotFilled, NotLowered, NotTagged, NotCertificate, ReadFault, WriteFault, TooLong}
 use Rattle.sk_min_laws.specs.Best.{Meeting}
-use Rattle.sk_built_laws.specs.Built.{IsBuilt}
+use Rattle.sk_all_text.specs.Built.{IsBuilt}
 use Rattle.sk_all_text.specs.AllTexts.{IsListing}
 use Rattle.sk_app.specs.ResultText.{IsCompletion, IsNone}
 use Rattle.sk_app.specs.Spent.{AreLearnt, IsSpentRounds, IsSpentConflicts}

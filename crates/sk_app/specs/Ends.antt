@@ -18,7 +18,7 @@ use Rattle.sk_check_text.specs.declared.fault.CheckFault.{CheckFault}
 use Rattle.sk_check_text.specs.declared.fault.CheckFault.TheVariants as check
 use Rattle.sk_check_text.specs.Checking as checking
 use Rattle.sk_check_laws.specs.Rejected.{part_number}
-use Rattle.sk_built_laws.specs.Built.{IsTaken}
+use Rattle.sk_all_text.specs.Built.{IsTaken}
 use Rattle.sk_app_reading.specs.Streams.{Appends, AppendsPrefix}
 
 -- a text of this kind was appended to what the sink held

@@ -13,7 +13,7 @@ use Rattle.sk_front.specs.declared.fault.SketchFault.{SketchFault}
 use Rattle.sk_front.specs.Texts.{most_bytes}
 use Rattle.sk_front.specs.Front.{IsCause, IsFaultOfSizes}
 use Rattle.sk_app.specs.declared.ending.Ending.TheVariants.{NotALine, ReadFault, WriteFault, TooLong, Memory}
-use Rattle.sk_built_laws.specs.Built.{IsOnly}
+use Rattle.sk_all_text.specs.Built.{IsOnly}
 use Rattle.sk_app.specs.ResultText.{completion_lines, none_text, IsWithCertificate}
 use Rattle.sk_app.specs.Results.{IsSpent}
 use Rattle.sk_app.specs.Lines.{IsNoLine, IsSearch}

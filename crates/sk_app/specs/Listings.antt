@@ -13,7 +13,7 @@ use Rattle.sk_model.specs.Meets.{Meets, Passes}
 use Rattle.sk_opts.specs.declared.line.Set.{Set}
 use Rattle.sk_opts.specs.declared.line.Line.TheVariants as line
 use Rattle.sk_opts.specs.CommandLine.{IsLine}
-use Rattle.sk_all.specs.Reasons.{AreDistinct, without}
+use Rattle.sk_all_text.specs.Reasons.{AreDistinct, without}
 use Rattle.sk_all_text.specs.AllLines.{holes_line, input_line}
 use Rattle.sk_app.specs.Headline.{ForSketch}
 use Rattle.sk_app.specs.Call.{Call, EndsWith, OfText, Gets}

@@ -12,7 +12,7 @@ use Rattle.sk_app.specs.declared.prepare.Found.TheVariants as found
 use Rattle.sk_app.specs.declared.prepare.Prepared.{Prepared}
 use Rattle.sk_app.specs.declared.prepare.Prepared.TheVariants as prepared
 use Rattle.sk_app_reading.specs.Streams.{IsLong}
-use Rattle.sk_built_laws.specs.Built.{IsReady}
+use Rattle.sk_all_text.specs.Built.{IsReady}
 use Rattle.sk_app.specs.Results.{HasResult, IsResultOf}
 
 -- what is built of a text with these options, or why nothing is

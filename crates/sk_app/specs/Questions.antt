@@ -2,7 +2,7 @@
 -- none.
 use Rattle.std.specs.Prelude.{ℕ, ◌<◌, List}
 use Rattle.sk_opts.specs.declared.line.Set.{Set}
-use Rattle.sk_built_laws.specs.Built.{ForBuilt}
+use Rattle.sk_all_text.specs.Built.{ForBuilt}
 use Rattle.sk_all_text.specs.AllTexts.{TellsInputs, TellsMeeting, IsListing}
 use Rattle.sk_app.specs.declared.ending.Ending.{Ending}
 use Rattle.sk_app.specs.declared.ending.Ending.TheVariants.{Listed, Explained, Met}

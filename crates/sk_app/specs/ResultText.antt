@@ -14,7 +14,7 @@ use Rattle.sk_min_laws.specs.Best.{NoneBelow}
 use Rattle.sk_min_certificate.specs.Certifications.{IsCertified}
 use Rattle.sk_opts.specs.declared.line.Set.{Set}
 use Rattle.sk_app.specs.declared.completion.Completion.{Completion}
-use Rattle.sk_built_laws.specs.Built.{IsOnly}
+use Rattle.sk_all_text.specs.Built.{IsOnly}
 use Rattle.sk_app.specs.Completing.{IsLeast, IsNoChoice, IsShownWithin}
 
 -- each number with a space before it

@@ -14,9 +14,9 @@ use Rattle.sk_print.specs.Shows.{Shows}
 use Rattle.sk_oblig_queries.specs.declared.query.Query.{Query}
 use Rattle.sk_loop_laws.specs.Honest.{Honest}
 use Rattle.sk_loop_laws.specs.Shown.{AreSpent, HasRoom, Learnt, IsOfSearch}
-use Rattle.sk_min.specs.Least.{IsKnown, IsKnownOf, IsFreeSpent}
+use Rattle.sk_min_certificate.specs.Least.{IsKnown, IsKnownOf, IsFreeSpent}
 use Rattle.sk_opts.specs.declared.line.Set.{Set}
-use Rattle.sk_built_laws.specs.Built.{IsOnly}
+use Rattle.sk_all_text.specs.Built.{IsOnly}
 use Rattle.sk_app.specs.SpentText.{OfRounds, OfConflicts, spent_result}
 
 -- A choice in range whose filling meets its obligations, and its layout shows the filled program.

@@ -4,7 +4,7 @@ use Rattle.sk_base.specs.declared.bounds.Bounds.{Bounds}
 use Rattle.sk_model.specs.declared.expanded.Expanded.{Expanded}
 use Rattle.sk_app_texts.specs.SelfTexts.{self_sketch, self_text}
 use Rattle.sk_opts.specs.declared.line.Set.{Set}
-use Rattle.sk_built_laws.specs.Built.{IsOnly}
+use Rattle.sk_all_text.specs.Built.{IsOnly}
 use Rattle.sk_app.specs.declared.completion.Completion.{Completion}
 use Rattle.sk_app.specs.Completing.{IsLeast}
 

@@ -1,7 +1,7 @@
 //! The line `self`: it completes a sketch that the program makes itself, and writes a summary.
 
 ghost use Rattle.std.specs.Prelude.{◌≡◌, ◌≤◌, length, IfOk};
-ghost use Rattle.sk_oblig.specs.Formulas.{IsAskable};
+ghost use Rattle.sk_all_text.specs.Formulas.{IsAskable};
 ghost use Rattle.sk_app_texts.specs.SelfTexts.{self_sketch};
 ghost use Rattle.sk_front.specs.Texts.{most_bytes};
 ghost use Rattle.sk_app.specs.Summary.{no_set, IsSummaryOf, IsSummary};
@@ -13,7 +13,7 @@ use crate::output::deliver;
 use sk_base::{Bounds, Budget, Sink};
 use sk_front::sized_expansion_of;
 use sk_limits::never;
-use sk_min::{Least, least};
+use sk_min_certificate::min::{Least, least};
 use sk_model::Expanded;
 use sk_opts::Set;
 use sk_self_text::{self_sketch, self_text};

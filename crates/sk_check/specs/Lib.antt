@@ -1,1 +1,2 @@
 pub mod Verdicts
+pub use Rattle.sk_oblig.specs.Formulas

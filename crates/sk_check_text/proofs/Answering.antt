@@ -8,7 +8,7 @@ use Rattle.sk_model.specs.declared.expanded.Expanded.{Expanded}
 use Rattle.sk_model.specs.declared.expanded.Site.{Site}
 use Rattle.sk_expand_sites.specs.Needs.{is_narrow, are_narrow}
 use Rattle.sk_oblig_queries.specs.Laws.{AreSmall}
-use Rattle.sk_oblig.specs.Formulas.{IsAskable}
+use Rattle.sk_check.specs.Formulas.{IsAskable}
 use Rattle.sk_cert.specs.declared.certificate.Certificate.{Certificate}
 use Rattle.sk_cert.specs.Certificates.{HasForm, IsCertificate}
 use Rattle.sk_check_laws.specs.declared.reason.Reason.{Reason}

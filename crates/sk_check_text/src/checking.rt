@@ -1,7 +1,7 @@
 //! What a line `check` says of its input.
 
 ghost use Rattle.std.specs.Prelude.{◌≡◌, ◌≤◌, ◌<◌, length, IfOk, IfErr, MatchResult};
-ghost use Rattle.sk_oblig.specs.Formulas.{IsAskable};
+ghost use Rattle.sk_check.specs.Formulas.{IsAskable};
 ghost use Rattle.sk_cert.specs.declared.fault.CertFault.{CertFault};
 ghost use Rattle.sk_check_laws.specs.declared.reason.Reason.{Reason};
 ghost use Rattle.sk_check_laws.specs.Rejected.{part_number};

@@ -3,3 +3,4 @@ pub mod Countered
 pub mod Session
 pub mod Answered
 pub mod Rounds
+pub use Rattle.sk_oblig_asking.specs.Formulas

@@ -2,7 +2,7 @@
 
 ghost use Rattle.std.specs.Prelude.{◌≡◌, ◌+◌, ◌<◌, ◌≤◌, ◌⊎◌, OnOk, length};
 ghost use Rattle.sk_loop_laws.specs.Honest.{inputs_of};
-ghost use Rattle.sk_oblig.specs.Formulas.{IsAskable};
+ghost use Rattle.sk_oblig_asking.specs.Formulas.{IsAskable};
 ghost use Rattle.sk_loop.specs.Session.{Asks, KeepsClauses};
 
 use sk_base::Bounds;

@@ -2,7 +2,7 @@
 
 ghost use Rattle.std.specs.Prelude.{IfOk};
 ghost use Rattle.sk_model.specs.Fill.{InRange};
-ghost use Rattle.sk_oblig.specs.Formulas.{IsAskable};
+ghost use Rattle.sk_oblig_asking.specs.Formulas.{IsAskable};
 ghost use Rattle.sk_loop.specs.Answered.{IsAnswered};
 ghost use Rattle.sk_loop.specs.Countered.{IsCountered};
 
@@ -13,7 +13,7 @@ use sk_cnf::Encoded;
 use sk_loop_copies::copy_choice;
 use sk_loop_guesses::guess;
 use sk_model::{Choice, Expanded, Input as InputOf};
-use sk_oblig::{formula, input_of};
+use sk_oblig_asking::oblig::{formula, input_of};
 use sk_oblig_queries::Query;
 use sk_sat::Solver;
 use std::alloc::{AllocError, Global};

@@ -3,7 +3,7 @@
 ghost use Rattle.std.specs.Prelude.{◌≡◌, ◌+◌, [], None, IfOk, OnErr, OnOk, length};
 ghost use Rattle.sk_cnf.specs.Standing.{Begins};
 ghost use Rattle.sk_oblig_queries.specs.Queries.{IsWanted};
-ghost use Rattle.sk_oblig.specs.Formulas.{IsAskable};
+ghost use Rattle.sk_oblig_asking.specs.Formulas.{IsAskable};
 ghost use Rattle.sk_loop_laws.specs.Shown.{HasRoom};
 ghost use Rattle.sk_loop_laws.specs.Honest.{Grown, Honest, IsRound, inputs_of};
 ghost use Rattle.sk_sat.specs.Solver.{gained};

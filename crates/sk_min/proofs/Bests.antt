@@ -9,7 +9,7 @@ use Rattle.sk_model.specs.Fill.{fill}
 use Rattle.sk_model.specs.Inputs.{IsInput}
 use Rattle.sk_model.specs.Meets.{IsGreatestCost}
 use Rattle.sk_oblig_queries.specs.Queries.{IsWanted}
-use Rattle.sk_oblig.specs.Formulas.{IsAskable}
+use Rattle.sk_loop.specs.Formulas.{IsAskable}
 use Rattle.sk_loop_laws.specs.Honest.{Honest, inputs_of}
 use Rattle.sk_loop_laws.specs.Shown.{Completes, NonePasses}
 use Rattle.sk_min_laws.specs.Best.{IsBest, Meeting, NoneBelow, greatest_on}

@@ -10,7 +10,7 @@ use Rattle.sk_model.specs.declared.expanded.Pair.{Pair}
 use Rattle.sk_model.specs.Fill.{fill}
 use Rattle.sk_model.specs.Inputs.{IsInput}
 use Rattle.sk_model.specs.Meets.{IsGreatestCost, Meets, cost_on}
-use Rattle.sk_oblig.specs.Formulas.{IsAskable}
+use Rattle.sk_loop.specs.Formulas.{IsAskable}
 use Rattle.sk_loop_laws.specs.Honest.{Grown, Honest, inputs_of}
 use Rattle.sk_loop_laws.specs.Shown.{Completes}
 use Rattle.sk_loop_laws.proofs.Lists.{get_front}

@@ -12,7 +12,7 @@ use Rattle.sk_model.specs.Meets.{IsGreatestCost, cost_on}
 use Rattle.sk_oblig_queries.specs.declared.query.Query.{Query}
 use Rattle.sk_oblig_queries.specs.declared.query.Query.TheVariants as query
 use Rattle.sk_oblig_queries.specs.Queries.{IsWanted}
-use Rattle.sk_oblig.specs.Formulas.{IsAskable}
+use Rattle.sk_loop.specs.Formulas.{IsAskable}
 use Rattle.sk_loop.specs.declared.session.Session.{Session}
 use Rattle.sk_loop.specs.Session.{IsReady, StandsFor}
 use Rattle.sk_loop_laws.specs.Honest.{Grown, Honest, inputs_of}

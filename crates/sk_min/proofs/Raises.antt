@@ -18,7 +18,7 @@ use Rattle.sk_model.specs.Meets.{Meets, cost_on}
 use Rattle.sk_oblig_queries.specs.declared.query.Query.{Query}
 use Rattle.sk_oblig_queries.specs.declared.query.Query.TheVariants as query
 use Rattle.sk_oblig_queries.specs.Queries.{IsBad, IsWanted}
-use Rattle.sk_oblig.specs.Formulas.{IsAskable}
+use Rattle.sk_loop.specs.Formulas.{IsAskable}
 use Rattle.sk_loop.specs.Countered.{IsBadQuery, IsSpentOn}
 use Rattle.sk_loop_laws.specs.Honest.{Grown, Honest, inputs_of}
 use Rattle.sk_loop_laws.specs.Shown.{AreSpent, HasRoom, IsOfPairs, IsOfSearch, Learnt}

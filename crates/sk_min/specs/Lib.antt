@@ -1,2 +1,3 @@
 pub mod Least
 pub mod Search
+pub use Rattle.sk_loop.specs.Formulas

@@ -4,7 +4,7 @@ ghost use Rattle.std.specs.Prelude.{◌≡◌, ◌-◌, IfOk, None, Some};
 ghost use Rattle.sk_loop.specs.Session.{IsReady, StandsFor};
 ghost use Rattle.sk_loop_laws.specs.Honest.{Honest, inputs_of};
 ghost use Rattle.sk_loop_laws.specs.Shown.{HasRoom};
-ghost use Rattle.sk_oblig.specs.Formulas.{IsAskable};
+ghost use Rattle.sk_loop.specs.Formulas.{IsAskable};
 ghost use Rattle.sk_min_laws.specs.Best.{Meeting};
 ghost use Rattle.sk_min.specs.Least.{IsAnswer, pairs_of};
 ghost use Rattle.sk_min.specs.Search.{IsBehind, IsCheapest, IsCostly, IsState, IsTop, IsTurn};

@@ -5,7 +5,7 @@ ghost use Rattle.sk_loop_laws.specs.Honest.{Honest, inputs_of};
 ghost use Rattle.sk_loop_laws.specs.Shown.{AreSpent, HasRoom};
 ghost use Rattle.sk_model.specs.Fill.{InRange};
 ghost use Rattle.sk_model.specs.Inputs.{IsInput};
-ghost use Rattle.sk_oblig.specs.Formulas.{IsAskable};
+ghost use Rattle.sk_loop.specs.Formulas.{IsAskable};
 ghost use Rattle.sk_oblig_queries.specs.Queries.{IsBad};
 ghost use Rattle.sk_min_laws.specs.Best.{Meeting, greatest_on};
 ghost use Rattle.sk_min.specs.Search.{IsCheapest, IsCostlier, IsCostly, IsRaisedTo};
@@ -14,10 +14,10 @@ use crate::answer::Least;
 use crate::search::{Costlier, Raised};
 use sk_base::{Bounds, Budget, List};
 use sk_limits::too_many;
+use sk_loop::oblig::cost_of;
 use sk_loop::{Countered, counter};
 use sk_loop_copies::copy_choice;
 use sk_model::{Choice, Expanded, Input, Pair};
-use sk_oblig::cost_of;
 use std::alloc::{AllocError, Global};
 
 // The larger of two costs.

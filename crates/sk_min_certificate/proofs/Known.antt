@@ -14,7 +14,7 @@ use Rattle.sk_model.specs.Inputs.{IsInput}
 use Rattle.sk_oblig_queries.specs.declared.query.Query.{Query}
 use Rattle.sk_oblig_queries.specs.declared.query.Query.TheVariants as query
 use Rattle.sk_oblig_queries.specs.Queries.{IsWanted}
-use Rattle.sk_oblig.specs.Formulas.{IsAskable}
+use Rattle.sk_min.specs.Formulas.{IsAskable}
 use Rattle.sk_loop_laws.specs.Honest.{Honest, inputs_of}
 use Rattle.sk_loop_laws.specs.Shown.{Completes, IsOfPairs, Learnt}
 use Rattle.sk_loop_laws.proofs.Completing.{completes_is_wanted}

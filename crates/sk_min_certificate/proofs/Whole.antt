@@ -14,7 +14,7 @@ use Rattle.sk_model.specs.Obligations.{obligations}
 use Rattle.sk_expand_sites.specs.Needs.{are_narrow, is_narrow}
 use Rattle.sk_oblig_queries.specs.Laws.{AreSmall}
 use Rattle.sk_oblig_queries.specs.Queries.{AsksFor}
-use Rattle.sk_oblig.specs.Formulas.{IsAskable}
+use Rattle.sk_min.specs.Formulas.{IsAskable}
 use Rattle.sk_loop_laws.specs.Honest.{Honest, inputs_of}
 use Rattle.sk_loop_laws.proofs.Pairs.{honest_are_inputs}
 use Rattle.sk_cert.specs.declared.certificate.Proof.{Proof}

@@ -4,7 +4,7 @@ ghost use Rattle.std.specs.Prelude.{◌≡◌, ◌≤◌, length, None, Some, If
 ghost use Rattle.std.specs.Option.{option_copied};
 ghost use Rattle.sk_model.specs.declared.expanded.Choice.{Choice};
 ghost use Rattle.sk_oblig_queries.specs.Queries.{IsWanted};
-ghost use Rattle.sk_oblig.specs.Formulas.{IsAskable};
+ghost use Rattle.sk_min.specs.Formulas.{IsAskable};
 ghost use Rattle.sk_loop_laws.specs.Honest.{Honest, inputs_of};
 ghost use Rattle.sk_min_laws.specs.Best.{IsBest, NoneBelow};
 ghost use Rattle.sk_cert.specs.Certificates.{HasForm, IsCertificate};

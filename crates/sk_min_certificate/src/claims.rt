@@ -3,7 +3,7 @@
 ghost use Rattle.std.specs.Prelude.{◌≡◌, ◌≤◌, length, None, Some, IfOk};
 ghost use Rattle.sk_print.specs.Layout.{layout};
 ghost use Rattle.sk_model.specs.Fill.{InRange, fill};
-ghost use Rattle.sk_oblig.specs.Formulas.{IsAskable};
+ghost use Rattle.sk_min.specs.Formulas.{IsAskable};
 ghost use Rattle.sk_loop_laws.specs.Honest.{Honest, inputs_of};
 ghost use Rattle.sk_cert.specs.Certificates.{IsProgramText};
 ghost use Rattle.sk_min_certificate.specs.Certifications.{FillingsFit};

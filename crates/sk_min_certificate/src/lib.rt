@@ -9,3 +9,4 @@ mod numbers;
 
 pub use certification::Certification;
 pub use certifying::{best_certification, none_certification};
+pub use sk_min as min;

@@ -19,9 +19,9 @@ use Rattle.sk_model.specs.Fill.{InRange, fill}
 use Rattle.sk_model.specs.Meets.{cost_of, cost_on}
 use Rattle.sk_model.specs.Open.{run_open}
 use Rattle.sk_holes_choice_laws.specs.Meeting.{cost_of_obligation_under}
-use Rattle.sk_oblig_arguments.specs.Constants.{AreConstant}
-use Rattle.sk_sym.specs.declared.outcome.SymOutcome.{SymOutcome}
-use Rattle.sk_sym.specs.Outcome.{IsOutcome, Says}
+use Rattle.sk_oblig_checks.specs.Constants.{AreConstant}
+use Rattle.sk_oblig_checks.specs.SymOutcome.{SymOutcome}
+use Rattle.sk_oblig_checks.specs.Outcome.{IsOutcome, Says}
 use Rattle.sk_oblig_checks.specs.Checks.{IsCheck, IsBadUnder}
 use Rattle.sk_oblig.specs.Formulas.{IsAskable}
 use Rattle.sk_oblig.proofs.Speaking.{keeps_width}

@@ -16,10 +16,10 @@ use Rattle.sk_model.specs.declared.expanded.Expanded.{Expanded}
 use Rattle.sk_model.specs.declared.expanded.Input.{Input}
 use Rattle.sk_model.specs.declared.expanded.Obligation.{Obligation}
 use Rattle.sk_model.specs.Obligations.{obligations}
-use Rattle.sk_sym.specs.Outcome.{choice_of}
+use Rattle.sk_oblig_checks.specs.Outcome.{choice_of}
 use Rattle.sk_holes_choice_laws.specs.Meeting.{IsBrokenUnder, cost_of_obligation_under}
 use Rattle.sk_oblig_queries.specs.Queries.{IsOver}
-use Rattle.sk_oblig_arguments.specs.Constants.{AreConstant}
+use Rattle.sk_oblig_checks.specs.Constants.{AreConstant}
 use Rattle.sk_oblig_checks.specs.Checks.{IsCheck}
 use Rattle.sk_oblig.specs.Nodes.{BadBy, SaysFine, SaysAllFine}
 use Rattle.sk_oblig.proofs.Ranges.{both_true}

@@ -13,7 +13,7 @@ use Rattle.sk_oblig_queries.specs.Widths.{elem_width, elem_of, numbers_of, ty_wi
 use Rattle.sk_oblig_queries.specs.Said.{args_said, input_said}
 use Rattle.sk_oblig_laws.specs.Laws.{StartsBelow, is_plain, are_plain}
 use Rattle.sk_oblig_laws.proofs.Ranges.{plain_in_range}
-use Rattle.sk_oblig_arguments.specs.Arguments.{count_of}
+use Rattle.sk_oblig_checks.specs.Arguments.{count_of}
 use Rattle.sk_oblig.specs.Nodes.{has_inputs, is_plain_fun}
 
 pub plain_next : (ps : List ParamDef) (i : ℕ) (p : ParamDef) → i < length ps → p ≡ get_or ps i p → is_plain p.ty ≡ true → are_plain ps ≡ are_plain (drop i ps) → are_plain ps ≡ are_plain (drop (i + 1) ps)

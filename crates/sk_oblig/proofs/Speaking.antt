@@ -19,7 +19,7 @@ use Rattle.sk_oblig_queries.specs.Widths.{params_widths, params_of, obligations_
 use Rattle.sk_oblig_queries.specs.Said.{args_said}
 use Rattle.sk_oblig_laws.specs.Laws.{HasNumbers, StartsBelow}
 use Rattle.sk_oblig_laws.proofs.Ranges.{starts_split, has_later}
-use Rattle.sk_oblig_arguments.specs.Arguments.{AreArguments, count_of}
+use Rattle.sk_oblig_checks.specs.Arguments.{AreArguments, count_of}
 use Rattle.sk_oblig_checks.specs.Checks.{IsCheck}
 use Rattle.sk_oblig.specs.Nodes.{SaysBad, SaysAnyBad, BadOf, AnyBad, has_inputs}
 use Rattle.sk_oblig.proofs.Parameters.{widths_count}

@@ -36,7 +36,7 @@ use Rattle.sk_oblig_queries.specs.Numbers.{bits_of_size, numbers_said}
 use Rattle.sk_oblig_queries.specs.Widths.{elem_width, elem_of, numbers_of, ty_widths, sites_widths, params_widths, params_of, params_if, params_at, obligations_widths, numbers_before}
 use Rattle.sk_oblig_queries.specs.Said.{args_said, input_said, choice_said}
 use Rattle.sk_oblig_queries.specs.Queries.{IsOver, IsBad, AsksFor, bits_of_query, leaves_of_query}
-use Rattle.sk_sym.specs.Outcome.{choice_of}
+use Rattle.sk_oblig_checks.specs.Outcome.{choice_of}
 use Rattle.sk_oblig_laws.specs.Laws.{StartsBelow}
 use Rattle.sk_oblig_laws.proofs.Saying.{holes_say, inputs_say}
 use Rattle.sk_oblig_laws.proofs.Ranges.{starts_said, starts_at, has_all}

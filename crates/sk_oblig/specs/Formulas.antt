@@ -22,7 +22,7 @@ use Rattle.sk_oblig_queries.specs.declared.query.Query.TheVariants as query
 use Rattle.sk_oblig_queries.specs.Numbers.{numbers_said}
 use Rattle.sk_oblig_queries.specs.Queries.{Holds, IsBad, input_of_query, widths_of_query}
 use Rattle.sk_oblig_queries.specs.Widths.{sites_widths}
-use Rattle.sk_sym.specs.Outcome.{choice_of}
+use Rattle.sk_oblig_checks.specs.Outcome.{choice_of}
 use Rattle.sk_oblig_laws.specs.Laws.{StartsBelow, choice_env, input_env}
 use Rattle.sk_oblig.specs.Nodes.{BadBy}
 

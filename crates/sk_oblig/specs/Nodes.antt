@@ -18,7 +18,7 @@ use Rattle.sk_holes_choice_laws.specs.Meeting.{BreaksUnder, cost_under}
 use Rattle.sk_oblig_queries.specs.Queries.{IsOver}
 use Rattle.sk_oblig_queries.specs.Said.{args_said}
 use Rattle.sk_oblig_queries.specs.Widths.{sites_widths, params_widths, params_of, obligations_widths}
-use Rattle.sk_sym.specs.Outcome.{choice_of}
+use Rattle.sk_oblig_checks.specs.Outcome.{choice_of}
 use Rattle.sk_oblig_laws.specs.Laws.{HasNumbers, StartsBelow, are_plain}
 use Rattle.sk_oblig_checks.specs.Checks.{IsBadUnder}
 

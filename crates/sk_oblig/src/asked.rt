@@ -5,7 +5,7 @@ ghost use Rattle.sk_dag.specs.Eval.{Keeps};
 ghost use Rattle.sk_expand_sites.specs.Needs.{HasItsSites};
 ghost use Rattle.sk_model.specs.Fill.{InRange};
 ghost use Rattle.sk_oblig_queries.specs.Widths.{params_of as takes};
-ghost use Rattle.sk_oblig_arguments.specs.Arguments.{count_of};
+ghost use Rattle.sk_oblig_checks.specs.Arguments.{count_of};
 ghost use Rattle.sk_oblig.specs.Nodes.{SaysAnyBad, SaysBad, has_inputs as has};
 
 use crate::plain::{count_of, has_inputs, params_of};
@@ -13,7 +13,7 @@ use sk_base::Bounds;
 use sk_dag::{BoolId, Dag};
 use sk_limits::never;
 use sk_model::{Choice, Expanded, Obligation};
-use sk_oblig_arguments::arguments;
+use sk_oblig_checks::arguments::arguments;
 use sk_oblig_checks::check;
 use sk_sym_folds::{flag, or};
 use std::alloc::{AllocError, Global};

@@ -9,18 +9,18 @@ ghost use Rattle.sk_model.specs.Meets.{cost_of as cost_of_outcome, cost_on};
 ghost use Rattle.sk_model.specs.Obligations.{obligations};
 ghost use Rattle.sk_model.specs.Open.{run_open};
 ghost use Rattle.sk_holes_choice_laws.specs.Meeting.{cost_of_obligation_under};
-ghost use Rattle.sk_sym.specs.Outcome.{Says};
+ghost use Rattle.sk_oblig_checks.specs.Outcome.{Says};
 ghost use Rattle.sk_oblig_checks.specs.Checks.{IsBadUnder};
 ghost use Rattle.sk_oblig.specs.Formulas.{IsAskable};
 
 use sk_base::{Bounds, List};
 use sk_dag::{Dag, Env};
 use sk_model::{Choice, Expanded, Input, Obligation};
-use sk_oblig_arguments::constants;
+use sk_oblig_checks::arguments::constants;
 use sk_oblig_checks::check;
+use sk_oblig_checks::sym::{SymOutcome, execute};
 use sk_oblig_queries::obligations;
 use sk_prog::{FunId, Prog, Value};
-use sk_sym::{SymOutcome, execute};
 use std::alloc::{AllocError, Global};
 
 // The obligation of an input.

@@ -1,7 +1,7 @@
 //! The parameters of obligations, and whether they hold references.
 
 ghost use Rattle.std.specs.Prelude.{◌≡◌, ◌+◌, IfSome};
-ghost use Rattle.sk_oblig_arguments.specs.Arguments.{count_of};
+ghost use Rattle.sk_oblig_checks.specs.Arguments.{count_of};
 ghost use Rattle.sk_model.specs.Inputs.{fun_of};
 ghost use Rattle.sk_oblig.specs.Nodes.{has_inputs};
 ghost use Rattle.sk_oblig_laws.specs.Laws.{are_plain, is_plain, is_reference};

@@ -9,7 +9,7 @@ ghost use Rattle.sk_oblig.specs.Nodes.{SaysAllFine, SaysFine};
 use sk_base::Bounds;
 use sk_dag::{BoolId, Dag};
 use sk_model::{Expanded, Input, Obligation};
-use sk_oblig_arguments::constants;
+use sk_oblig_checks::arguments::constants;
 use sk_oblig_checks::check;
 use sk_sym_folds::{and, flag, not};
 use std::alloc::{AllocError, Global};

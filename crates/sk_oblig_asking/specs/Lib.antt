@@ -1,1 +1,2 @@
 pub mod Asking
+pub use Rattle.sk_oblig.specs.Formulas

@@ -5,3 +5,4 @@ mod asking;
 mod moving;
 
 pub use asking::Asking;
+pub use sk_oblig as oblig;

@@ -1,1 +1,5 @@
 pub mod Checks
+pub use Rattle.sk_oblig_arguments.specs.Arguments
+pub use Rattle.sk_oblig_arguments.specs.Constants
+pub use Rattle.sk_sym.specs.Outcome
+pub use Rattle.sk_sym.specs.declared.outcome.SymOutcome

@@ -6,3 +6,5 @@ mod checking;
 mod ending;
 
 pub use checking::check;
+pub use sk_oblig_arguments as arguments;
+pub use sk_sym as sym;

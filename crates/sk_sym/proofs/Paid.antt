@@ -34,7 +34,7 @@ use Rattle.sk_sym_state.proofs.Carrying.{failed_over, skipped_over, returned_ove
 use Rattle.sk_sym_state.proofs.Ends.{moves_none}
 use Rattle.sk_arr.proofs.Makers.{Keeps-refl}
 use Rattle.sk_dag.proofs.EvalLemmas.{Grows-refl}
-use Rattle.sk_sym_steps.proofs.Costs.{cost_small}
+use Rattle.sk_sym_walk.proofs.Costs.{cost_small}
 use Rattle.sk_sym.specs.Paying.{pays, AreAmounts, program_pays, first_paid}
 
 -- ---- statements one after another

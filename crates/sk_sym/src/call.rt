@@ -14,10 +14,10 @@ ghost use Rattle.sk_sym.specs.Bodies.{body_at, EndsSo};
 use crate::payment::pay_first;
 use sk_base::List;
 use sk_dag::{Dag, Shape};
-use sk_sym_frames::{enter, leave};
 use sk_sym_sites::start_of;
 use sk_sym_state::{Ended, SymState};
 use sk_sym_walk::Activation;
+use sk_sym_walk::frames::{enter, leave};
 use std::alloc::AllocError;
 
 /// How deep statements and expressions may nest, over all active calls. A run that needs more ends as by want of

@@ -17,7 +17,7 @@ use sk_prog::FunKind;
 use sk_sym_choices::{Payment, payments};
 use sk_sym_folds::{hole_number, mux, word};
 use sk_sym_state::{Setting, SymState};
-use sk_sym_steps::pay;
+use sk_sym_walk::steps::pay;
 use std::alloc::AllocError;
 
 /// What a payment comes to: the value of its site where its node holds, and else 0.

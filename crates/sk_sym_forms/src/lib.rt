@@ -12,3 +12,7 @@ pub use double::{Double, apply_two};
 pub use end::{declare_zero, fail_here, give_nothing};
 pub use leaf::{constant, hole_here, nothing, number, truth};
 pub use single::{Single, apply};
+pub use sk_sym_frames as frames;
+pub use sk_sym_leaves as leaves;
+pub use sk_sym_literals as literals;
+pub use sk_sym_steps as steps;

@@ -4,3 +4,4 @@
 mod place;
 
 pub use place::{Place, assign};
+pub use sk_sym_stores as stores;

@@ -33,7 +33,7 @@ use Rattle.sk_sym_folds.specs.Chosen.{chosen_values}
 use Rattle.sk_heap_laws.specs.Values.{place_of, holds_in}
 use Rattle.sk_heap_laws.specs.Heaps.{HeapGrows}
 use Rattle.sk_sym_state.proofs.Worth.{IsWorth-grown}
-use Rattle.sk_sym_literals.specs.Given.{IsGiven}
+use Rattle.sk_sym_forms.specs.Given.{IsGiven}
 use Rattle.sk_sym_sites.specs.Places.{BeginsAt}
 use Rattle.sk_sym_state.specs.declared.setting.Setting.{Setting}
 use Rattle.sk_sym_state.specs.declared.state.Ended.{Ended}
@@ -45,10 +45,10 @@ use Rattle.sk_sym_state.specs.Meaning.{IsLater, choice_at, DoesOn, Executes}
 use Rattle.sk_sym_state.proofs.Carrying.{Moves-trans, later_keeps, failed_over, skipped_over}
 use Rattle.sk_sym_state.proofs.Ends.{moves_none}
 use Rattle.sk_sym_state.proofs.Following.{does_on}
-use Rattle.sk_sym_frames.specs.declared.frame.Caller.{Caller}
-use Rattle.sk_sym_frames.specs.Frames.{IsEntered, IsLeft}
-use Rattle.sk_sym_frames.proofs.Frames.{call_does}
-use Rattle.sk_sym_steps.specs.Steps.{EvaluatesOn}
+use Rattle.sk_sym_forms.specs.Caller.{Caller}
+use Rattle.sk_sym_forms.specs.Frames.{IsEntered, IsLeft}
+use Rattle.sk_sym_forms.proofs.Frames.{call_does}
+use Rattle.sk_sym_forms.specs.Steps.{EvaluatesOn}
 use Rattle.sk_sym_walk.specs.declared.activation.Activation.{Activation}
 use Rattle.sk_sym_walk.specs.Walk.{prog_of, calls_at, exec_all_at}
 use Rattle.sk_sym_walk.specs.Parts.{list_part, IsEvaluated, AreEvaluated}

@@ -35,10 +35,10 @@ use Rattle.sk_sym_state.specs.Meaning.{Does, DoesOn, Executes, Evaluates}
 use Rattle.sk_sym_state.proofs.Carrying.{Moves-trans, later_keeps}
 use Rattle.sk_sym_state.proofs.Following.{executes_on, does_on}
 use Rattle.sk_sym_state.proofs.Ends.{moves_none, does_same, executes_same}
-use Rattle.sk_sym_steps.specs.Steps.{EvaluatesOn}
-use Rattle.sk_sym_stores.specs.declared.location.Location.{Location}
-use Rattle.sk_sym_stores.specs.declared.location.Root.TheVariants.{Variable}
-use Rattle.sk_sym_stores.proofs.Locating.{variable_locates}
+use Rattle.sk_sym_forms.specs.Steps.{EvaluatesOn}
+use Rattle.sk_sym_places.specs.Location.{Location}
+use Rattle.sk_sym_places.specs.Root.TheVariants.{Variable}
+use Rattle.sk_sym_places.proofs.Locating.{variable_locates}
 use Rattle.sk_sym_places.specs.declared.place.Place.{Place}
 use Rattle.sk_sym_places.specs.declared.place.Place.TheVariants.{One}
 use Rattle.sk_sym_places.specs.Places.{PlaceIs, Places}

@@ -12,3 +12,5 @@ pub mod Targets
 pub mod Patterns
 pub mod Copying
 pub mod Placed
+pub use Rattle.sk_sym_forms.proofs.Costs
+pub use Rattle.sk_sym_forms.proofs.Frames

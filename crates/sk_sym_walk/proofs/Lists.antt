@@ -18,8 +18,8 @@ use Rattle.sk_sym_state.specs.Stands.{StateStands}
 use Rattle.sk_sym_state.specs.Seen.{IsWorth}
 use Rattle.sk_sym_state.proofs.Following.{does_on}
 use Rattle.sk_sym_state.proofs.Ends.{does_same}
-use Rattle.sk_sym_steps.specs.Steps.{EvaluatesOn}
-use Rattle.sk_sym_leaves.proofs.Lists.{none_evaluate, more_evaluate, array_evaluates, in_order_push}
+use Rattle.sk_sym_forms.specs.Steps.{EvaluatesOn}
+use Rattle.sk_sym_forms.proofs.Lists.{none_evaluate, more_evaluate, array_evaluates, in_order_push}
 use Rattle.sk_sym_walk.specs.declared.activation.Activation.{Activation}
 use Rattle.sk_sym_walk.specs.Walk.{expr_part, eval_part}
 use Rattle.sk_sym_walk.specs.Parts.{list_part, braces_part, IsEvaluated, AreEvaluated}

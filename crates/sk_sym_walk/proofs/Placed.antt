@@ -32,9 +32,9 @@ use Rattle.sk_sym_state.proofs.Branches.{branch_does}
 use Rattle.sk_sym_state.proofs.Carrying.{Moves-trans, later_keeps}
 use Rattle.sk_sym_state.proofs.Ends.{moves_none, does_same, executes_same}
 use Rattle.sk_sym_state.proofs.Following.{executes_on, does_beside}
-use Rattle.sk_sym_stores.specs.declared.location.Location.{Location}
-use Rattle.sk_sym_stores.specs.Locations.{LocationIs}
-use Rattle.sk_sym_stores.proofs.Locating.{LocationIs-grown}
+use Rattle.sk_sym_places.specs.Location.{Location}
+use Rattle.sk_sym_places.specs.Locations.{LocationIs}
+use Rattle.sk_sym_places.proofs.Locating.{LocationIs-grown}
 use Rattle.sk_sym_places.specs.declared.place.Place.{Place}
 use Rattle.sk_sym_places.specs.declared.place.Place.TheVariants.{One, Either}
 use Rattle.sk_sym_places.specs.Places.{location_in, PlaceIs, IsPut}

@@ -34,7 +34,7 @@ use Rattle.sk_sym_state.proofs.Carrying.{Moves-trans, later_keeps}
 use Rattle.sk_sym_state.proofs.Scopes.{front_cut, slots_move, slots_show}
 use Rattle.sk_sym_state.proofs.Following.{executes_on, does_on, does_beside}
 use Rattle.sk_sym_state.proofs.Ends.{moves_none, does_same, executes_same}
-use Rattle.sk_sym_steps.specs.Steps.{AreTwo, EvaluatesOn}
+use Rattle.sk_sym_forms.specs.Steps.{AreTwo, EvaluatesOn}
 use Rattle.sk_sym_walk.specs.declared.activation.Activation.{Activation}
 use Rattle.sk_sym_walk.specs.Walk.{IsBehind}
 use Rattle.sk_sym_walk.specs.Parts.{siteless, then_part, then_parts, given, IsEvaluated, IsEvaluatedOn, IsExecuted, IsExecutedOn}

@@ -29,14 +29,14 @@ use Rattle.sk_sym_state.specs.declared.state.SymState.{SymState}
 use Rattle.sk_sym_state.specs.Stands.{StateStands}
 use Rattle.sk_sym_state.proofs.Ends.{does_same}
 use Rattle.sk_sym_state.proofs.Following.{does_on}
-use Rattle.sk_sym_steps.specs.Steps.{EvaluatesOn}
-use Rattle.sk_sym_stores.specs.declared.location.Location.{Location}
-use Rattle.sk_sym_stores.specs.declared.location.Root.TheVariants.{Variable, Field}
-use Rattle.sk_sym_stores.specs.declared.creation.Init.{Init}
-use Rattle.sk_sym_stores.specs.Locations.{IsIndexed}
-use Rattle.sk_sym_stores.specs.Records.{InitsAre}
-use Rattle.sk_sym_stores.proofs.Locating.{variable_locates, field_locates, index_locates}
-use Rattle.sk_sym_stores.proofs.Records.{no_fields, more_fields, fields_in_order_push}
+use Rattle.sk_sym_forms.specs.Steps.{EvaluatesOn}
+use Rattle.sk_sym_places.specs.Location.{Location}
+use Rattle.sk_sym_places.specs.Root.TheVariants.{Variable, Field}
+use Rattle.sk_sym_places.specs.Init.{Init}
+use Rattle.sk_sym_places.specs.Locations.{IsIndexed}
+use Rattle.sk_sym_places.specs.Records.{InitsAre}
+use Rattle.sk_sym_places.proofs.Locating.{variable_locates, field_locates, index_locates}
+use Rattle.sk_sym_places.proofs.Records.{no_fields, more_fields, fields_in_order_push}
 use Rattle.sk_sym_walk.specs.declared.activation.Activation.{Activation}
 use Rattle.sk_sym_walk.specs.Walk.{prog_of, values_at, calls_at, expr_part, eval_part, stmt_part}
 use Rattle.sk_sym_walk.specs.Parts.{siteless, IsEvaluated}

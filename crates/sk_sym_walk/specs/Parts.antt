@@ -26,8 +26,8 @@ use Rattle.sk_sym_state.specs.declared.setting.Setting.{Setting}
 use Rattle.sk_sym_state.specs.declared.state.SymState.{SymState}
 use Rattle.sk_sym_state.specs.Meaning.{Does, DoesOn, Executes, ExecutesOn, Evaluates}
 use Rattle.sk_sym_state.specs.Branching.{IsBit, AreJoined}
-use Rattle.sk_sym_steps.specs.Steps.{EvaluatesOn}
-use Rattle.sk_sym_leaves.specs.Lists.{EvaluateAll}
+use Rattle.sk_sym_forms.specs.Steps.{EvaluatesOn}
+use Rattle.sk_sym_forms.specs.Lists.{EvaluateAll}
 use Rattle.sk_sym_forms.specs.declared.act.Act.{Act}
 use Rattle.sk_sym_forms.specs.declared.double.Double.{Double}
 use Rattle.sk_sym_forms.specs.declared.single.Single.{Single}

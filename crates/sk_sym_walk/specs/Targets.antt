@@ -17,10 +17,10 @@ use Rattle.sk_model.specs.Exec.{Flow, assign}
 use Rattle.sk_model.specs.Open.{open_eform, open_field}
 use Rattle.sk_sym_state.specs.declared.state.SymState.{SymState}
 use Rattle.sk_sym_state.specs.Meaning.{DoesOn}
-use Rattle.sk_sym_stores.specs.declared.location.Location.{Location}
-use Rattle.sk_sym_stores.specs.declared.creation.Init.{Init}
-use Rattle.sk_sym_stores.specs.Locations.{Locates}
-use Rattle.sk_sym_stores.specs.Records.{EvaluateFields}
+use Rattle.sk_sym_places.specs.Location.{Location}
+use Rattle.sk_sym_places.specs.Init.{Init}
+use Rattle.sk_sym_places.specs.Locations.{Locates}
+use Rattle.sk_sym_places.specs.Records.{EvaluateFields}
 use Rattle.sk_sym_places.specs.declared.place.Place.{Place}
 use Rattle.sk_sym_places.specs.Places.{PlaceStands, PlaceIs, Places}
 use Rattle.sk_sym_walk.specs.declared.activation.Activation.{Activation}

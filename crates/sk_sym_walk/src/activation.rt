@@ -8,7 +8,7 @@ ghost use Rattle.sk_arr.specs.Shapes.{Stands, AllStand};
 ghost use Rattle.sk_sym_state.specs.Seen.{AreWorth};
 ghost use Rattle.sk_sym_state.specs.Stands.{StateStands, EndedStands};
 ghost use Rattle.sk_sym_state.specs.Shows.{EndedIs};
-ghost use Rattle.sk_sym_steps.specs.Steps.{EvaluatesOn};
+ghost use Rattle.sk_sym_forms.specs.Steps.{EvaluatesOn};
 ghost use Rattle.sk_sym_state.specs.Meaning.{Executes};
 ghost use Rattle.sk_sym_state.specs.Branching.{IsBit};
 ghost use Rattle.sk_sym_walk.specs.Walk.{exec_all_at, eval_part, stmt_part, all_part, IsBehind};
@@ -36,14 +36,14 @@ use sk_limits::{never, too_deep};
 use sk_prog::{BinOp, Fun, FunId, PEForm, PExpr, PField, PForm, PStmt, ParamDef, StructId, Ty};
 use sk_sym_choices::orders;
 use sk_sym_folds::{and, known_bool, not, or};
+use sk_sym_forms::frames::{enter, leave};
 use sk_sym_forms::{
     Act, Double, Single, apply, apply_two, declare_zero, fail_here, give_nothing, perform,
 };
-use sk_sym_frames::{enter, leave};
+use sk_sym_places::stores::{Init, Location, make, store};
 use sk_sym_places::{Place, assign};
 use sk_sym_sites::{pass_expr, pass_exprs, pass_stmt, pass_stmts, start_of};
 use sk_sym_state::{Ended, Setting, SymState};
-use sk_sym_stores::{Init, Location, make, store};
 use std::alloc::AllocError;
 
 /// A call that is active. Nothing of it changes while it is.

@@ -9,7 +9,7 @@ ghost use Rattle.sk_sym_walk.specs.Calls.{PaysNothing, IsResultShape, AreParams,
 use sk_dag::{Dag, Shape};
 use sk_limits::never;
 use sk_prog::{Elem, Fun, FunKind, ParamDef, Ty};
-use sk_sym_literals::zero_of;
+use sk_sym_forms::literals::zero_of;
 use std::alloc::{AllocError, Global};
 
 /// The first of some parameters, whether it is a `ref` parameter, and those behind it.

@@ -18,8 +18,8 @@ use sk_dag::{BoolId, Dag, Shape};
 use sk_sym_folds::flag;
 use sk_sym_forms::fail_here;
 use sk_sym_places::Place;
+use sk_sym_places::stores::Location;
 use sk_sym_state::{Setting, SymState};
-use sk_sym_stores::Location;
 use std::alloc::AllocError;
 
 /// Fails wherever the run goes on, with the node that is false.

@@ -9,3 +9,4 @@ mod pattern;
 mod step;
 
 pub use activation::Activation;
+pub use sk_sym_forms::{frames, steps};

@@ -1,4 +1,4 @@
-use Rattle.sk_built_laws.proofs.Taken.{ready_of}
+use Rattle.sk_all_text.proofs.Taken.{ready_of}
 use Rattle.sk_app.proofs.complete.built.Goals as goal
 
 pub returns : goal.returns

@@ -1,6 +1,6 @@
 use Rattle.std.proofs.Common.{Some, true, subst}
 use Rattle.sk_loop_laws.specs.Shown.{Learnt}
-use Rattle.sk_min.specs.Least.{IsKnownOf}
+use Rattle.sk_min_certificate.specs.Least.{IsKnownOf}
 use Rattle.sk_min_certificate.specs.Certifications.{IsCertification}
 use Rattle.sk_app.proofs.CompleteLaws.{certified_found, conflicts_found}
 use Rattle.sk_app.proofs.complete.certified_best.Goals as goal

@@ -1,6 +1,6 @@
 use Rattle.std.proofs.Common.{subst}
 use Rattle.sk_app.specs.Prepared.{IsBuilding}
-use Rattle.sk_built_laws.proofs.Taken.{askable}
+use Rattle.sk_all_text.proofs.Taken.{askable}
 use Rattle.sk_app.proofs.CompleteLaws.{fillings_fit}
 use Rattle.sk_app.proofs.complete.complete.Goals as goal
 

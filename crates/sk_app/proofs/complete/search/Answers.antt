@@ -1,5 +1,5 @@
 use Rattle.std.proofs.Common.{◌≡◌, sym, subst}
-use Rattle.sk_min.specs.Least.{IsAnswer}
+use Rattle.sk_min_certificate.specs.Least.{IsAnswer}
 use Rattle.sk_app.specs.ResultText.{IsCompletion, IsNone}
 use Rattle.sk_app.specs.SpentText.{spent_result, OfRounds}
 use Rattle.sk_app.proofs.CompleteLaws.{best_found, none_found, rounds_found, by_search, conflicts_found}

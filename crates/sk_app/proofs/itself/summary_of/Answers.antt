@@ -1,5 +1,5 @@
 use Rattle.std.proofs.Common.{subst}
-use Rattle.sk_min.specs.Least.{IsAnswer}
+use Rattle.sk_min_certificate.specs.Least.{IsAnswer}
 use Rattle.sk_app.proofs.CompleteLaws.{summary_found}
 use Rattle.sk_app.proofs.itself.summary_of.Goals as goal
 

@@ -1,6 +1,6 @@
 use Rattle.std.proofs.Common.{subst}
-use Rattle.sk_built_laws.specs.Built.{IsOnly}
-use Rattle.sk_built_laws.proofs.Taken.{ready_of, askable}
+use Rattle.sk_all_text.specs.Built.{IsOnly}
+use Rattle.sk_all_text.proofs.Taken.{ready_of, askable}
 use Rattle.sk_app.specs.Summary.{no_set}
 use Rattle.sk_app.proofs.itself.summary_of_text.Goals as goal
 

@@ -1,5 +1,5 @@
 use Rattle.std.proofs.Common.{◌≡◌, take}
-use Rattle.sk_oblig_arguments.specs.Arguments.{count_of}
+use Rattle.sk_oblig_checks.specs.Arguments.{count_of}
 use Rattle.sk_oblig.proofs.plain.count_of.Given as goal
 
 -- those so far are counted

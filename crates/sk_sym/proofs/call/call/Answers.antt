@@ -1,6 +1,6 @@
 use Rattle.std.proofs.Common.{◌∙◌}
 use Rattle.sk_dag.proofs.EvalLemmas.{Keeps-trans}
-use Rattle.sk_sym_frames.proofs.Frames.{CallerStands-keeps, call_does}
+use Rattle.sk_sym_walk.proofs.Frames.{CallerStands-keeps, call_does}
 use Rattle.sk_sym.proofs.Paid.{as_wide}
 use Rattle.sk_sym.proofs.call.call.Goals as goal
 

@@ -1,6 +1,6 @@
 use Rattle.std.proofs.Common.{◌≡◌, arith}
 use Rattle.sk_model.specs.Parts.{value}
-use Rattle.sk_sym_literals.proofs.Holes.{below_size}
+use Rattle.sk_sym_forms.proofs.Holes.{below_size}
 use Rattle.sk_sym_walk.proofs.Places.{past_sites}
 use Rattle.sk_sym_walk.proofs.step.size_of.Goals as goal
 

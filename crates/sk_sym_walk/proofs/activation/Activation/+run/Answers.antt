@@ -24,11 +24,11 @@ use Rattle.sk_sym_state.proofs.Following.{executes_then}
 use Rattle.std.specs.Option.{option_copied}
 use Rattle.sk_model.specs.declared.expanded.Expanded.{Expanded}
 use Rattle.sk_sym_state.specs.Stands.{StateStands}
-use Rattle.sk_sym_frames.proofs.Frames.{CallerStands-keeps}
+use Rattle.sk_sym_forms.proofs.Frames.{CallerStands-keeps}
 use Rattle.sk_sym_walk.specs.Calls.{copied_at, AreCopiedBack}
 use Rattle.sk_sym_walk.proofs.Called.{called_is, ended_evaluates, call_evaluates, refused_evaluates, over_evaluates, call_evaluated}
 use Rattle.sk_sym_walk.proofs.Copying.{first_stands, more_stand, back_no_params, back_no_args, back_no_values, back_arg, back_passed, one_back}
-use Rattle.sk_sym_stores.proofs.Assigning.{given_stored}
+use Rattle.sk_sym_places.proofs.Assigning.{given_stored}
 use Rattle.sk_arr.specs.Shapes.{AllStand}
 use Rattle.sk_arr.proofs.Standing.{AllStand-keeps}
 use Rattle.sk_sym_walk.specs.Copies.{copies_at, copy_part}
@@ -37,8 +37,8 @@ use Rattle.sk_sym_walk.proofs.Turns.{same_while, loop_behind, turns_executed, tu
 use Rattle.sk_sym_walk.proofs.Copies.{same_minrepeat, same_repeat, copies_none, copies_more, copies_executed, some_copies, all_copies, copy_executed}
 use Rattle.sk_sym_walk.proofs.Orders.{same_reorder, turn_more, turns_more, turns_whole, reorder_executed, all_behind, orders_keep, is_turn, turn_taken}
 use Rattle.sk_model.specs.Heap.{allocate}
-use Rattle.sk_sym_steps.specs.Steps.{EvaluatesOn}
-use Rattle.sk_sym_stores.specs.Records.{InitsStand, InitsAre}
+use Rattle.sk_sym_forms.specs.Steps.{EvaluatesOn}
+use Rattle.sk_sym_places.specs.Records.{InitsStand, InitsAre}
 use Rattle.sk_sym_places.proofs.Places.{PlaceStands-keeps}
 use Rattle.sk_sym_walk.specs.Targets.{target_part, fields_part, AreSetTo}
 use Rattle.sk_sym_walk.proofs.Targets.{located_as, same_variable_target, same_field_target, same_index_target, same_new, same_assign, variable_located, field_located, index_located, fields_none, fields_more, new_evaluated}
