@@ -1,4 +1,4 @@
--- What is written of an ending is ASCII where the text is.
+-- What is written of an ending is ASCII where the text is, and no byte of it controls a terminal.
 use Rattle.std.proofs.Common.{ℕ, zero, suc, ◌-◌, ◌^◌, ◌<◌, ◌≤◌, ◌≡◌, Bool, true, false, List, [], ◌∷◌, ◌++◌, length, map, take, drop, replicate, Option, Some, None, subst, sym, arith, lit<, if◌then◌else◌, nat_le}
 use Rattle.std.specs.Str.{IsAscii}
 use Rattle.std.specs.List.{list_all, slice_range}
@@ -15,9 +15,12 @@ use Rattle.sk_explain_places.specs.declared.places.Place.{Place}
 use Rattle.sk_explain_places.specs.declared.spots.Spot.{Spot}
 use Rattle.sk_explain_places.specs.Lines.{is_feed, IsPlace, IsLineOf}
 use Rattle.sk_explain_places.specs.Spots.{pad, marks, line_text, mark_text, excerpt_text, place_text, longest_shown}
+use Rattle.sk_explain_places.specs.Visible.{visible, is_quiet}
+use Rattle.sk_explain_places.proofs.VisibleLaws.{visible_ascii}
 use Rattle.sk_explain_notes.specs.Notes.{is_note}
 use Rattle.sk_explain.specs.declared.explanation.Explanation.{Explanation}
 use Rattle.sk_explain.specs.Explained.{span_of, IsShown, IsSpot, IsExplanation, head_text, shown_text, title_text, layout, IsExplained}
+use Rattle.sk_explain.proofs.QuietLaws.{layout_quiet}
 
 -- one byte in front
 pub cons_ascii : (b : ℕ) (bs : List ℕ) → b < 128 → IsAscii bs → IsAscii (b ∷ bs)
@@ -59,7 +62,9 @@ line_ascii text byte line of ascii =
     subst IsAscii (sym of.bytes) cut
 
 pub line_text_ascii : (line : List ℕ) → IsAscii line → IsAscii (line_text line)
-line_text_ascii line ascii = IsAscii-append ((32 ∷ 32 ∷ 32 ∷ 32 ∷ []) ++ line) (10 ∷ []) (IsAscii-append (32 ∷ 32 ∷ 32 ∷ 32 ∷ []) line blanks_ascii ascii) (one_ascii 10 (lit< tt))
+line_text_ascii line ascii =
+    IsAscii-append ((32 ∷ 32 ∷ 32 ∷ 32 ∷ []) ++ visible line) (10 ∷ []) (IsAscii-append (32 ∷ 32 ∷ 32 ∷ 32 ∷ []) (visible line) blanks_ascii (visible_ascii line ascii))
+    (one_ascii 10 (lit< tt))
 
 pub mark_text_ascii : (spot : Spot) → IsAscii spot.line → IsAscii (mark_text spot)
 mark_text_ascii spot ascii =
@@ -129,5 +134,6 @@ explained text ending e out small explains written = record {
   explanation = e;
   explains = explains;
   written = written;
+  quiet = subst (λ bs. list_all is_quiet bs ≡ true) (sym written) (layout_quiet text ending e small explains);
   ascii = λ ascii. subst IsAscii (sym written) (layout_ascii text ending e small ascii explains);
 }

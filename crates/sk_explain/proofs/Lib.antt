@@ -1,1 +1,2 @@
 pub mod AsciiLaws
+pub mod QuietLaws

@@ -14,6 +14,7 @@ use Rattle.sk_adt.specs.declared.algebraic.AdtFault.{AdtFault}
 use Rattle.sk_adt.specs.declared.algebraic.AdtFault.TheVariants as adt
 use Rattle.sk_explain_places.specs.declared.spots.Spot.{Spot}
 use Rattle.sk_explain_places.specs.Spots.{IsSpotOf, place_text, excerpt_text}
+use Rattle.sk_explain_places.specs.Visible.{is_quiet}
 use Rattle.sk_explain_notes.specs.Notes.{is_note}
 use Rattle.sk_explain.specs.declared.explanation.Explanation.{Explanation}
 
@@ -116,9 +117,11 @@ title_text spot (b ∷ bs) = head_text spot ++ (b ∷ bs) ++ 10 ∷ []
 abbrev pub layout : Explanation → List ℕ
 layout e = title_text e.spot e.title.bytes.items ++ shown_text e.spot ++ e.notes.bytes.items
 
--- what is written of an ending on a text: the layout of an explanation; it is ASCII where the text is
+-- what is written of an ending on a text: the layout of an explanation; no byte of it controls a terminal but a tab and a line
+-- feed, and it is ASCII where the text is
 pub record IsExplained (text : List ℕ) (ending : Ending) (out : List ℕ) : Type 0 where
   pub explanation : Explanation
   pub explains : IsExplanation text ending explanation
   pub written : out ≡ layout explanation
+  pub quiet : list_all is_quiet out ≡ true
   pub ascii : IsAscii text → IsAscii out

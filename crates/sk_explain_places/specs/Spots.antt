@@ -3,6 +3,7 @@ use Rattle.std.specs.Prelude.{ℕ, ◌+◌, ◌-◌, ◌==◌, ◌≡◌, max, m
 use Rattle.sk_explain_places.specs.declared.places.Place.{Place}
 use Rattle.sk_explain_places.specs.declared.spots.Spot.{Spot}
 use Rattle.sk_explain_places.specs.Lines.{IsPlace, IsLineOf}
+use Rattle.sk_explain_places.specs.Visible.{visible}
 
 -- a line is shown where it has at most so many bytes
 abbrev pub longest_shown : ℕ
@@ -26,9 +27,9 @@ pad b = if b == 9 then 9 else 32
 abbrev pub marks : ℕ → List ℕ
 marks width = replicate width 94
 
--- the line behind four blanks
+-- the line as people see it, behind four blanks
 abbrev pub line_text : List ℕ → List ℕ
-line_text line = codes "    " ++ line ++ 10 ∷ []
+line_text line = codes "    " ++ visible line ++ 10 ∷ []
 
 -- the mark, behind four blanks and what stands under the bytes before it
 abbrev pub mark_text : Spot → List ℕ

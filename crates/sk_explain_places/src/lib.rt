@@ -4,6 +4,7 @@
 mod lines;
 mod places;
 mod spots;
+mod visible;
 
 pub use lines::line_of;
 pub use places::{Place, place_of};

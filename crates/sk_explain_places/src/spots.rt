@@ -4,6 +4,7 @@ ghost use Rattle.sk_explain_places.specs.Spots.{pad, marks, marked, line_text, m
 
 use crate::lines::line_of;
 use crate::places::{Place, place_of};
+use crate::visible::{front, push_visible};
 use sk_base::{Name, push_number};
 use std::alloc::{AllocError, Global};
 
@@ -69,25 +70,14 @@ fn push_marks(out: &mut Vec<u8>, width: usize) -> Result<(), AllocError>
     Ok(())
 }
 
-/// Appends the line.
+/// Appends the line as people see it.
 fn push_line(out: &mut Vec<u8>, line: &[u8]) -> Result<(), AllocError>
     ensures { OnOk result (out.new.items ≡ out.old.items ++ line_text line.now) }
 {
     out.extend_from_slice(b"    ")?;
-    out.extend_from_slice(line)?;
+    push_visible(out, line)?;
     out.push(b'\n')?;
     Ok(())
-}
-
-/// The front of a line: so many of its bytes, or all where it has fewer.
-fn front<'a>(line: &'a [u8], count: usize) -> &'a [u8]
-    ensures { result.now ≡ take count line.now }
-{
-    if count < line.len() {
-        &line[..count]
-    } else {
-        line
-    }
 }
 
 /// Appends the line of the mark.
