@@ -6,3 +6,4 @@ mod reasons;
 
 pub use answer::Why;
 pub use reasons::why;
+pub use sk_loop as session;

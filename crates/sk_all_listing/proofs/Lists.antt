@@ -13,11 +13,11 @@ use Rattle.sk_model.specs.Inputs.{IsInput}
 use Rattle.sk_model.specs.Meets.{Meets}
 use Rattle.sk_model.specs.Parts.{value}
 use Rattle.sk_model.specs.Stands.{AgreeWhereStands, standing, sites_stand}
-use Rattle.sk_loop.specs.Formulas.{IsAskable}
+use Rattle.sk_all.specs.Formulas.{IsAskable}
 use Rattle.sk_oblig_queries.specs.Queries.{IsBad, IsWanted}
-use Rattle.sk_loop.specs.declared.countered.Countered.{Countered}
-use Rattle.sk_loop.specs.declared.countered.Countered.TheVariants as countered
-use Rattle.sk_loop.specs.Countered.{IsCountered}
+use Rattle.sk_all.specs.countered.Countered.{Countered}
+use Rattle.sk_all.specs.countered.Countered.TheVariants as countered
+use Rattle.sk_all.specs.Countered.{IsCountered}
 use Rattle.sk_loop_laws.specs.Shown.{Completes}
 use Rattle.sk_loop_laws.proofs.Completing.{completes_is_wanted}
 use Rattle.sk_min_laws.specs.Best.{Meeting}

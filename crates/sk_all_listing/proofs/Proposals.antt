@@ -15,7 +15,7 @@ use Rattle.sk_model.specs.declared.expanded.Site.{Site}
 use Rattle.sk_model.specs.Fill.{Fits}
 use Rattle.sk_model.specs.Stands.{AgreeWhereStands}
 use Rattle.sk_expand_sites.specs.Needs.{is_narrow, are_narrow}
-use Rattle.sk_loop.specs.Formulas.{IsAskable}
+use Rattle.sk_all.specs.Formulas.{IsAskable}
 use Rattle.sk_oblig_queries.specs.declared.query.Query.{Query}
 use Rattle.sk_oblig_queries.specs.declared.query.Query.TheVariants as query
 use Rattle.sk_oblig_queries.specs.Numbers.{numbers_said}

@@ -8,3 +8,4 @@ mod rounds;
 
 pub use answer::Listing;
 pub use rounds::all;
+pub use sk_all as causes;

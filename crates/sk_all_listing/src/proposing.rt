@@ -2,13 +2,13 @@
 
 ghost use Rattle.std.specs.Prelude.{◌≡◌, All, IfOk, None};
 ghost use Rattle.sk_all_exclusions.specs.Exclusions.{IsListed};
-ghost use Rattle.sk_loop.specs.Formulas.{IsAskable};
+ghost use Rattle.sk_all.specs.Formulas.{IsAskable};
 ghost use Rattle.sk_oblig_queries.specs.declared.query.Query.TheVariants as query_form;
 ghost use Rattle.sk_all_listing.specs.Rounds.{IsProposed};
 
+use sk_all::session::oblig::formula;
 use sk_all_exclusions::{Listed, exclude};
 use sk_base::{Bounds, List};
-use sk_loop::oblig::formula;
 use sk_loop_copies::copy_input;
 use sk_loop_refuted::refuted;
 use sk_model::{Choice, Expanded, Input};

@@ -3,18 +3,18 @@
 ghost use Rattle.std.specs.Prelude.{◌≡◌, ◌+◌, ◌<◌, ◌≤◌, All, IfOk, OnOk, length};
 ghost use Rattle.sk_model.specs.Inputs.{IsInput};
 ghost use Rattle.sk_min_laws.specs.Best.{Meeting};
-ghost use Rattle.sk_loop.specs.Formulas.{IsAskable};
+ghost use Rattle.sk_all.specs.Formulas.{IsAskable};
 ghost use Rattle.sk_all_listing.specs.Completions.{IsListing, choices_of};
 ghost use Rattle.sk_all_listing.specs.Rounds.{AreListed, IsTurn, IsUnlisted};
 
 use crate::answer::Listing;
 use crate::order::insert;
 use crate::proposing::propose;
+use sk_all::session::{Countered, counter};
 use sk_all_exclusions::Listed;
 use sk_base::{Bounds, List};
 use sk_holes_marks::{canonical, marks_of};
 use sk_limits::too_many;
-use sk_loop::{Countered, counter};
 use sk_loop_copies::copy_choice;
 use sk_model::{Choice, Expanded, Input};
 use std::alloc::{AllocError, Global};

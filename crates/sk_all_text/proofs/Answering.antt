@@ -7,13 +7,13 @@ use Rattle.sk_model.specs.declared.expanded.Choice.{Choice}
 use Rattle.sk_model.specs.declared.expanded.Expanded.{Expanded}
 use Rattle.sk_model.specs.declared.expanded.Input.{Input}
 use Rattle.sk_min_laws.specs.Best.{Meeting}
-use Rattle.sk_all.specs.Formulas.{IsAskable}
+use Rattle.sk_all_listing.specs.Formulas.{IsAskable}
 use Rattle.sk_opts.specs.declared.line.Set.{Set}
 use Rattle.sk_front.specs.declared.expansion.Expansion.{Expansion}
 use Rattle.sk_front.specs.Front.{ExpandsWithin}
 use Rattle.sk_built_laws.proofs.Taken.{askable, for_answered, ready_of}
-use Rattle.sk_all.specs.declared.answer.Why.TheVariants as why
-use Rattle.sk_all.specs.Reasons.{IsWhy}
+use Rattle.sk_all_listing.specs.answer.Why.TheVariants as why
+use Rattle.sk_all_listing.specs.Reasons.{IsWhy}
 use Rattle.sk_all_listing.specs.declared.answer.Listing.{Listing}
 use Rattle.sk_all_listing.specs.declared.answer.Listing.TheVariants as listing
 use Rattle.sk_all_listing.specs.Completions.{IsListedChoice}

@@ -7,7 +7,7 @@ use Rattle.sk_model.specs.declared.expanded.Input.{Input}
 use Rattle.sk_min_laws.specs.Best.{Meeting}
 use Rattle.sk_opts.specs.declared.line.Set.{Set}
 use Rattle.sk_built_laws.specs.Built.{ForBuilt}
-use Rattle.sk_all.specs.Reasons.{Explains}
+use Rattle.sk_all_listing.specs.Reasons.{Explains}
 use Rattle.sk_all_listing.specs.Completions.{AreListedChoices, IsAmong}
 use Rattle.sk_all_text.specs.declared.reasons.Reasons.{Reasons}
 use Rattle.sk_all_text.specs.declared.reasons.Reasons.TheVariants as reasons

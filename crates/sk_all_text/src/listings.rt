@@ -3,7 +3,7 @@
 ghost use Rattle.std.specs.Prelude.{◌<◌, ◌≤◌, length, IfOk, IfErr, MatchResult};
 ghost use Rattle.sk_base.specs.declared.bounds.Bounds.{Bounds};
 ghost use Rattle.sk_model.specs.declared.expanded.Expanded.{Expanded};
-ghost use Rattle.sk_all.specs.Formulas.{IsAskable};
+ghost use Rattle.sk_all_listing.specs.Formulas.{IsAskable};
 ghost use Rattle.sk_opts.specs.Ranges.{IsInRanges};
 ghost use Rattle.sk_front.specs.declared.fault.SketchFault.{SketchFault};
 ghost use Rattle.sk_front.specs.Texts.{most_bytes};

@@ -5,7 +5,7 @@ ghost use Rattle.sk_base.specs.declared.bounds.Bounds.{Bounds};
 ghost use Rattle.sk_model.specs.declared.expanded.Choice.{Choice};
 ghost use Rattle.sk_model.specs.declared.expanded.Expanded.{Expanded};
 ghost use Rattle.sk_min_laws.specs.Best.{Meeting};
-ghost use Rattle.sk_all.specs.Formulas.{IsAskable};
+ghost use Rattle.sk_all_listing.specs.Formulas.{IsAskable};
 ghost use Rattle.sk_opts.specs.Ranges.{IsInRanges};
 ghost use Rattle.sk_front.specs.declared.fault.SketchFault.{SketchFault};
 ghost use Rattle.sk_front.specs.Texts.{most_bytes};
@@ -14,7 +14,7 @@ ghost use Rattle.sk_built_laws.specs.Built.{IsBuilt};
 ghost use Rattle.sk_all_text.specs.AllTexts.{NoneMeets, TellsReasons, IsReasons, IsExplained, IsMet};
 
 use crate::lines::{inputs_text, met_text};
-use sk_all::{Why, why};
+use sk_all_listing::causes::{Why, why};
 use sk_base::Bounds;
 use sk_front::{SketchFault, sized_expansion_of};
 use sk_model::Expanded;

@@ -6,7 +6,7 @@ use Rattle.sk_clause.specs.Problem.{Problem}
 use Rattle.sk_cnf.specs.declared.growing.Encoded.{Encoded}
 use Rattle.sk_cnf.specs.Standing.{Begins}
 use Rattle.sk_sat.specs.Solver.{State}
-use Rattle.sk_oblig_asking.specs.declared.asking.Asking.{Asking}
+use Rattle.sk_loop_guesses.specs.asking.Asking.{Asking}
 use Rattle.sk_loop.specs.Session.{IsLoaded, KeepsClauses}
 
 pub begins_same : (f g : Problem) → g ≡ f → Begins f g

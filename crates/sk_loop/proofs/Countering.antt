@@ -12,7 +12,7 @@ use Rattle.sk_oblig_queries.specs.declared.query.Query.{Query}
 use Rattle.sk_oblig_queries.specs.declared.query.Query.TheVariants as query
 use Rattle.sk_oblig_queries.specs.Queries.{AsksFor, IsBad}
 use Rattle.sk_oblig_queries.proofs.Nothing.{nothing_bad}
-use Rattle.sk_oblig_asking.specs.Formulas.{IsAskable}
+use Rattle.sk_loop_guesses.specs.Formulas.{IsAskable}
 use Rattle.sk_loop_laws.specs.Shown.{Completes}
 use Rattle.sk_loop_laws.proofs.Completing.{none_bad_completes}
 use Rattle.sk_loop_laws.proofs.Learning.{learnt_asks_for, learnt_is_tight}

@@ -14,8 +14,8 @@ use Rattle.sk_model.specs.Meets.{Breaks, Passes, cost_on}
 use Rattle.sk_oblig_queries.specs.declared.query.Query.TheVariants as query
 use Rattle.sk_oblig_queries.specs.Queries.{AsksFor, IsWanted}
 use Rattle.sk_oblig_queries.specs.Said.{choice_said}
-use Rattle.sk_oblig_asking.specs.declared.asking.Asking.{Asking}
-use Rattle.sk_oblig_asking.specs.Asking.{Demand, IsAsking, PassesEach}
+use Rattle.sk_loop_guesses.specs.asking.Asking.{Asking}
+use Rattle.sk_loop_guesses.specs.Asking.{Demand, IsAsking, PassesEach}
 use Rattle.sk_loop_laws.specs.Honest.{inputs_of}
 use Rattle.sk_loop.specs.Session.{AreDemands, Asks, IsAbove, IsFront, IsListed}
 

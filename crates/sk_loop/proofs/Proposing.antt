@@ -19,8 +19,8 @@ use Rattle.sk_oblig_queries.specs.declared.query.Query.TheVariants as query
 use Rattle.sk_oblig_queries.specs.Queries.{AsksFor, IsWanted}
 use Rattle.sk_oblig_queries.specs.Laws.{AreSmall}
 use Rattle.sk_oblig_queries.proofs.Nothing.{nothing_wanted}
-use Rattle.sk_oblig_asking.specs.declared.asking.Asking.{Asking}
-use Rattle.sk_oblig_asking.specs.Formulas.{IsAskable}
+use Rattle.sk_loop_guesses.specs.asking.Asking.{Asking}
+use Rattle.sk_loop_guesses.specs.Formulas.{IsAskable}
 use Rattle.sk_loop_laws.specs.Honest.{Honest, inputs_of}
 use Rattle.sk_loop_laws.specs.Shown.{HasRoom, IsOfPairs, IsOfSearch, Learnt, NonePasses, limit_of}
 use Rattle.sk_loop_laws.proofs.Completing.{completes_is_wanted}

@@ -9,8 +9,8 @@ use Rattle.sk_clause.specs.Problem.{Problem}
 use Rattle.sk_cnf.specs.Standing.{Begins}
 use Rattle.sk_clause.specs.declared.lit.Lit.{Lit}
 use Rattle.sk_sat.specs.Solver.{State, gained}
-use Rattle.sk_oblig_asking.specs.declared.asking.Asking.{Asking}
-use Rattle.sk_oblig_asking.specs.Asking.{IsAsking}
+use Rattle.sk_loop_guesses.specs.asking.Asking.{Asking}
+use Rattle.sk_loop_guesses.specs.Asking.{IsAsking}
 use Rattle.sk_loop_laws.specs.Honest.{IsRound, inputs_of}
 use Rattle.sk_loop.specs.declared.session.Session.{Session}
 use Rattle.sk_loop.specs.Session.{Asks, IsLoaded, IsReady, StandsFor}

@@ -3,4 +3,4 @@ pub mod Countered
 pub mod Session
 pub mod Answered
 pub mod Rounds
-pub use Rattle.sk_oblig_asking.specs.Formulas
+pub use Rattle.sk_loop_guesses.specs.Formulas

@@ -10,8 +10,8 @@ use Rattle.sk_cnf.specs.Standing.{Begins}
 use Rattle.sk_oblig_queries.specs.declared.query.Query.TheVariants as query
 use Rattle.sk_oblig_queries.specs.Queries.{AsksFor}
 use Rattle.sk_sat.specs.Solver.{State}
-use Rattle.sk_oblig_asking.specs.declared.asking.Asking.{Asking}
-use Rattle.sk_oblig_asking.specs.Asking.{Demand, IsAsking}
+use Rattle.sk_loop_guesses.specs.asking.Asking.{Asking}
+use Rattle.sk_loop_guesses.specs.Asking.{Demand, IsAsking}
 use Rattle.sk_loop.specs.declared.session.Session.{Session}
 
 -- the first limit is at least the second; that there is none is above each

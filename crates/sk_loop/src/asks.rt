@@ -2,12 +2,12 @@
 
 ghost use Rattle.std.specs.Prelude.{◌≡◌, ◌+◌, ◌<◌, ◌≤◌, ◌⊎◌, OnOk, length};
 ghost use Rattle.sk_loop_laws.specs.Honest.{inputs_of};
-ghost use Rattle.sk_oblig_asking.specs.Formulas.{IsAskable};
+ghost use Rattle.sk_loop_guesses.specs.Formulas.{IsAskable};
 ghost use Rattle.sk_loop.specs.Session.{Asks, KeepsClauses};
 
 use sk_base::Bounds;
+use sk_loop_guesses::asking::Asking;
 use sk_model::{Expanded, Pair};
-use sk_oblig_asking::Asking;
 use std::alloc::AllocError;
 
 /// Asks also that the next input is passed.

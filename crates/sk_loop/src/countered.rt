@@ -2,7 +2,7 @@
 
 ghost use Rattle.std.specs.Prelude.{IfOk};
 ghost use Rattle.sk_model.specs.Fill.{InRange};
-ghost use Rattle.sk_oblig_asking.specs.Formulas.{IsAskable};
+ghost use Rattle.sk_loop_guesses.specs.Formulas.{IsAskable};
 ghost use Rattle.sk_loop.specs.Answered.{IsAnswered};
 ghost use Rattle.sk_loop.specs.Countered.{IsCountered};
 
@@ -11,9 +11,9 @@ use sk_base::Bounds;
 use sk_clause::Log;
 use sk_cnf::Encoded;
 use sk_loop_copies::copy_choice;
+use sk_loop_guesses::asking::oblig::{formula, input_of};
 use sk_loop_guesses::guess;
 use sk_model::{Choice, Expanded, Input as InputOf};
-use sk_oblig_asking::oblig::{formula, input_of};
 use sk_oblig_queries::Query;
 use sk_sat::Solver;
 use std::alloc::{AllocError, Global};

@@ -13,4 +13,4 @@ mod turn;
 pub use countered::{Countered, counter};
 pub use found::Found;
 pub use session::{Session, synthesise};
-pub use sk_oblig_asking::oblig;
+pub use sk_loop_guesses::asking::oblig;

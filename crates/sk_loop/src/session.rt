@@ -3,7 +3,7 @@
 ghost use Rattle.std.specs.Prelude.{◌≡◌, ◌+◌, [], None, IfOk, OnErr, OnOk, length};
 ghost use Rattle.sk_cnf.specs.Standing.{Begins};
 ghost use Rattle.sk_oblig_queries.specs.Queries.{IsWanted};
-ghost use Rattle.sk_oblig_asking.specs.Formulas.{IsAskable};
+ghost use Rattle.sk_loop_guesses.specs.Formulas.{IsAskable};
 ghost use Rattle.sk_loop_laws.specs.Shown.{HasRoom};
 ghost use Rattle.sk_loop_laws.specs.Honest.{Grown, Honest, IsRound, inputs_of};
 ghost use Rattle.sk_sat.specs.Solver.{gained};
@@ -22,8 +22,8 @@ use sk_base::{Bounds, Budget, List};
 use sk_clause::{Assignment, Log};
 use sk_cnf::Encoded;
 use sk_limits::too_many;
+use sk_loop_guesses::asking::Asking;
 use sk_model::{Choice, Expanded, Pair};
-use sk_oblig_asking::Asking;
 use sk_oblig_queries::{Query, choice_of};
 use sk_sat::Solver;
 use std::alloc::{AllocError, Global};

@@ -4,13 +4,13 @@ ghost use Rattle.std.specs.Prelude.{◌≡◌, IfOk, IfSome};
 ghost use Rattle.sk_model.specs.Fill.{InRange};
 ghost use Rattle.sk_oblig_queries.specs.declared.query.Query.TheVariants as query_form;
 ghost use Rattle.sk_oblig_queries.specs.Queries.{IsBad};
-ghost use Rattle.sk_oblig.specs.Formulas.{IsAskable};
+ghost use Rattle.sk_oblig_asking.specs.Formulas.{IsAskable};
 
 use crate::pattern::{Pattern, patterns};
 use sk_base::{Bounds, List};
 use sk_loop_copies::copy_choice;
 use sk_model::{Choice, Expanded, Input, Obligation};
-use sk_oblig::bad_said;
+use sk_oblig_asking::oblig::bad_said;
 use sk_oblig_queries::{Query, obligations};
 use sk_prog::{Elem, FunId, ParamDef, Prog, Ty};
 use std::alloc::{AllocError, Global};

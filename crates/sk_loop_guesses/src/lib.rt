@@ -5,3 +5,4 @@ mod guessing;
 mod pattern;
 
 pub use guessing::guess;
+pub use sk_oblig_asking as asking;

@@ -2,6 +2,8 @@
 //! output.
 #![tactic(auto)]
 
+ghost use Rattle.sk_app.specs.Ending.{status_of};
+
 use sk_app::{Ending, StdSink, StdSource, message, run, status};
 use sk_explain::{KeptSink, KeptSource, explain};
 use std::env;
@@ -19,14 +21,17 @@ fn say(errors: &mut impl Write, line: &[u8]) {
     let _ = errors.write_all(b"\n");
 }
 
-/// Says what an ending has to say. Where there is no memory for the line, nothing is said, and the status stays as it is.
-fn tell(rt: &HostRuntime, ending: &Ending) {
-    if status(ending) < FIRST_TOLD {
-        return;
+/// Says what an ending has to say, and answers the status to end with: the ending's, also where there is no memory for the line.
+fn ended(rt: &HostRuntime, ending: &Ending) -> u8
+    ensures { result ≡ status_of ending.now }
+{
+    let code = status(ending);
+    if code >= FIRST_TOLD {
+        if let Ok(line) = message(rt.alloc(), ending) {
+            say(&mut rt.stderr(), line.as_bytes());
+        }
     }
-    if let Ok(line) = message(rt.alloc(), ending) {
-        say(&mut rt.stderr(), line.as_bytes());
-    }
+    code
 }
 
 /// Whether lines for people are written: the environment variable `SKETCH_EXPLAIN` says so by `1` or `0`, and else they
@@ -64,11 +69,11 @@ fn main(rt: HostRuntime) -> ExitCode {
     let mut source = KeptSource::new(alloc, StdSource::new(rt.stdin()));
     let mut sink = KeptSink::new(alloc, StdSink::new(rt.stdout()));
     let ending = run(alloc, words.as_slice(), &mut source, &mut sink);
-    tell(&rt, &ending);
+    let code = ended(&rt, &ending);
     if is_explained(&rt) {
         say_more(&rt, words.as_slice(), source.kept(), sink.kept(), &ending);
     }
-    ExitCode::from(status(&ending))
+    ExitCode::from(code)
 }
 
 /// The words behind the program's own name.

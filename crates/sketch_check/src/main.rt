@@ -2,6 +2,8 @@
 //! certificate is right.
 #![tactic(auto)]
 
+ghost use Rattle.sk_check_app.specs.Ending.{status_of};
+
 use sk_check_app::{Ending, StdSink, StdSource, judge, message, status};
 use std::env;
 use std::io::Write;
@@ -18,14 +20,17 @@ fn say(errors: &mut impl Write, line: &[u8]) {
     let _ = errors.write_all(b"\n");
 }
 
-/// Says what an ending has to say. Where there is no memory for the line, nothing is said, and the status stays as it is.
-fn tell(rt: &HostRuntime, ending: &Ending) {
-    if status(ending) < FIRST_TOLD {
-        return;
+/// Says what an ending has to say, and answers the status to end with: the ending's, also where there is no memory for the line.
+fn ended(rt: &HostRuntime, ending: &Ending) -> u8
+    ensures { result ≡ status_of ending.now }
+{
+    let code = status(ending);
+    if code >= FIRST_TOLD {
+        if let Ok(line) = message(rt.alloc(), ending) {
+            say(&mut rt.stderr(), line.as_bytes());
+        }
     }
-    if let Ok(line) = message(rt.alloc(), ending) {
-        say(&mut rt.stderr(), line.as_bytes());
-    }
+    code
 }
 
 fn main(rt: HostRuntime) -> ExitCode {
@@ -36,8 +41,8 @@ fn main(rt: HostRuntime) -> ExitCode {
     let mut source = StdSource::new(rt.stdin());
     let mut sink = StdSink::new(rt.stdout());
     let ending = judge(rt.alloc(), words.as_slice(), &mut source, &mut sink);
-    tell(&rt, &ending);
-    ExitCode::from(status(&ending))
+    let code = ended(&rt, &ending);
+    ExitCode::from(code)
 }
 
 /// The words behind the program's own name.

@@ -1,6 +1,6 @@
 use Rattle.std.proofs.Common.{◌+◌, ◌++◌, ◌∷◌, [], get_or}
 use Rattle.sk_loop_laws.specs.Honest.{inputs_of}
-use Rattle.sk_oblig_asking.specs.Asking.{IsAsking}
+use Rattle.sk_loop_guesses.specs.Asking.{IsAsking}
 use Rattle.sk_loop.specs.Session.{Asks}
 use Rattle.sk_loop.proofs.Demanding.{asked_next, on_ok}
 use Rattle.sk_loop.proofs.asks.ask.Goals as goal
