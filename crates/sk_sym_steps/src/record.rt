@@ -49,6 +49,18 @@ fn is_kind(structs: &[StructId], s: StructId, slot: u32) -> bool
     }
 }
 
+/// The first slot of a struct from a place on.
+fn next_of(structs: &[StructId], s: StructId, from: usize) -> Option<usize> {
+    let mut slot = 0;
+    for kind in structs {
+        if slot >= from && kind.index == s.index {
+            return Some(slot);
+        }
+        slot += 1;
+    }
+    None
+}
+
 /// Whether each target is a slot of a struct.
 #[tactic(auto, using(crate::proofs::Records::other_kind))]
 pub fn are_kind(structs: &[StructId], s: StructId, targets: &[(u32, BoolId)]) -> bool
@@ -75,12 +87,24 @@ pub fn allocate(
     ensures evaluates { IfOk result (λ r. Evaluates setting.now dag.old dag.new state.old state.new r (λ e. allocates setting.now.expanded.now.prog s [])) }
 {
     let prog = &setting.expanded.prog;
-    if state.heap.slots() >= MOST_SLOTS || !has_struct(prog, s) {
+    if !has_struct(prog, s) {
         return Err(never());
     }
-    let path = state.path;
-    let target = state.heap.alloc_under(setting.alloc, dag, prog, path, s)?;
+    if let Some(place) = next_of(state.structs.as_slice(), s, state.cursor) {
+        let target = state
+            .heap
+            .retake_under(setting.alloc, dag, prog, state.path, s, place)?;
+        state.cursor = place + 1;
+        return Ok(Shape::Reference(target));
+    }
+    if state.heap.slots() >= MOST_SLOTS {
+        return Err(never());
+    }
+    let target = state
+        .heap
+        .alloc_under(setting.alloc, dag, prog, state.path, s)?;
     state.structs.push(s)?;
+    state.cursor = state.structs.len();
     Ok(Shape::Reference(target))
 }
 

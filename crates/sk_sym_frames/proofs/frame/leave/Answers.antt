@@ -16,4 +16,4 @@ pub returns-clause-left : goal.returns-clause-left
 returns-clause-left c =
     let last = subst (λ l. IsGiven c.given.new.dag c.args.fun.now c.args.state.now.path l c.replace-frame.result.returned c.replace-frame.result.ended c.in_ok-r.r) c.as_slice.ensures c.in_ok-r.ensures.given in
     let given = subst (λ (f : Frame). IsGiven c.given.new.dag c.args.fun.now c.args.state.now.path f.slots f.returned f.ended c.in_ok-r.r) c.replace-frame.ensures.value last in
-    rw c.replace-frame.ensures.after (left_is c.requires.stands c.requires.caller c.in_ok-path.ensures.keeps c.in_ok-path.ensures.there c.in_ok-path.ensures.path c.in_ok-r.ensures.keeps given)
+    rw c.replace-frame.ensures.after (left_is c.requires.stands c.requires.caller c.in_ok-path.ensures.keeps c.in_ok-path.ensures.there c.in_ok-path.ensures.path c.cursor_behind.ensures c.in_ok-r.ensures.keeps given)

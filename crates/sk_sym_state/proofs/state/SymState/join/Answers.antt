@@ -12,5 +12,5 @@ pub slots_behind-requires-clause-slots : goal.slots_behind-requires-clause-slots
 slots_behind-requires-clause-slots c = rw c.replace-slots.ensures.value (AllStand-keeps c.in_ok-path.ensures.keeps c.requires.stands.frame.slots)
 
 pub returns-clause-joined : goal.returns-clause-joined
-returns-clause-joined c = joined_is c.requires.stands c.in_ok-path.ensures.keeps c.in_ok-path.ensures.there c.in_ok-path.ensures.value c.in_ok-self.ensures.keeps
+returns-clause-joined c = joined_is c.requires.stands c.in_ok-path.ensures.keeps c.in_ok-path.ensures.there c.in_ok-path.ensures.value c.cursor_behind.ensures c.in_ok-self.ensures.keeps
     (subst (λ l. AreOneOf c.slots_behind.new.dag c.args.cond c.args.gone c.args.self.now.path l c.in_ok-self.field-0) c.replace-slots.ensures.value c.in_ok-self.ensures.one)
