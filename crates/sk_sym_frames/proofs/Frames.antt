@@ -1,5 +1,5 @@
 -- A call: what its body does in variables of its own is what the call does in those of its caller.
-use Rattle.std.proofs.Common.{◌≡◌, ℕ, ◌≤◌, Bool, true, false, List, length, replicate, ◌++◌, ◌-◌, ◌||◌, refl, sym, ap, subst, ◌∙◌, arith, inl, inr}
+use Rattle.std.proofs.Common.{◌≡◌, ℕ, ◌≤◌, Bool, true, false, List, length, replicate, ◌++◌, ◌-◌, ◌||◌, refl, sym, ap, subst, ◌∙◌, arith, true≢false, ◌⊎◌, inl, inr}
 use Rattle.std.specs.Prelude.{Option, Some, None}
 use Rattle.sk_dag.specs.declared.env.Env.{Env}
 use Rattle.sk_dag.specs.declared.node.BoolId.{BoolId}
@@ -317,3 +317,13 @@ module _ {x y : Setting} {d0 d1 d2 d3 : Graph} {s0 s1 s2 s3 : SymState} {args : 
     };
     runs = λ g e vs at l worth shows. ends l shows (m e (record at { slots = first_slots y.fun.now vs })) (body.runs g e (record at { slots = first_slots y.fun.now vs }) (l2 l) (begins l shows vs worth));
   }
+
+-- ---- the cursor behind a call
+
+pub after_returns : {d : Graph} {path : BoolId} {cursor most : ℕ} → ((g : Graph) → Grows d g → (e : Env) → bool_value g e path ≡ false) → IsCursorAfter d path cursor most most
+after_returns off = record { here = λ g e more p. absurd (true≢false (sym p ∙ off g more e)); back = omega arith; one = inr refl }
+
+pub after_both : {d : Graph} {path : BoolId} {cursor most r : ℕ} → cursor ≤ r → most ≤ r → (r ≡ cursor) ⊎ (r ≡ most) → IsCursorAfter d path cursor most r
+after_both a b one = record { here = λ g e more p. a; back = b; one = one }
+
+pub ruleset after = (after_returns, after_both)

@@ -77,6 +77,7 @@ fn path_behind(dag: &mut Dag, state: &SymState, caller: &Caller) -> Result<BoolI
 
 /// The cursor behind a call: where its body goes on to its end under a path, with this cursor, and where it has returned
 /// before, the slots from it on are free.
+#[tactic(auto, using(crate::proofs::Frames::after))]
 fn cursor_behind(dag: &Dag, path: BoolId, cursor: usize, most: usize) -> usize
     requires { HasBool dag.now.nodes path }
     ensures { IsCursorAfter dag.now path cursor most result }

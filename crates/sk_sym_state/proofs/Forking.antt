@@ -1,5 +1,5 @@
 -- A branch begins and ends.
-use Rattle.std.proofs.Common.{◌≡◌, ℕ, ◌≤◌, ◌&&◌, ◌||◌, Bool, true, false, true≢false, List, length, take, refl, sym, ap, ◌∙◌, arith, inl, inr}
+use Rattle.std.proofs.Common.{◌≡◌, ℕ, ◌≤◌, ◌&&◌, ◌||◌, Bool, true, false, true≢false, List, length, take, refl, sym, ap, ◌∙◌, arith, ◌⊎◌, inl, inr}
 use Rattle.std.specs.Prelude.{not, if◌then◌else◌}
 use Rattle.sk_dag.specs.declared.env.Env.{Env}
 use Rattle.sk_dag.specs.declared.node.BoolId.{BoolId}
@@ -103,3 +103,8 @@ behind_one_waits off = record { first = λ g e more p. absurd (true≢false (sym
 
 pub behind_one_is_gone : {d : Graph} {gone path : BoolId} {first second : ℕ} → ((g : Graph) → Grows d g → (e : Env) → bool_value g e path ≡ false) → IsCursorBehind d gone first path second first
 behind_one_is_gone off = record { first = λ g e more p. omega arith; second = λ g e more p. absurd (true≢false (sym p ∙ off g more e)); one = inl refl }
+
+pub behind_both : {d : Graph} {gone path : BoolId} {first second cursor : ℕ} → first ≤ cursor → second ≤ cursor → (cursor ≡ first) ⊎ (cursor ≡ second) → IsCursorBehind d gone first path second cursor
+behind_both a b one = record { first = λ g e more p. a; second = λ g e more p. b; one = one }
+
+pub ruleset behind = (behind_one_waits, behind_one_is_gone, behind_both)

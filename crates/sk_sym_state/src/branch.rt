@@ -121,6 +121,7 @@ fn slots_behind(
 
 /// The cursor behind a branch whose ways end at these paths with these cursors: the greater, and that of the one way where
 /// the other's end is given as false.
+#[tactic(auto, using(crate::proofs::Forking::behind))]
 fn cursor_behind(dag: &Dag, gone: BoolId, first: usize, path: BoolId, second: usize) -> usize
     requires gone { HasBool dag.now.nodes gone }
     requires path { HasBool dag.now.nodes path }

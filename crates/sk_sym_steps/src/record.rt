@@ -1,6 +1,6 @@
 //! Records and their fields.
 
-ghost use Rattle.std.specs.Prelude.{◌≡◌, ◌↔◌, IfOk, IsTrue, []};
+ghost use Rattle.std.specs.Prelude.{◌≡◌, ◌↔◌, IfOk, IsTrue, MatchOption, []};
 ghost use Rattle.sk_dag.specs.Eval.{Keeps};
 ghost use Rattle.sk_arr.specs.Held.{AllPass};
 ghost use Rattle.sk_arr.specs.Shapes.{Stands};
@@ -9,7 +9,7 @@ ghost use Rattle.sk_model.specs.Heap.{read_field as reads, allocate as allocates
 ghost use Rattle.sk_sym_state.specs.Seen.{IsWorth};
 ghost use Rattle.sk_sym_state.specs.Stands.{StateStands};
 ghost use Rattle.sk_sym_state.specs.Meaning.{Evaluates};
-ghost use Rattle.sk_sym_steps.specs.Steps.{is_kind, EvaluatesOn};
+ghost use Rattle.sk_sym_steps.specs.Steps.{is_kind, IsNextOf, HasNoneFrom, EvaluatesOn};
 
 use crate::failure::fail_now;
 use sk_base::Span;
@@ -50,7 +50,9 @@ fn is_kind(structs: &[StructId], s: StructId, slot: u32) -> bool
 }
 
 /// The first slot of a struct from a place on.
-fn next_of(structs: &[StructId], s: StructId, from: usize) -> Option<usize> {
+fn next_of(structs: &[StructId], s: StructId, from: usize) -> Option<usize>
+    ensures { MatchOption result (HasNoneFrom structs.now s from) (λ slot. IsNextOf structs.now s from slot) }
+{
     let mut slot = 0;
     for kind in structs {
         if slot >= from && kind.index == s.index {
