@@ -25,7 +25,7 @@ use Rattle.sk_sym_state.specs.declared.state.Frame.{Frame}
 use Rattle.sk_sym_state.specs.declared.state.SymState.{SymState}
 use Rattle.sk_sym_state.specs.Seen.{AreWorth}
 use Rattle.sk_sym_state.specs.Stands.{StateStands}
-use Rattle.sk_sym_state.specs.Shows.{AreFrontOf, Shows, ResultIs, EndedIs, SeesFlow, Sees, IsHere, IsSome, Comes, Stays}
+use Rattle.sk_sym_state.specs.Shows.{AreFrontOf, Shows, ResultIs, EndedIs, SeesFlow, Sees, IsHere, IsOutcome, Comes, Stays}
 use Rattle.sk_sym_state.specs.Meaning.{IsLater, Executes, ExecutesOn, DoesOn}
 use Rattle.sk_sym_state.proofs.Worth.{IsWorth-grown, AreWorth-grown}
 use Rattle.sk_sym_state.proofs.Carrying.{here_of, front_grown, later_keeps}
@@ -232,7 +232,7 @@ module _ {x y : Setting} {d0 d1 d2 d3 : Graph} {s0 s1 s2 s3 : SymState} {args : 
         returned_now : bool_value g e s3.frame.returned ≡ false
         returned_now = ap (λ (f : Frame). bool_value g e f.returned) frame3 ∙ h.returned
 
-        by : IsSome g e s2 → IsSome g e s3
+        by : IsOutcome g e s2 → IsOutcome g e s3
         by (inl k) = inl (record { path = behind.here (was_path ∙ h.path) k.path; failed = ap (bool_value g e) failed3 ∙ k.failed; skipped = ap (bool_value g e) skipped3 ∙ k.skipped; returned = returned_now; free = here_free k.path k.free })
         by (inr (inl k)) = inl (record { path = behind.back (was_path ∙ h.path) k.returned; failed = ap (bool_value g e) failed3 ∙ k.failed; skipped = ap (bool_value g e) skipped3 ∙ k.skipped; returned = returned_now; free = back_free k.free })
         by (inr (inr (inl k))) = inr (inr (inl (record { path = behind.failed (was_failed ∙ h.failed) k.failed k.path k.returned; failed = ap (bool_value g e) failed3 ∙ k.failed; skipped = ap (bool_value g e) skipped3 ∙ k.skipped; returned = returned_now })))

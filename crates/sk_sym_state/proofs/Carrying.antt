@@ -13,7 +13,7 @@ use Rattle.sk_heap.specs.declared.slot.Slot.{Slot}
 use Rattle.sk_sym_state.specs.declared.state.SymState.{SymState}
 use Rattle.sk_sym_state.specs.declared.setting.Setting.{Setting}
 use Rattle.sk_heap_laws.specs.Heaps.{HeapGrows, HoldAlike, HeapLive, heap_value}
-use Rattle.sk_sym_state.specs.Shows.{AreFrontOf, Shows, HasFailed, HasSkipped, EndedIs, HasReturned, IsHere, IsBack, IsSome, Comes, Carries, AreAlong}
+use Rattle.sk_sym_state.specs.Shows.{AreFrontOf, Shows, HasFailed, HasSkipped, EndedIs, HasReturned, IsHere, IsBack, IsOutcome, Comes, Carries, AreAlong}
 use Rattle.sk_sym_state.specs.Meaning.{IsLater, Moves}
 use Rattle.sk_arr.specs.Answers.{shapes_value}
 use Rattle.sk_heap_laws.proofs.Grown.{StructsGrow-trans, HeapGrows-trans, HoldAlike-refl, HoldAlike-trans, alike_grows, alike_free, free_more, values_grow, all_live_grows}
@@ -87,7 +87,7 @@ module _ {g : Graph} {e : Env} {a b : SymState} where
   back_over c p h = record { path = p; failed = c.failed ∙ h.failed; skipped = c.skipped ∙ h.skipped; returned = c.returned ∙ h.returned; free = free_more g e c.most (alike_free g e c.holds h.free) }
 
   -- what it is stays, where its path does and its cursor is no less
-  pub some_over : Carries g e a b → bool_value g e b.path ≡ bool_value g e a.path → (bool_value g e a.path ≡ true → a.cursor ≤ b.cursor) → IsSome g e a → IsSome g e b
+  pub some_over : Carries g e a b → bool_value g e b.path ≡ bool_value g e a.path → (bool_value g e a.path ≡ true → a.cursor ≤ b.cursor) → IsOutcome g e a → IsOutcome g e b
   some_over c p up (inl h) = inl (here_over c (p ∙ h.path) (up h.path) h)
   some_over c p up (inr (inl h)) = inr (inl (back_over c (p ∙ h.path) h))
   some_over c p up (inr (inr (inl h))) = inr (inr (inl (failed_over c (p ∙ h.path) h)))
@@ -119,7 +119,7 @@ module _ {x : Setting} {d0 d1 : Graph} {s0 s1 : SymState} (m : Moves x d0 d1 s0 
   gone_grows p = alike_grows g e (m.stays g e l p).rest.holds
 
   -- whatever it is that the run is
-  pub some_comes : IsSome g e s0 → Comes g e s0 s1
+  pub some_comes : IsOutcome g e s0 → Comes g e s0 s1
   some_comes (inl h) = m.comes g e l h
   some_comes (inr (inl h)) = let k = m.stays g e l h.path in record { grown = alike_grows g e k.rest.holds; is = inr (inl (back_over k.rest k.path h)) }
   some_comes (inr (inr (inl h))) = let k = m.stays g e l h.path in record { grown = alike_grows g e k.rest.holds; is = inr (inr (inl (failed_over k.rest k.path h))) }

@@ -12,7 +12,7 @@ use Rattle.sk_heap_laws.proofs.Grown.{StructsGrow-refl, HeapGrows-refl, HoldAlik
 use Rattle.sk_sym_state.specs.declared.setting.Setting.{Setting}
 use Rattle.sk_sym_state.specs.declared.state.SymState.{SymState}
 use Rattle.sk_sym_state.specs.Stands.{StateStands}
-use Rattle.sk_sym_state.specs.Shows.{Shows, Sees, SeesFlow, IsHere, IsSome}
+use Rattle.sk_sym_state.specs.Shows.{Shows, Sees, SeesFlow, IsHere, IsOutcome}
 use Rattle.sk_sym_state.specs.Meaning.{IsLater, Moves, Does, DoesOn, Executes, FailsWhere, SkipsWhere}
 use Rattle.sk_sym_state.proofs.Carrying.{Carries-refl, Moves-trans}
 use Rattle.sk_sym_state.proofs.Standing.{StateStands-keeps}
@@ -65,7 +65,7 @@ module _ (x : Setting) {d0 d1 : Graph} {s0 : SymState} (cond : BoolId) {path end
     bad = λ g e at l c shows. record { path = path_end g e l c; failed = v g l.grows e ∙ or_now _ _ _ shows.path c; skipped = shows.skipped; returned = shows.returned };
   }
     where
-      fails_comes : (g : Graph) (e : Env) → IsLater x d1 g e → IsHere g e s0 → (c : Bool) → bool_value g e cond ≡ c → IsSome g e (record s0 { path = path; failed = ended })
+      fails_comes : (g : Graph) (e : Env) → IsLater x d1 g e → IsHere g e s0 → (c : Bool) → bool_value g e cond ≡ c → IsOutcome g e (record s0 { path = path; failed = ended })
       fails_comes g e l h true c = inr (inr (inl (record { path = path_end g e l c; failed = v g l.grows e ∙ or_now _ _ _ h.path c; skipped = h.skipped; returned = h.returned })))
       fails_comes g e l h false c = inl (record { path = path_on g e l h.path c; failed = v g l.grows e ∙ or_none _ _ _ c ∙ h.failed; skipped = h.skipped; returned = h.returned; free = h.free })
 
@@ -83,7 +83,7 @@ module _ (x : Setting) {d0 d1 : Graph} {s0 : SymState} (cond : BoolId) {path end
     bad = λ g e at l c shows. record { path = path_end g e l c; failed = shows.failed; skipped = v g l.grows e ∙ or_now _ _ _ shows.path c; returned = shows.returned };
   }
     where
-      skips_comes : (g : Graph) (e : Env) → IsLater x d1 g e → IsHere g e s0 → (c : Bool) → bool_value g e cond ≡ c → IsSome g e (record s0 { path = path; skipped = ended })
+      skips_comes : (g : Graph) (e : Env) → IsLater x d1 g e → IsHere g e s0 → (c : Bool) → bool_value g e cond ≡ c → IsOutcome g e (record s0 { path = path; skipped = ended })
       skips_comes g e l h true c = inr (inr (inr (record { path = path_end g e l c; failed = h.failed; skipped = v g l.grows e ∙ or_now _ _ _ h.path c; returned = h.returned })))
       skips_comes g e l h false c = inl (record { path = path_on g e l h.path c; failed = h.failed; skipped = v g l.grows e ∙ or_none _ _ _ c ∙ h.skipped; returned = h.returned; free = h.free })
 

@@ -106,14 +106,14 @@ pub record IsBack (g : Graph) (e : Env) (s : SymState) : Type 0 where
   pub returned : bool_value g e s.frame.returned ≡ true
   pub free : AreFree g e s.heap s.frame.most
 
--- it is in one of four ways what a statement does
-abbrev pub IsSome : Graph → Env → SymState → Type 0
-IsSome g e s = IsHere g e s ⊎ (IsBack g e s ⊎ (HasFailed g e s ⊎ HasSkipped g e s))
+-- it goes on, has returned, has failed or is skipped
+abbrev pub IsOutcome : Graph → Env → SymState → Type 0
+IsOutcome g e s = IsHere g e s ⊎ (IsBack g e s ⊎ (HasFailed g e s ⊎ HasSkipped g e s))
 
 -- the heap has grown, and the run goes on or has ended
 pub record Comes (g : Graph) (e : Env) (old new : SymState) : Type 0 where
   pub grown : HeapGrows g e old.heap new.heap
-  pub is : IsSome g e new
+  pub is : IsOutcome g e new
 
 -- Whether the run has failed, is skipped or has returned, its cost, its records, where they are live, and what it has returned
 -- are as they were. The same slots hold.
