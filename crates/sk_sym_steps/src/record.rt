@@ -76,9 +76,9 @@ pub fn are_kind(structs: &[StructId], s: StructId, targets: &[(u32, BoolId)]) ->
     true
 }
 
-/// A new record of a struct in which each field is 0, and a reference to it. The heap of a program within the limit on
-/// allocations is not full, and its structs are there (`never`). After a refusal the graph has all nodes that it had (`keeps`); the state is given up with the walk that holds it.
-pub fn allocate(
+/// A new record at one slot more. The heap of a program within the limit on allocations is not full, and its structs are
+/// there (`never`).
+fn allocate_more(
     setting: &Setting<'_>,
     dag: &mut Dag,
     state: &mut SymState,
@@ -89,25 +89,64 @@ pub fn allocate(
     ensures evaluates { IfOk result (λ r. Evaluates setting.now dag.old dag.new state.old state.new r (λ e. allocates setting.now.expanded.now.prog s [])) }
 {
     let prog = &setting.expanded.prog;
-    if !has_struct(prog, s) {
+    if state.heap.slots() >= MOST_SLOTS || !has_struct(prog, s) {
         return Err(never());
     }
-    if let Some(place) = next_of(state.structs.as_slice(), s, state.cursor) {
-        let target = state
-            .heap
-            .retake_under(setting.alloc, dag, prog, state.path, s, place)?;
-        state.cursor = place + 1;
-        return Ok(Shape::Reference(target));
-    }
-    if state.heap.slots() >= MOST_SLOTS {
-        return Err(never());
-    }
-    let target = state
-        .heap
-        .alloc_under(setting.alloc, dag, prog, state.path, s)?;
+    let path = state.path;
+    let target = state.heap.alloc_under(setting.alloc, dag, prog, path, s)?;
     state.structs.push(s)?;
     state.cursor = state.structs.len();
     Ok(Shape::Reference(target))
+}
+
+/// A new record at the next slot of its struct. The structs of a program are there (`never`).
+fn allocate_again(
+    setting: &Setting<'_>,
+    dag: &mut Dag,
+    state: &mut SymState,
+    s: StructId,
+    place: usize,
+) -> Result<Shape, AllocError>
+    requires stands { StateStands dag.old setting.now.expanded.now.prog state.old }
+    requires next { IsNextOf state.old.structs s state.old.cursor place }
+    ensures keeps { Keeps dag.old dag.new }
+    ensures evaluates { IfOk result (λ r. Evaluates setting.now dag.old dag.new state.old state.new r (λ e. allocates setting.now.expanded.now.prog s [])) }
+{
+    let prog = &setting.expanded.prog;
+    if !has_struct(prog, s) {
+        return Err(never());
+    }
+    let path = state.path;
+    let target = state
+        .heap
+        .retake_under(setting.alloc, dag, prog, path, s, place)?;
+    state.cursor = place + 1;
+    Ok(Shape::Reference(target))
+}
+
+/// A new record of a struct in which each field is 0, and a reference to it. It is at the next slot of the struct from the
+/// cursor on, where there is one, and else at one more. After a refusal the graph has all nodes that it had (`keeps`); the
+/// state is given up with the walk that holds it.
+pub fn allocate(
+    setting: &Setting<'_>,
+    dag: &mut Dag,
+    state: &mut SymState,
+    s: StructId,
+) -> Result<Shape, AllocError>
+    requires stands { StateStands dag.old setting.now.expanded.now.prog state.old }
+    ensures keeps { Keeps dag.old dag.new }
+    ensures evaluates { IfOk result (λ r. Evaluates setting.now dag.old dag.new state.old state.new r (λ e. allocates setting.now.expanded.now.prog s [])) }
+{
+    match next_of(state.structs.as_slice(), s, state.cursor) {
+        Some(place) => {
+            let r = allocate_again(setting, dag, state, s, place)?;
+            Ok(r)
+        }
+        None => {
+            let r = allocate_more(setting, dag, state, s)?;
+            Ok(r)
+        }
+    }
 }
 
 /// A field of the record that a reference is at. It fails where the reference is null, and wherever the run goes on where the

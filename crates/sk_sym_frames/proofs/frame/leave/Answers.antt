@@ -1,10 +1,14 @@
 use Rattle.std.proofs.Common.{subst}
+use Rattle.sk_dag.specs.Graph.{BoolSort}
 use Rattle.sk_arr.proofs.Standing.{AllStand-keeps}
 use Rattle.sk_sym_state.specs.declared.state.Frame.{Frame}
 use Rattle.sk_sym_state.proofs.Standing.{AnyEnded-keeps}
 use Rattle.sk_sym_frames.specs.Ended.{IsGiven}
 use Rattle.sk_sym_frames.proofs.Frames.{left_is}
 use Rattle.sk_sym_frames.proofs.frame.leave.Goals as goal
+
+pub cursor_behind-requires : goal.cursor_behind-requires
+cursor_behind-requires c = c.in_ok-path.ensures.keeps.sorts _ BoolSort c.requires.stands.path
 
 pub given-requires-clause-slots : goal.given-requires-clause-slots
 given-requires-clause-slots c = rw (c.as_slice.ensures, c.replace-frame.ensures.value) (AllStand-keeps c.in_ok-path.ensures.keeps c.requires.stands.frame.slots)

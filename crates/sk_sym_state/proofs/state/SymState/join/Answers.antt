@@ -1,9 +1,16 @@
 use Rattle.std.proofs.Common.{subst}
+use Rattle.sk_dag.specs.Graph.{BoolSort}
 use Rattle.sk_arr.proofs.Standing.{AllStand-keeps}
 use Rattle.sk_sym_state.specs.Branching.{AreOneOf}
 use Rattle.sk_sym_state.proofs.Standing.{SideStands-keeps}
 use Rattle.sk_sym_state.proofs.Forking.{joined_is}
 use Rattle.sk_sym_state.proofs.state.SymState.join.Goals as goal
+
+pub cursor_behind-requires-clause-gone : goal.cursor_behind-requires-clause-gone
+cursor_behind-requires-clause-gone c = (SideStands-keeps c.in_ok-path.ensures.keeps c.requires.gone).path
+
+pub cursor_behind-requires-clause-path : goal.cursor_behind-requires-clause-path
+cursor_behind-requires-clause-path c = c.in_ok-path.ensures.keeps.sorts _ BoolSort c.requires.stands.path
 
 pub slots_behind-requires-clause-gone : goal.slots_behind-requires-clause-gone
 slots_behind-requires-clause-gone c = SideStands-keeps c.in_ok-path.ensures.keeps c.requires.gone
