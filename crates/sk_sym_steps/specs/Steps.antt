@@ -1,5 +1,5 @@
 -- What steps do with shapes that are given.
-use Rattle.std.specs.Prelude.{◌≡◌, ℕ, ◌==◌, ◌<◌, ◌≤◌, Bool, false, IsTrue, List, Option, Some, None, slice_get}
+use Rattle.std.specs.Prelude.{◌≡◌, ℕ, ◌==◌, ◌<◌, ◌≤◌, Bool, false, IsTrue, List, length, Option, Some, None, slice_get}
 use Rattle.sk_dag.specs.declared.env.Env.{Env}
 use Rattle.sk_dag.specs.declared.shape.Shape.{Shape}
 use Rattle.sk_dag.specs.Graph.{Graph}
@@ -27,6 +27,7 @@ is_kind structs s n = same_kind s (slice_get structs n)
 
 -- this slot is the first from a place on that is one of the struct
 pub record IsNextOf (structs : List StructId) (s : StructId) (from slot : ℕ) : Type 0 where
+  pub within : slot < length structs
   pub up : from ≤ slot
   pub kind : IsTrue (is_kind structs s slot)
   pub first : (n : ℕ) → from ≤ n → n < slot → is_kind structs s n ≡ false
