@@ -1,15 +1,16 @@
 -- Slots that are taken once more.
 use Rattle.std.proofs.lemmas.Option.{none-some, same_Some, slice_get_within, slice_get-get_or, slice_get_read, get_or_from_slice_get}
 use Rattle.std.proofs.lemmas.List.Elements.{All-nil, All-cons}
-use Rattle.std.proofs.Common.{◌≡◌, ℕ, zero, suc, ◌+◌, ◌<◌, ◌≤◌, Bool, true, false, List, [], ◌∷◌, ◌++◌, length, map, slice_get, slice_set, get_or, Some, IsTrue, refl, sym, ap, subst, ◌∙◌, arith, ◌⊎◌, inl, inr, ⊎_elim, if◌then◌else◌}
+use Rattle.std.proofs.Common.{◌≡◌, ℕ, zero, suc, ◌+◌, ◌<◌, ◌≤◌, Bool, true, false, ◌||◌, List, [], ◌∷◌, ◌++◌, length, map, slice_get, slice_set, get_or, Some, IsTrue, refl, sym, ap, subst, ◌∙◌, arith, ◌⊎◌, inl, inr, ⊎_elim, if◌then◌else◌}
 use Rattle.sk_dag.specs.declared.env.Env.{Env}
 use Rattle.sk_dag.specs.declared.node.BoolId.{BoolId}
 use Rattle.sk_dag.specs.declared.shape.Seen.{Seen}
 use Rattle.sk_dag.specs.declared.shape.Shape.{Shape}
 use Rattle.sk_dag.specs.declared.shape.Targets.{Targets}
-use Rattle.sk_dag.specs.Graph.{Graph, Grows, HasBool}
+use Rattle.sk_dag.specs.Graph.{Graph, Grows, HasBool, BoolSort}
 use Rattle.sk_dag.specs.Eval.{bool_value, Keeps}
 use Rattle.sk_dag.specs.EvalShape.{shape_value}
+use Rattle.sk_dag.proofs.EvalLemmas.{Keeps-trans}
 use Rattle.sk_arr.specs.Held.{held_in, AllIn, AllPass}
 use Rattle.sk_arr.specs.Shapes.{blank, Stands, AllStand}
 use Rattle.sk_arr.specs.Answers.{shapes_value, IsChoice}
@@ -240,3 +241,26 @@ module _ {g0 g : Graph} {prog : Prog} {guard : BoolId} {s : StructId} {place : �
       target = items;
       refers = refers;
     }
+
+-- ---- in the words of the code
+
+zeros_later : {a b : Graph} {forms : List Seen} {list : List Shape} → Keeps a b → AreZeros a forms list → AreZeros b forms list
+zeros_later k h = record { stand = AllStand-keeps k h.stand; formed = h.formed; unnamed = h.unnamed; value = λ g more e. h.value g (k.later g more) e }
+
+pub refilled_at : {d0 d1 d2 d3 : Graph} {prog : Prog} {guard here : BoolId} {s : StructId} {heap : List Slot} {was : Slot} {defs : List FieldDef} {zeros list others fields : List Shape} (place : ℕ) → slice_get heap place ≡ Some was
+    → HasBool d1.nodes here → ((h : Graph) → Grows d1 h → (e : Env) → bool_value h e here ≡ (bool_value h e was.guard || bool_value h e guard))
+    → Keeps d1 d2 → defs ≡ fields_of prog s → AreZeros d2 (map field_form defs) zeros
+    → Keeps d2 d3 → list ≡ zeros → others ≡ was.fields → AreChosen d3 guard list others fields
+    → IsRefilledAt d3 prog guard s place heap (record { guard = here; of = s; fields = fields })
+refilled_at {d3 = d3} {prog = prog} {guard = guard} {s = s} {was = was} {zeros = zeros} {others = others} {fields = fields} place found there is k2 defs are k3 same same' chosen = record {
+  was = was;
+  found = found;
+  refilled = record {
+    of_struct = refl;
+    there = (Keeps-trans k2 k3).sorts _ BoolSort there;
+    guarded = λ h more e. is h (k2.later h (k3.later h more)) e;
+    zeros = zeros;
+    are_zeros = subst (λ ds. AreZeros d3 (map field_form ds) zeros) defs (zeros_later k3 are);
+    fields = subst (λ l. AreChosen d3 guard zeros l fields) same' (subst (λ l. AreChosen d3 guard l others fields) same chosen);
+  };
+}
