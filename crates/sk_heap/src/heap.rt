@@ -13,7 +13,7 @@ ghost use Rattle.sk_heap.specs.Retakes.{IsRetaken};
 use crate::fields::{fields_of, type_of};
 use crate::read::{none_of, read_targets};
 use crate::retaken::retaken;
-use crate::slot::{Slot, put_slot};
+use crate::slot::{Slot, number_of, put_slot};
 use crate::write::write_targets;
 use crate::zero::zero_fields;
 use sk_dag::{BoolId, Dag, Shape, Targets};
@@ -112,8 +112,9 @@ impl SymHeap {
         ensures retaken { IfOk result (λ r. IsRetaken dag.new prog.now guard s place self.old self.new r) }
     {
         let slot = retaken(alloc, dag, prog, guard, s, self.slots.as_slice(), place)?;
+        let number = number_of(place);
         let mut slots = SmallVec::new(alloc);
-        slots.push((place as u32, guard))?;
+        slots.push((number, guard))?;
         put_slot(&mut self.slots, place, slot);
         Ok(Targets { slots })
     }

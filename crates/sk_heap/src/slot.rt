@@ -47,3 +47,11 @@ pub(crate) fn put_slot(slots: &mut Vec<Slot>, place: usize, slot: Slot)
 {
     slots[place] = slot;
 }
+
+/// The number of the slot at a place.
+pub(crate) fn number_of(place: usize) -> u32
+    requires { place < 256 }
+    ensures { result ≡ place }
+{
+    place as u32
+}
