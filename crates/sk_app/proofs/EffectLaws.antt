@@ -231,6 +231,7 @@ module _ (words : List (List ℕ)) (r : Ending) (f : Effect) where
   synth_alone_not_exec (ending.NotRun reason) a = absurd (false≢true a)
   synth_alone_not_exec (ending.NotFilled reason) a = absurd (false≢true a)
   synth_alone_not_exec ending.Lowered a = absurd (false≢true a)
+  synth_alone_not_exec ending.Pruned a = absurd (false≢true a)
   synth_alone_not_exec ending.Listed a = absurd (false≢true a)
   synth_alone_not_exec ending.Explained a = absurd (false≢true a)
   synth_alone_not_exec ending.Met a = absurd (false≢true a)
@@ -255,6 +256,7 @@ module _ (words : List (List ℕ)) (r : Ending) (f : Effect) where
   synth_alone_not_lower (ending.ExecFailed span) a = absurd (false≢true a)
   synth_alone_not_lower (ending.ExecSkipped span) a = absurd (false≢true a)
   synth_alone_not_lower ending.Lowered a = absurd (false≢true a)
+  synth_alone_not_lower ending.Pruned a = absurd (false≢true a)
   synth_alone_not_lower ending.Listed a = absurd (false≢true a)
   synth_alone_not_lower ending.Explained a = absurd (false≢true a)
   synth_alone_not_lower ending.Met a = absurd (false≢true a)
@@ -287,6 +289,7 @@ module _ (words : List (List ℕ)) (r : Ending) (f : Effect) where
   exec_alone_not_lower (ending.NotCertificate why) a = absurd (false≢true a)
   exec_alone_not_lower ending.VersionShown a = absurd (false≢true a)
   exec_alone_not_lower ending.Lowered a = absurd (false≢true a)
+  exec_alone_not_lower ending.Pruned a = absurd (false≢true a)
   exec_alone_not_lower ending.Listed a = absurd (false≢true a)
   exec_alone_not_lower ending.Explained a = absurd (false≢true a)
   exec_alone_not_lower ending.Met a = absurd (false≢true a)
@@ -1001,6 +1004,7 @@ module _ {words : List (List ℕ)} {r : Ending} {f : Effect} (a : Answers words 
   allowed set budget cert s (ending.NotRun reason) e = tt
   allowed set budget cert s (ending.NotFilled reason) e = tt
   allowed set budget cert s ending.Lowered e = tt
+  allowed set budget cert s ending.Pruned e = tt
   allowed set budget cert s ending.Listed e = absurd (synth_not words r f set budget cert ending.Listed s refl e)
   allowed set budget cert s ending.Explained e = absurd (synth_not words r f set budget cert ending.Explained s refl e)
   allowed set budget cert s ending.Met e = absurd (synth_not words r f set budget cert ending.Met s refl e)
