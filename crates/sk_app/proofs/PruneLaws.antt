@@ -4,20 +4,24 @@ use Rattle.std.specs.Prelude.{IsTrue, IfSome, Err}
 use Rattle.std.proofs.lemmas.Bool.{false≢true}
 use Rattle.sk_base.specs.Stream.{Rose}
 use Rattle.sk_opts.specs.declared.line.Set.{Set}
+use Rattle.sk_types_laws.specs.declared.fault.TypeFault.{TypeFault}
+use Rattle.sk_expand_sizes.specs.declared.fault.SizeFault.{SizeFault}
 use Rattle.sk_expand_sizes.specs.declared.fault.SizeFault.TheVariants as size
 use Rattle.sk_exec.specs.declared.fault.ExecFault.TheVariants as exec
+use Rattle.sk_front.specs.declared.fault.TextFault.{TextFault}
 use Rattle.sk_front.specs.declared.fault.SketchFault.{SketchFault}
 use Rattle.sk_front.specs.declared.fault.SketchFault.TheVariants as fault
 use Rattle.sk_front.specs.Texts.{most_bytes, HasSpan, IsTextFault}
-use Rattle.sk_front.specs.Front.{IsUntyped, IsTooLarge, IsFaultOfExpansion, IsPlacedFault, IsCause}
+use Rattle.sk_front.specs.Front.{IsUntyped, IsTooLarge, IsFaultOfExpansion, IsPlacedFault, IsCause, IsToldAs}
+use Rattle.sk_front.proofs.FrontLaws.{only_expansion}
 use Rattle.sk_prune_text.specs.PrunedTexts.{IsOpenText, IsPrunedText}
-use Rattle.sk_prune_text.proofs.TextLaws.{one_text, open_or_pruned, no_cause_of_open, no_cause_of_pruned}
+use Rattle.sk_prune_text.proofs.TextLaws.{open_or_pruned, no_cause_of_open, no_cause_of_pruned}
 use Rattle.sk_app.specs.declared.ending.Ending.{Ending}
 use Rattle.sk_app.specs.declared.ending.Ending.TheVariants as ending
 use Rattle.sk_app.specs.Ends.{IsDelivered, delivered, cut, no_room, Writes, WritesPart, writes_nothing}
-use Rattle.sk_app.proofs.Endings.{EndsPruned, EndsOpen, EndsLong}
+use Rattle.sk_app.proofs.Endings.{EndsPruned, EndsOpen, EndsFaulty, EndsUntyped, EndsLarge, EndsLong}
 use Rattle.sk_app.specs.Call.{Effect}
-use Rattle.sk_app.specs.Effects.{refusal, PrunesText, unexpanded, unfilled, pruned, PrunesSource, failed, long, wanting, whole}
+use Rattle.sk_app.specs.Effects.{refusal, is_of_expansion, PrunesText, unexpanded, unfilled, pruned, PrunesSource, failed, long, wanting, whole}
 use Rattle.sk_app.proofs.SourceLaws.{differ, too_long, Came as CameTo, came_failed, came_long, came_wanting, came_whole, told_of}
 
 -- the endings of a line `prune`
@@ -191,6 +195,59 @@ module _ (set : Set) (r : Ending) (f : Effect) where
       (λ i. refl)
       (λ out i. absurd (open_or_pruned set text out is i))
       is.expanded.typed.short came
+
+  is_fault : (text : List ℕ) (t : SketchFault) → IsCause (IsFaultOfExpansion set text) t → IsFaultOfExpansion set text t
+  is_fault text (fault.NotText a) i = i
+  is_fault text (fault.NotTyped a) i = i
+  is_fault text (fault.TooLarge a) i = i
+  is_fault text fault.Memory i = absurd i
+
+  -- two causes are told alike
+  caused : (text : List ℕ) (told t : SketchFault) → IsCause (IsFaultOfExpansion set text) told → IsCause (IsFaultOfExpansion set text) t → IsToldAs told t
+  caused text told t cause i = only_expansion set text (Err t) tt (is_fault text t i) told cause
+
+  -- the endings of a text with this cause
+  ends_cause : (text : List ℕ) (P : Ending → Type 0) → P ending.Memory → (Rose f.read_faults_old f.read_faults_new → P ending.ReadFault) → (told : SketchFault) → IsCause (IsFaultOfExpansion set text) told → ((t : SketchFault) → IsToldAs told t → P (refusal t)) → length text ≤ most_bytes → Came text → P r
+  ends_cause text P memory read told cause k fits came =
+      ends text P memory read
+      (λ t i. k t (caused text told t cause i))
+      (λ i. absurd (no_cause_of_open set text told i cause))
+      (λ out i. absurd (no_cause_of_pruned set text out told i cause))
+      fits came
+
+  as_faulty : (told : TextFault) (t : SketchFault) → IsToldAs (fault.NotText told) t → EndsFaulty told (refusal t) f.read_faults_old f.read_faults_new
+  as_faulty told (fault.NotText a) h = h
+  as_faulty told (fault.NotTyped a) h = absurd h
+  as_faulty told (fault.TooLarge a) h = absurd h
+  as_faulty told fault.Memory h = tt
+
+  pub ends_faulty_by : (text : List ℕ) → Came text → length text ≤ most_bytes → (told : TextFault) → IsTextFault told text → EndsFaulty told r f.read_faults_old f.read_faults_new
+  ends_faulty_by text came fits told is = ends_cause text (λ x. EndsFaulty told x f.read_faults_old f.read_faults_new) tt (λ rose. rose) (fault.NotText told) is (as_faulty told) fits came
+
+  as_untyped : (told : TypeFault) (t : SketchFault) → IsToldAs (fault.NotTyped told) t → EndsUntyped (refusal t) f.read_faults_old f.read_faults_new
+  as_untyped told (fault.NotText a) h = absurd h
+  as_untyped told (fault.NotTyped a) h = tt
+  as_untyped told (fault.TooLarge a) h = absurd h
+  as_untyped told fault.Memory h = tt
+
+  pub ends_untyped_by : (some : TypeFault) (text : List ℕ) → Came text → length text ≤ most_bytes → IsUntyped set text → EndsUntyped r f.read_faults_old f.read_faults_new
+  ends_untyped_by some text came fits is = ends_cause text (λ x. EndsUntyped x f.read_faults_old f.read_faults_new) tt (λ rose. rose) (fault.NotTyped some) is (as_untyped some) fits came
+
+  as_over : (reason : SizeFault) (t : SketchFault) → IsToldAs (fault.TooLarge reason) t → EndsLarge reason (refusal t) f.read_faults_old f.read_faults_new
+  as_over reason (fault.NotText a) h = absurd h
+  as_over reason (fault.NotTyped a) h = absurd h
+  as_over reason (fault.TooLarge a) h = ap ending.TooLarge (sym h)
+  as_over reason fault.Memory h = tt
+
+  over_cause : (text : List ℕ) (reason : SizeFault) → IsTrue (is_of_expansion reason) → IsTooLarge set text reason → IsCause (IsFaultOfExpansion set text) (fault.TooLarge reason)
+  over_cause text size.Copies b is = is
+  over_cause text size.Sites b is = is
+  over_cause text size.Steps b is = absurd (false≢true b)
+  over_cause text size.News b is = absurd (false≢true b)
+  over_cause text size.Memory b is = absurd (false≢true b)
+
+  pub ends_copies_by : (text : List ℕ) → Came text → (reason : SizeFault) → IsTrue (is_of_expansion reason) → IsTooLarge set text reason → EndsLarge reason r f.read_faults_old f.read_faults_new
+  ends_copies_by text came reason b is = ends_cause text (λ x. EndsLarge reason x f.read_faults_old f.read_faults_new) tt (λ rose. rose) (fault.TooLarge reason) (over_cause text reason b is) (as_over reason) is.typed.short came
 
   pub ends_long_by : (text : List ℕ) → Came text → most_bytes < length text → EndsLong r f.read_faults_old f.read_faults_new
   ends_long_by text (came_failed e rose) over = subst (λ x. EndsLong x f.read_faults_old f.read_faults_new) (sym e) rose

@@ -182,7 +182,7 @@ RunEnds c = (set : Set) (job : Job) → IsJob c.words set job → OfText c (λ t
 
 -- No function is run, for this reason; for a line `prune` the expansion of the text has a site.
 abbrev pub TellsNotRun : Call → Type 0
-TellsNotRun c = (told : ExecFault) → c.ending ≡ NotRun told → ForJob c.words (λ set job. OfText c (λ text. IsStopped set job text (reason.NotRun told))) ⊎ ForPrune c.words (λ set. (told ≡ exec.Unfilled) × OfText c (IsOpenText set))
+TellsNotRun c = (told : ExecFault) → c.ending ≡ NotRun told → ForJob c.words (λ set job. OfText c (λ text. IsStopped set job text (reason.NotRun told))) ⊎ ForPrune c.words (λ set. OfText c (λ text. (told ≡ exec.Unfilled) × IsOpenText set text))
 
 -- The numbers of a line `trace` do not fill the sketch, for this reason.
 abbrev pub TellsNotFilled : Call → Type 0
