@@ -35,6 +35,7 @@ def kit():
         return sums[crate.folder]
 
     module.Crate.stamp = stamp_once
+    module.Crate.cuts_libraries = True
     # (its first call sets a signal's handler, which only the main thread may)
     module.guarded()
     return module
@@ -45,6 +46,16 @@ def lowest_first(crates):
     for crate in crates:
         found += [it for it in [*crate.below(), crate] if it not in found]
     return [it for it in found if it.makes_rlib()]
+
+
+def cut(crate):
+    """Proves a crate, and leaves its statements alone, as the gate does: what stands above loads no proofs."""
+    stamp, kept = crate.stamp(), f"{crate.folder}/out/rlib/stamp"
+    status = crate.build_rlib(["--jobs", "1"], anew=True)
+    if status == 0:
+        with open(kept, "w", encoding="utf-8") as it:
+            it.write(stamp)
+    return status
 
 
 def build(rtlib, root, jobs, names):
@@ -59,7 +70,7 @@ def build(rtlib, root, jobs, names):
         os.makedirs(f"{crate.folder}/out", exist_ok=True)
         with open(f"{crate.folder}/out/build.log", "w") as crate.out:
             try:
-                status = crate.build_rlib(["--jobs", "1"], anew=False)
+                status = cut(crate)
             except SystemExit:
                 status = 2
         how = f"{time.time() - began:.0f} s" if status == 0 else f"FAILED, see {crate.folder}/out/build.log"
