@@ -10,6 +10,7 @@ import re
 import sys
 
 import lowering
+import pruning
 import sketch
 
 DATA = pathlib.Path(__file__).resolve().parents[2] / "crates/rows_commands/data"
@@ -205,12 +206,14 @@ def lowered(text, options):
 def computed(line, text):
     """Message or status, and output; nothing where the reference is not asked."""
     words = line.split()
-    if not words or words[0] not in ("synth", "exec", "lower") or any(w.split("=")[0] in ("--rounds", "--conflicts", "--cert") for w in words):
+    if not words or words[0] not in ("synth", "exec", "lower", "prune") or any(w.split("=")[0] in ("--rounds", "--conflicts", "--cert") for w in words):
         return None
     options, others = bounds(words[1:])
     try:
         if words[0] == "lower":
             return lowered(text, options)
+        if words[0] == "prune":
+            return pruning.answer(text, **options)
         prog, b = sketch.load(text, **options)
         if words[0] == "exec":
             return executed(prog, b, others)

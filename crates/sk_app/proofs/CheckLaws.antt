@@ -143,6 +143,7 @@ module _ (set : Set) (r : Ending) (f : Effect) where
   told_is_of_check input ending.TooLong h = refl
   told_is_of_check input ending.Memory h = refl
   told_is_of_check input ending.Lowered h = absurd h
+  told_is_of_check input ending.Pruned h = absurd h
   told_is_of_check input ending.Listed h = absurd h
   told_is_of_check input ending.Explained h = absurd h
   told_is_of_check input ending.Met h = absurd h

@@ -62,17 +62,20 @@ use Rattle.sk_app.specs.ResultText.{IsCompletion, IsNone}
 use Rattle.sk_app.specs.Spent.{AreLearnt, IsSpentRounds, IsSpentConflicts}
 use Rattle.sk_app.specs.Results.{IsResult}
 use Rattle.sk_app.specs.Help.{help_text, version_text}
-use Rattle.sk_app.specs.Lines.{IsNoLine, IsSearch, ForSearch, IsSynth, line_by, line_of, IsJob, ForJob, ForTrace, ForLower, ForAll, ForWhy, line_asking, TakesText, takes_synth, takes_job, takes_all, takes_why, SizesText, sizes_synth, sizes_all, sizes_why, ForText, ReadsText, ForCheck, ReadsSource, ForSelf}
+use Rattle.sk_app.specs.Lines.{IsNoLine, IsSearch, ForSearch, IsSynth, line_by, line_of, IsJob, ForJob, ForTrace, ForLower, ForPrune, ForAll, ForWhy, line_asking, TakesText, takes_synth, takes_job, takes_prune, takes_all, takes_why, SizesText, sizes_synth, sizes_all, sizes_why, ForText, ReadsText, ForCheck, ReadsSource, ForSelf}
 use Rattle.sk_app.specs.Ends.{delivered, cut, no_room, Writes, WritesPart, writes_nothing, IsToldOf}
-use Rattle.sk_app.proofs.Endings.{EndsBuilt, EndsFaulty, EndsUntyped, EndsLarge, EndsLong, EndsRun, EndsStopped, EndsLowered, EndsNotLowered, EndsNotTagged, EndsRefused, EndsListed, EndsExplained, EndsMet, EndsReply, EndsChecked, EndsAccepted, EndsRejected, EndsNotCertificate, EndsRefusedInput, EndsNoLine, EndsSelf, EndsHelp, EndsVersion}
+use Rattle.sk_app.proofs.Endings.{EndsBuilt, EndsFaulty, EndsUntyped, EndsLarge, EndsLong, EndsRun, EndsStopped, EndsLowered, EndsPruned, EndsOpen, EndsNotLowered, EndsNotTagged, EndsRefused, EndsListed, EndsExplained, EndsMet, EndsReply, EndsChecked, EndsAccepted, EndsRejected, EndsNotCertificate, EndsRefusedInput, EndsNoLine, EndsSelf, EndsHelp, EndsVersion}
 use Rattle.sk_app.specs.Call.{Effect}
-use Rattle.sk_app.specs.Effects.{IsRefused, IsShown, is_of_synth, Synthesises, is_of_expansion, IsRunResult, IsRunOutput, Executes, Lowers, Asks, Checks, Summarises, summarised, unsummarised, Serves, Answers, no_line, served, no_memory, IsOutput}
+use Rattle.sk_app.specs.Effects.{IsRefused, IsShown, is_of_synth, Synthesises, is_of_expansion, IsRunResult, IsRunOutput, Executes, Lowers, Prunes, Asks, Checks, Summarises, summarised, unsummarised, Serves, Answers, no_line, served, no_memory, IsOutput}
 use Rattle.sk_app.specs.Effects as output
 use Rattle.sk_app.proofs.StreamLemmas.{front-nil}
 use Rattle.sk_app.proofs.SourceLaws.{every, mapped, came_wanting}
 use Rattle.sk_app.proofs.ToldLaws as by
 use Rattle.sk_app.proofs.ExecLaws as by_exec
 use Rattle.sk_app.proofs.LowerLaws as by_lower
+use Rattle.sk_app.proofs.PruneLaws as by_prune
+use Rattle.sk_exec.specs.declared.fault.ExecFault.TheVariants as exec
+use Rattle.sk_prune_text.specs.PrunedTexts.{IsOpenText, IsPrunedText}
 use Rattle.sk_app.proofs.QuestionLaws as by_asking
 use Rattle.sk_app.proofs.CheckLaws as by_check
 
@@ -88,7 +91,6 @@ abbrev is_exec_alone : Ending → Bool
 is_exec_alone ending.ExecDone = true
 is_exec_alone (ending.ExecFailed span) = true
 is_exec_alone (ending.ExecSkipped span) = true
-is_exec_alone (ending.NotRun reason) = true
 is_exec_alone (ending.NotFilled reason) = true
 is_exec_alone _ = false
 
@@ -132,6 +134,7 @@ module _ (words : List (List ℕ)) (r : Ending) (f : Effect) where
     of_synth : (set : Set) (budget : Budget) (cert : Bool) → IsSearch words set budget cert → Synthesises set budget cert r f → Kind
     of_exec : (set : Set) (job : Job) → IsJob words set job → Executes set job r f → Kind
     of_lower : (set : Set) → IsLine words (line.Lower set) → Lowers set r f → Kind
+    of_prune : (set : Set) → IsLine words (line.Prune set) → Prunes set r f → Kind
     of_question : (set : Set) (asked : Question) → IsLine words (line_asking set asked) → Asks set asked r f → Kind
     of_check : (set : Set) → IsLine words (line.Check set) → Checks set r f → Kind
     of_help : IsLine words line.Help → IsShown help_text ending.HelpShown r f → Kind
@@ -143,6 +146,7 @@ module _ (words : List (List ℕ)) (r : Ending) (f : Effect) where
   line_kind (line.Exec set name values) h s = of_exec set (record { name = name; values = values; way = way.Exec }) h s
   line_kind (line.Trace set name values holes) h s = of_exec set (record { name = name; values = values; way = way.Trace holes }) h s
   line_kind (line.Lower set) h s = of_lower set h s
+  line_kind (line.Prune set) h s = of_prune set h s
   line_kind (line.All set most) h s = of_question set (question.Which most) h s
   line_kind (line.Why set) h s = of_question set question.Why h s
   line_kind (line.Check set) h s = of_check set h s
@@ -231,6 +235,7 @@ module _ (words : List (List ℕ)) (r : Ending) (f : Effect) where
   synth_alone_not_exec (ending.NotRun reason) a = absurd (false≢true a)
   synth_alone_not_exec (ending.NotFilled reason) a = absurd (false≢true a)
   synth_alone_not_exec ending.Lowered a = absurd (false≢true a)
+  synth_alone_not_exec ending.Pruned a = absurd (false≢true a)
   synth_alone_not_exec ending.Listed a = absurd (false≢true a)
   synth_alone_not_exec ending.Explained a = absurd (false≢true a)
   synth_alone_not_exec ending.Met a = absurd (false≢true a)
@@ -255,6 +260,7 @@ module _ (words : List (List ℕ)) (r : Ending) (f : Effect) where
   synth_alone_not_lower (ending.ExecFailed span) a = absurd (false≢true a)
   synth_alone_not_lower (ending.ExecSkipped span) a = absurd (false≢true a)
   synth_alone_not_lower ending.Lowered a = absurd (false≢true a)
+  synth_alone_not_lower ending.Pruned a = absurd (false≢true a)
   synth_alone_not_lower ending.Listed a = absurd (false≢true a)
   synth_alone_not_lower ending.Explained a = absurd (false≢true a)
   synth_alone_not_lower ending.Met a = absurd (false≢true a)
@@ -275,7 +281,7 @@ module _ (words : List (List ℕ)) (r : Ending) (f : Effect) where
   exec_alone_not_lower ending.ExecDone a = refl
   exec_alone_not_lower (ending.ExecFailed span) a = refl
   exec_alone_not_lower (ending.ExecSkipped span) a = refl
-  exec_alone_not_lower (ending.NotRun reason) a = refl
+  exec_alone_not_lower (ending.NotRun reason) a = absurd (false≢true a)
   exec_alone_not_lower (ending.NotFilled reason) a = refl
   exec_alone_not_lower ending.Completed a = absurd (false≢true a)
   exec_alone_not_lower ending.NoCompletion a = absurd (false≢true a)
@@ -287,6 +293,7 @@ module _ (words : List (List ℕ)) (r : Ending) (f : Effect) where
   exec_alone_not_lower (ending.NotCertificate why) a = absurd (false≢true a)
   exec_alone_not_lower ending.VersionShown a = absurd (false≢true a)
   exec_alone_not_lower ending.Lowered a = absurd (false≢true a)
+  exec_alone_not_lower ending.Pruned a = absurd (false≢true a)
   exec_alone_not_lower ending.Listed a = absurd (false≢true a)
   exec_alone_not_lower ending.Explained a = absurd (false≢true a)
   exec_alone_not_lower ending.Met a = absurd (false≢true a)
@@ -301,6 +308,130 @@ module _ (words : List (List ℕ)) (r : Ending) (f : Effect) where
   exec_alone_not_lower ending.TooLong a = absurd (false≢true a)
   exec_alone_not_lower ending.Memory a = absurd (false≢true a)
 
+  synth_alone_not_prune : (x : Ending) → is_synth_alone x ≡ true → by_prune.is_of_prune x ≡ false
+  synth_alone_not_prune ending.Completed a = refl
+  synth_alone_not_prune ending.NoCompletion a = refl
+  synth_alone_not_prune (ending.SpentRounds pairs best) a = refl
+  synth_alone_not_prune (ending.SpentConflicts pairs q g log best) a = refl
+  synth_alone_not_prune ending.HelpShown a = absurd (false≢true a)
+  synth_alone_not_prune ending.VersionShown a = absurd (false≢true a)
+  synth_alone_not_prune ending.NotALine a = absurd (false≢true a)
+  synth_alone_not_prune ending.ExecDone a = absurd (false≢true a)
+  synth_alone_not_prune (ending.ExecFailed span) a = absurd (false≢true a)
+  synth_alone_not_prune (ending.ExecSkipped span) a = absurd (false≢true a)
+  synth_alone_not_prune (ending.NotText fault) a = absurd (false≢true a)
+  synth_alone_not_prune (ending.NotTyped fault) a = absurd (false≢true a)
+  synth_alone_not_prune (ending.TooLarge reason) a = absurd (false≢true a)
+  synth_alone_not_prune (ending.NotRun reason) a = absurd (false≢true a)
+  synth_alone_not_prune (ending.NotFilled reason) a = absurd (false≢true a)
+  synth_alone_not_prune ending.Lowered a = absurd (false≢true a)
+  synth_alone_not_prune ending.Pruned a = absurd (false≢true a)
+  synth_alone_not_prune ending.Listed a = absurd (false≢true a)
+  synth_alone_not_prune ending.Explained a = absurd (false≢true a)
+  synth_alone_not_prune ending.Met a = absurd (false≢true a)
+  synth_alone_not_prune (ending.NotLowered reason) a = absurd (false≢true a)
+  synth_alone_not_prune (ending.NotTagged span) a = absurd (false≢true a)
+  synth_alone_not_prune ending.Accepted a = absurd (false≢true a)
+  synth_alone_not_prune (ending.Rejected why) a = absurd (false≢true a)
+  synth_alone_not_prune (ending.NotCertificate why) a = absurd (false≢true a)
+  synth_alone_not_prune ending.ReadFault a = absurd (false≢true a)
+  synth_alone_not_prune ending.WriteFault a = absurd (false≢true a)
+  synth_alone_not_prune ending.TooLong a = absurd (false≢true a)
+  synth_alone_not_prune ending.Memory a = absurd (false≢true a)
+
+  exec_alone_not_prune : (x : Ending) → is_exec_alone x ≡ true → by_prune.is_of_prune x ≡ false
+  exec_alone_not_prune ending.Completed a = absurd (false≢true a)
+  exec_alone_not_prune ending.NoCompletion a = absurd (false≢true a)
+  exec_alone_not_prune (ending.SpentRounds pairs best) a = absurd (false≢true a)
+  exec_alone_not_prune (ending.SpentConflicts pairs q g log best) a = absurd (false≢true a)
+  exec_alone_not_prune ending.HelpShown a = absurd (false≢true a)
+  exec_alone_not_prune ending.VersionShown a = absurd (false≢true a)
+  exec_alone_not_prune ending.NotALine a = absurd (false≢true a)
+  exec_alone_not_prune ending.ExecDone a = refl
+  exec_alone_not_prune (ending.ExecFailed span) a = refl
+  exec_alone_not_prune (ending.ExecSkipped span) a = refl
+  exec_alone_not_prune (ending.NotText fault) a = absurd (false≢true a)
+  exec_alone_not_prune (ending.NotTyped fault) a = absurd (false≢true a)
+  exec_alone_not_prune (ending.TooLarge reason) a = absurd (false≢true a)
+  exec_alone_not_prune (ending.NotRun reason) a = absurd (false≢true a)
+  exec_alone_not_prune (ending.NotFilled reason) a = refl
+  exec_alone_not_prune ending.Lowered a = absurd (false≢true a)
+  exec_alone_not_prune ending.Pruned a = absurd (false≢true a)
+  exec_alone_not_prune ending.Listed a = absurd (false≢true a)
+  exec_alone_not_prune ending.Explained a = absurd (false≢true a)
+  exec_alone_not_prune ending.Met a = absurd (false≢true a)
+  exec_alone_not_prune (ending.NotLowered reason) a = absurd (false≢true a)
+  exec_alone_not_prune (ending.NotTagged span) a = absurd (false≢true a)
+  exec_alone_not_prune ending.Accepted a = absurd (false≢true a)
+  exec_alone_not_prune (ending.Rejected why) a = absurd (false≢true a)
+  exec_alone_not_prune (ending.NotCertificate why) a = absurd (false≢true a)
+  exec_alone_not_prune ending.ReadFault a = absurd (false≢true a)
+  exec_alone_not_prune ending.WriteFault a = absurd (false≢true a)
+  exec_alone_not_prune ending.TooLong a = absurd (false≢true a)
+  exec_alone_not_prune ending.Memory a = absurd (false≢true a)
+
+  lower_alone_not_prune : (x : Ending) → is_lower_alone x ≡ true → by_prune.is_of_prune x ≡ false
+  lower_alone_not_prune ending.Completed a = absurd (false≢true a)
+  lower_alone_not_prune ending.NoCompletion a = absurd (false≢true a)
+  lower_alone_not_prune (ending.SpentRounds pairs best) a = absurd (false≢true a)
+  lower_alone_not_prune (ending.SpentConflicts pairs q g log best) a = absurd (false≢true a)
+  lower_alone_not_prune ending.HelpShown a = absurd (false≢true a)
+  lower_alone_not_prune ending.VersionShown a = absurd (false≢true a)
+  lower_alone_not_prune ending.NotALine a = absurd (false≢true a)
+  lower_alone_not_prune ending.ExecDone a = absurd (false≢true a)
+  lower_alone_not_prune (ending.ExecFailed span) a = absurd (false≢true a)
+  lower_alone_not_prune (ending.ExecSkipped span) a = absurd (false≢true a)
+  lower_alone_not_prune (ending.NotText fault) a = absurd (false≢true a)
+  lower_alone_not_prune (ending.NotTyped fault) a = absurd (false≢true a)
+  lower_alone_not_prune (ending.TooLarge reason) a = absurd (false≢true a)
+  lower_alone_not_prune (ending.NotRun reason) a = absurd (false≢true a)
+  lower_alone_not_prune (ending.NotFilled reason) a = absurd (false≢true a)
+  lower_alone_not_prune ending.Lowered a = refl
+  lower_alone_not_prune ending.Pruned a = absurd (false≢true a)
+  lower_alone_not_prune ending.Listed a = absurd (false≢true a)
+  lower_alone_not_prune ending.Explained a = absurd (false≢true a)
+  lower_alone_not_prune ending.Met a = absurd (false≢true a)
+  lower_alone_not_prune (ending.NotLowered reason) a = refl
+  lower_alone_not_prune (ending.NotTagged span) a = refl
+  lower_alone_not_prune ending.Accepted a = absurd (false≢true a)
+  lower_alone_not_prune (ending.Rejected why) a = absurd (false≢true a)
+  lower_alone_not_prune (ending.NotCertificate why) a = absurd (false≢true a)
+  lower_alone_not_prune ending.ReadFault a = absurd (false≢true a)
+  lower_alone_not_prune ending.WriteFault a = absurd (false≢true a)
+  lower_alone_not_prune ending.TooLong a = absurd (false≢true a)
+  lower_alone_not_prune ending.Memory a = absurd (false≢true a)
+
+  reply_not_prune : (x : Ending) → by_asking.is_reply x ≡ true → by_prune.is_of_prune x ≡ false
+  reply_not_prune ending.Completed a = absurd (false≢true a)
+  reply_not_prune ending.NoCompletion a = absurd (false≢true a)
+  reply_not_prune (ending.SpentRounds pairs best) a = absurd (false≢true a)
+  reply_not_prune (ending.SpentConflicts pairs q g log best) a = absurd (false≢true a)
+  reply_not_prune ending.HelpShown a = absurd (false≢true a)
+  reply_not_prune ending.VersionShown a = absurd (false≢true a)
+  reply_not_prune ending.NotALine a = absurd (false≢true a)
+  reply_not_prune ending.ExecDone a = absurd (false≢true a)
+  reply_not_prune (ending.ExecFailed span) a = absurd (false≢true a)
+  reply_not_prune (ending.ExecSkipped span) a = absurd (false≢true a)
+  reply_not_prune (ending.NotText fault) a = absurd (false≢true a)
+  reply_not_prune (ending.NotTyped fault) a = absurd (false≢true a)
+  reply_not_prune (ending.TooLarge reason) a = absurd (false≢true a)
+  reply_not_prune (ending.NotRun reason) a = absurd (false≢true a)
+  reply_not_prune (ending.NotFilled reason) a = absurd (false≢true a)
+  reply_not_prune ending.Lowered a = absurd (false≢true a)
+  reply_not_prune ending.Pruned a = absurd (false≢true a)
+  reply_not_prune ending.Listed a = refl
+  reply_not_prune ending.Explained a = refl
+  reply_not_prune ending.Met a = refl
+  reply_not_prune (ending.NotLowered reason) a = absurd (false≢true a)
+  reply_not_prune (ending.NotTagged span) a = absurd (false≢true a)
+  reply_not_prune ending.Accepted a = absurd (false≢true a)
+  reply_not_prune (ending.Rejected why) a = absurd (false≢true a)
+  reply_not_prune (ending.NotCertificate why) a = absurd (false≢true a)
+  reply_not_prune ending.ReadFault a = absurd (false≢true a)
+  reply_not_prune ending.WriteFault a = absurd (false≢true a)
+  reply_not_prune ending.TooLong a = absurd (false≢true a)
+  reply_not_prune ending.Memory a = absurd (false≢true a)
+
   -- the endings of a line `synth` alone come for no other line
   synth_of : (x : Ending) → is_synth_alone x ≡ true → by_asking.is_of_question x ≡ false → by_check.is_of_check x ≡ false → (ending.Completed ≡ x → ⊥) → Kind → r ≡ x → ForSearch words (λ set budget cert. Synthesises set budget cert r f)
   synth_of x a d o y (of_none n s) e = absurd (alone_not ending.NotALine x a refl (sym s.is ∙ e))
@@ -308,6 +439,7 @@ module _ (words : List (List ℕ)) (r : Ending) (f : Effect) where
   synth_of x a d o y (of_synth set budget cert h s) e = record { set = set; budget = budget; cert = cert; is = h; holds = s }
   synth_of x a d o y (of_exec set job h s) e = by_exec.exec_not set job r f x (synth_alone_not_exec x a) s.runs e
   synth_of x a d o y (of_lower set h s) e = by_lower.lower_not set r f x (synth_alone_not_lower x a) s.lowers e
+  synth_of x a d o y (of_prune set h s) e = by_prune.prune_not set r f x (synth_alone_not_prune x a) s.prunes e
   synth_of x a d o y (of_question set asked h s) e = by_asking.question_not set asked r f x d s.asks e
   synth_of x a d o y (of_check set h s) e = by_check.check_not set r f x o s.checks e
   synth_of x a d o y (of_help h s) e = absurd (shown_not help_text ending.HelpShown s x (alone_not ending.HelpShown x a refl) (alone_not ending.WriteFault x a refl) (alone_not ending.Memory x a refl) e)
@@ -321,6 +453,7 @@ module _ (words : List (List ℕ)) (r : Ending) (f : Effect) where
   exec_of x a b d o (of_synth set budget cert h s) e = absurd (false≢true (sym b ∙ ap is_of_synth (sym e) ∙ s.ends))
   exec_of x a b d o (of_exec set job h s) e = record { set = set; job = job; is = h; holds = s }
   exec_of x a b d o (of_lower set h s) e = by_lower.lower_not set r f x (exec_alone_not_lower x a) s.lowers e
+  exec_of x a b d o (of_prune set h s) e = by_prune.prune_not set r f x (exec_alone_not_prune x a) s.prunes e
   exec_of x a b d o (of_question set asked h s) e = by_asking.question_not set asked r f x d s.asks e
   exec_of x a b d o (of_check set h s) e = by_check.check_not set r f x o s.checks e
   exec_of x a b d o (of_help h s) e = absurd (shown_not help_text ending.HelpShown s x (exec_alone_not ending.HelpShown x a refl) (exec_alone_not ending.WriteFault x a refl) (exec_alone_not ending.Memory x a refl) e)
@@ -334,11 +467,40 @@ module _ (words : List (List ℕ)) (r : Ending) (f : Effect) where
   lower_of x a b c d o (of_synth set budget cert h s) e = absurd (false≢true (sym b ∙ ap is_of_synth (sym e) ∙ s.ends))
   lower_of x a b c d o (of_exec set job h s) e = by_exec.exec_not set job r f x c s.runs e
   lower_of x a b c d o (of_lower set h s) e = record { set = set; is = h; holds = s }
+  lower_of x a b c d o (of_prune set h s) e = by_prune.prune_not set r f x (lower_alone_not_prune x a) s.prunes e
   lower_of x a b c d o (of_question set asked h s) e = by_asking.question_not set asked r f x d s.asks e
   lower_of x a b c d o (of_check set h s) e = by_check.check_not set r f x o s.checks e
   lower_of x a b c d o (of_help h s) e = absurd (shown_not help_text ending.HelpShown s x (lower_alone_not ending.HelpShown x a refl) (lower_alone_not ending.WriteFault x a refl) (lower_alone_not ending.Memory x a refl) e)
   lower_of x a b c d o (of_version h s) e = absurd (shown_not version_text ending.VersionShown s x (lower_alone_not ending.VersionShown x a refl) (lower_alone_not ending.WriteFault x a refl) (lower_alone_not ending.Memory x a refl) e)
   lower_of x a b c d o (of_memory s) e = absurd (lower_alone_not ending.Memory x a refl (sym s.is ∙ e))
+
+  -- those of a line `prune` alone
+  prune_of : Kind → r ≡ ending.Pruned → ForPrune words (λ set. Prunes set r f)
+  prune_of (of_none n s) e = let q = sym s.is ∙ e in cc
+  prune_of (of_self n h s) e = absurd (self_not n s ending.Pruned (λ q. cc) (λ q. cc) (λ q. cc) e)
+  prune_of (of_synth set budget cert h s) e = absurd (false≢true (ap is_of_synth (sym e) ∙ s.ends))
+  prune_of (of_exec set job h s) e = by_exec.exec_not set job r f ending.Pruned refl s.runs e
+  prune_of (of_lower set h s) e = by_lower.lower_not set r f ending.Pruned refl s.lowers e
+  prune_of (of_prune set h s) e = record { set = set; is = h; holds = s }
+  prune_of (of_question set asked h s) e = by_asking.question_not set asked r f ending.Pruned refl s.asks e
+  prune_of (of_check set h s) e = by_check.check_not set r f ending.Pruned refl s.checks e
+  prune_of (of_help h s) e = absurd (shown_not help_text ending.HelpShown s ending.Pruned (λ q. cc) (λ q. cc) (λ q. cc) e)
+  prune_of (of_version h s) e = absurd (shown_not version_text ending.VersionShown s ending.Pruned (λ q. cc) (λ q. cc) (λ q. cc) e)
+  prune_of (of_memory s) e = let q = sym s.is ∙ e in cc
+
+  -- where no function is run, the line runs one, or is `prune`
+  stopped_of : (told : ExecFault) → Kind → r ≡ ending.NotRun told → ForJob words (λ set job. Executes set job r f) ⊎ ForPrune words (λ set. Prunes set r f)
+  stopped_of told (of_none n s) e = let q = sym s.is ∙ e in cc
+  stopped_of told (of_self n h s) e = absurd (self_not n s (ending.NotRun told) (λ q. cc) (λ q. cc) (λ q. cc) e)
+  stopped_of told (of_synth set budget cert h s) e = absurd (false≢true (ap is_of_synth (sym e) ∙ s.ends))
+  stopped_of told (of_exec set job h s) e = inl (record { set = set; job = job; is = h; holds = s })
+  stopped_of told (of_lower set h s) e = by_lower.lower_not set r f (ending.NotRun told) refl s.lowers e
+  stopped_of told (of_prune set h s) e = inr (record { set = set; is = h; holds = s })
+  stopped_of told (of_question set asked h s) e = by_asking.question_not set asked r f (ending.NotRun told) refl s.asks e
+  stopped_of told (of_check set h s) e = by_check.check_not set r f (ending.NotRun told) refl s.checks e
+  stopped_of told (of_help h s) e = absurd (shown_not help_text ending.HelpShown s (ending.NotRun told) (λ q. cc) (λ q. cc) (λ q. cc) e)
+  stopped_of told (of_version h s) e = absurd (shown_not version_text ending.VersionShown s (ending.NotRun told) (λ q. cc) (λ q. cc) (λ q. cc) e)
+  stopped_of told (of_memory s) e = let q = sym s.is ∙ e in cc
 
   takes_asking : (set : Set) (asked : Question) → IsLine words (line_asking set asked) → TakesText words set
   takes_asking set (question.Which most) h = takes_all most h
@@ -351,6 +513,7 @@ module _ (words : List (List ℕ)) (r : Ending) (f : Effect) where
   asking_of x a b c d o (of_synth set budget cert h s) e = absurd (false≢true (sym b ∙ ap is_of_synth (sym e) ∙ s.ends))
   asking_of x a b c d o (of_exec set job h s) e = by_exec.exec_not set job r f x c s.runs e
   asking_of x a b c d o (of_lower set h s) e = by_lower.lower_not set r f x d s.lowers e
+  asking_of x a b c d o (of_prune set h s) e = by_prune.prune_not set r f x (reply_not_prune x a) s.prunes e
   asking_of x a b c d o (of_question set asked h s) e = record { set = set; asked = asked; is = h; holds = s }
   asking_of x a b c d o (of_check set h s) e = by_check.check_not set r f x o s.checks e
   asking_of x a b c d o (of_help h s) e = absurd (shown_not help_text ending.HelpShown s x (reply_not ending.HelpShown x a refl) (reply_not ending.WriteFault x a refl) (reply_not ending.Memory x a refl) e)
@@ -358,17 +521,18 @@ module _ (words : List (List ℕ)) (r : Ending) (f : Effect) where
   asking_of x a b c d o (of_memory s) e = absurd (reply_not ending.Memory x a refl (sym s.is ∙ e))
 
   -- what follows for a line that takes a text as it is, and for a line `lower`, from an ending of lines that read their source alone
-  text_of : (x : Ending) → is_of_text x ≡ true → (P Q C : Set → Type 0) → ((set : Set) (budget : Budget) (cert : Bool) → Synthesises set budget cert r f → P set) → ((set : Set) (job : Job) → Executes set job r f → P set) → ((set : Set) → Lowers set r f → Q set) → ((set : Set) (asked : Question) → Asks set asked r f → P set) → ((set : Set) → Checks set r f → C set) → Kind → r ≡ x → ForText words P ⊎ ForLower words Q ⊎ ForCheck words C
-  text_of x a P Q C k l m v w (of_none n s) e = absurd (text_not ending.NotALine x a refl (sym s.is ∙ e))
-  text_of x a P Q C k l m v w (of_self n h s) e = absurd (self_not n s x (text_not ending.Completed x a refl) (text_not ending.WriteFault x a refl) (text_not ending.Memory x a refl) e)
-  text_of x a P Q C k l m v w (of_synth set budget cert h s) e = inl (record { set = set; takes = takes_synth (record { budget = budget; cert = cert; is = h }); holds = k set budget cert s })
-  text_of x a P Q C k l m v w (of_exec set job h s) e = inl (record { set = set; takes = takes_job job h; holds = l set job s })
-  text_of x a P Q C k l m v w (of_lower set h s) e = inr (inl (record { set = set; is = h; holds = m set s }))
-  text_of x a P Q C k l m v w (of_check set h s) e = inr (inr (record { set = set; is = h; holds = w set s }))
-  text_of x a P Q C k l m v w (of_question set asked h s) e = inl (record { set = set; takes = takes_asking set asked h; holds = v set asked s })
-  text_of x a P Q C k l m v w (of_help h s) e = absurd (shown_not help_text ending.HelpShown s x (text_not ending.HelpShown x a refl) (text_not ending.WriteFault x a refl) (text_not ending.Memory x a refl) e)
-  text_of x a P Q C k l m v w (of_version h s) e = absurd (shown_not version_text ending.VersionShown s x (text_not ending.VersionShown x a refl) (text_not ending.WriteFault x a refl) (text_not ending.Memory x a refl) e)
-  text_of x a P Q C k l m v w (of_memory s) e = absurd (text_not ending.Memory x a refl (sym s.is ∙ e))
+  text_of : (x : Ending) → is_of_text x ≡ true → (P Q C : Set → Type 0) → ((set : Set) (budget : Budget) (cert : Bool) → Synthesises set budget cert r f → P set) → ((set : Set) (job : Job) → Executes set job r f → P set) → ((set : Set) → Lowers set r f → Q set) → ((set : Set) (asked : Question) → Asks set asked r f → P set) → ((set : Set) → Checks set r f → C set) → ((set : Set) → Prunes set r f → P set) → Kind → r ≡ x → ForText words P ⊎ ForLower words Q ⊎ ForCheck words C
+  text_of x a P Q C k l m v w p (of_none n s) e = absurd (text_not ending.NotALine x a refl (sym s.is ∙ e))
+  text_of x a P Q C k l m v w p (of_self n h s) e = absurd (self_not n s x (text_not ending.Completed x a refl) (text_not ending.WriteFault x a refl) (text_not ending.Memory x a refl) e)
+  text_of x a P Q C k l m v w p (of_synth set budget cert h s) e = inl (record { set = set; takes = takes_synth (record { budget = budget; cert = cert; is = h }); holds = k set budget cert s })
+  text_of x a P Q C k l m v w p (of_exec set job h s) e = inl (record { set = set; takes = takes_job job h; holds = l set job s })
+  text_of x a P Q C k l m v w p (of_lower set h s) e = inr (inl (record { set = set; is = h; holds = m set s }))
+  text_of x a P Q C k l m v w p (of_prune set h s) e = inl (record { set = set; takes = takes_prune h; holds = p set s })
+  text_of x a P Q C k l m v w p (of_check set h s) e = inr (inr (record { set = set; is = h; holds = w set s }))
+  text_of x a P Q C k l m v w p (of_question set asked h s) e = inl (record { set = set; takes = takes_asking set asked h; holds = v set asked s })
+  text_of x a P Q C k l m v w p (of_help h s) e = absurd (shown_not help_text ending.HelpShown s x (text_not ending.HelpShown x a refl) (text_not ending.WriteFault x a refl) (text_not ending.Memory x a refl) e)
+  text_of x a P Q C k l m v w p (of_version h s) e = absurd (shown_not version_text ending.VersionShown s x (text_not ending.VersionShown x a refl) (text_not ending.WriteFault x a refl) (text_not ending.Memory x a refl) e)
+  text_of x a P Q C k l m v w p (of_memory s) e = absurd (text_not ending.Memory x a refl (sym s.is ∙ e))
 
   -- what follows for each
   for_each : {P : Type 0} → ForText words (λ set. P) ⊎ ForLower words (λ set. P) ⊎ ForCheck words (λ set. P) → P
@@ -392,6 +556,7 @@ module _ (words : List (List ℕ)) (r : Ending) (f : Effect) where
   not_a_line_of (of_synth set budget cert h s) e = absurd (synth_not set budget cert ending.NotALine s refl e)
   not_a_line_of (of_exec set job h s) e = by_exec.exec_not set job r f ending.NotALine refl s.runs e
   not_a_line_of (of_lower set h s) e = by_lower.lower_not set r f ending.NotALine refl s.lowers e
+  not_a_line_of (of_prune set h s) e = by_prune.prune_not set r f ending.NotALine refl s.prunes e
   not_a_line_of (of_question set asked h s) e = by_asking.question_not set asked r f ending.NotALine refl s.asks e
   not_a_line_of (of_check set h s) e = by_check.check_not set r f ending.NotALine refl s.checks e
   not_a_line_of (of_help h s) e = absurd (shown_not help_text ending.HelpShown s ending.NotALine (λ q. cc) (λ q. cc) (λ q. cc) e)
@@ -422,6 +587,7 @@ module _ (words : List (List ℕ)) (r : Ending) (f : Effect) where
   help_of (of_synth set budget cert h s) e = absurd (synth_not set budget cert ending.HelpShown s refl e)
   help_of (of_exec set job h s) e = by_exec.exec_not set job r f ending.HelpShown refl s.runs e
   help_of (of_lower set h s) e = by_lower.lower_not set r f ending.HelpShown refl s.lowers e
+  help_of (of_prune set h s) e = by_prune.prune_not set r f ending.HelpShown refl s.prunes e
   help_of (of_question set asked h s) e = by_asking.question_not set asked r f ending.HelpShown refl s.asks e
   help_of (of_check set h s) e = by_check.check_not set r f ending.HelpShown refl s.checks e
   help_of (of_help h s) e = (h, shown_whole help_text ending.HelpShown s (λ q. cc) (λ q. cc) e)
@@ -434,6 +600,7 @@ module _ (words : List (List ℕ)) (r : Ending) (f : Effect) where
   version_of (of_synth set budget cert h s) e = absurd (synth_not set budget cert ending.VersionShown s refl e)
   version_of (of_exec set job h s) e = by_exec.exec_not set job r f ending.VersionShown refl s.runs e
   version_of (of_lower set h s) e = by_lower.lower_not set r f ending.VersionShown refl s.lowers e
+  version_of (of_prune set h s) e = by_prune.prune_not set r f ending.VersionShown refl s.prunes e
   version_of (of_question set asked h s) e = by_asking.question_not set asked r f ending.VersionShown refl s.asks e
   version_of (of_check set h s) e = by_check.check_not set r f ending.VersionShown refl s.checks e
   version_of (of_help h s) e = absurd (shown_not help_text ending.HelpShown s ending.VersionShown (λ q. cc) (λ q. cc) (λ q. cc) e)
@@ -446,6 +613,7 @@ module _ (words : List (List ℕ)) (r : Ending) (f : Effect) where
   write_fault_of (of_synth set budget cert h s) e = s.write_fault e
   write_fault_of (of_exec set job h s) e = by_exec.write_fault_by set job r f s.runs e
   write_fault_of (of_lower set h s) e = by_lower.write_fault_by set r f s.lowers e
+  write_fault_of (of_prune set h s) e = by_prune.write_fault_by set r f s.prunes e
   write_fault_of (of_question set asked h s) e = by_asking.write_fault_by set asked r f s.asks e
   write_fault_of (of_check set h s) e = by_check.write_fault_by set r f s.checks e
   write_fault_of (of_help h s) e = shown_rose help_text ending.HelpShown s (λ q. cc) (λ q. cc) e
@@ -470,6 +638,7 @@ module _ (words : List (List ℕ)) (r : Ending) (f : Effect) where
   prefix_of (of_synth set budget cert h s) e = mapped f.left_old (λ text. WritesPart (IsResult set budget cert text) f.held_old f.held_new) Cut (λ text w. record { out = w.out; is = output.result (record { set = set; budget = budget; cert = cert; is = h; holds = w.is }); appends = w.appends }) (s.prefix e)
   prefix_of (of_exec set job h s) e = mapped f.left_old (λ text. WritesPart (IsRunOutput set job text) f.held_old f.held_new) Cut (λ text w. record { out = w.out; is = output.run (record { set = set; job = job; is = h; holds = w.is }); appends = w.appends }) (by_exec.told_by set job r f (λ text. WritesPart (IsRunOutput set job text) f.held_old f.held_new) (λ text w. by_exec.prefix_by set job r f e text w) s.runs)
   prefix_of (of_lower set h s) e = by_lower.told_as set r f ending.WriteFault Cut (λ text told. record { out = told.1.out; is = output.plain (record { set = set; is = h; holds = told.1.is }); appends = told.1.appends }) e s.lowers
+  prefix_of (of_prune set h s) e = by_prune.told_as set r f ending.WriteFault Cut (λ text told. record { out = told.1.out; is = output.left (record { set = set; is = h; holds = told.1.is }); appends = told.1.appends }) e s.prunes
   prefix_of (of_question set asked h s) e = by_asking.told_by set asked r f Cut (λ text came. let w = by_asking.prefix_by set asked r f text came e in record { out = w.out; is = output_of set asked text w.is.0 w.out h w.is.1; appends = w.appends }) s.asks
   prefix_of (of_check set h s) e = by_check.told_as set r f ending.WriteFault Cut (λ text told. record { out = told.1.out; is = output.verdict (record { set = set; is = h; holds = told.1.is }); appends = told.1.appends }) e s.checks
   prefix_of (of_help h s) e = every f.left_old Cut (λ text. record { out = help_text; is = output.help h refl; appends = shown_cut help_text ending.HelpShown s (λ q. cc) (λ q. cc) e })
@@ -482,6 +651,7 @@ module _ (words : List (List ℕ)) (r : Ending) (f : Effect) where
   kept_of (of_synth set budget cert h s) k = s.kept k
   kept_of (of_exec set job h s) k = by_exec.kept_by set job r f s.runs k
   kept_of (of_lower set h s) k = by_lower.kept_by set r f s.lowers k
+  kept_of (of_prune set h s) k = by_prune.kept_by set r f s.prunes k
   kept_of (of_question set asked h s) k = by_asking.kept_by set asked r f s.asks k
   kept_of (of_check set h s) k = by_check.kept_by set r f s.checks k
   kept_of (of_help h s) k = shown_kept help_text ending.HelpShown s refl k
@@ -503,6 +673,7 @@ module _ (words : List (List ℕ)) (r : Ending) (f : Effect) where
   few_of (of_synth set budget cert h s) = few_text s.few
   few_of (of_exec set job h s) = few_text s.few
   few_of (of_lower set h s) = few_text s.few
+  few_of (of_prune set h s) = few_text s.few
   few_of (of_question set asked h s) = few_text s.few
   few_of (of_check set h s) = (s.few, λ none. absurd (none set h))
   few_of (of_help h s) = few_none s.unread.left
@@ -515,6 +686,7 @@ module _ (words : List (List ℕ)) (r : Ending) (f : Effect) where
   unread_of (of_synth set budget cert h s) reads = absurd (reads set (inl (inl (takes_synth (record { budget = budget; cert = cert; is = h })))))
   unread_of (of_exec set job h s) reads = absurd (reads set (inl (inl (takes_job job h))))
   unread_of (of_lower set h s) reads = absurd (reads set (inl (inr h)))
+  unread_of (of_prune set h s) reads = absurd (reads set (inl (inl (takes_prune h))))
   unread_of (of_check set h s) reads = absurd (reads set (inr h))
   unread_of (of_question set asked h s) reads = absurd (reads set (inl (inl (takes_asking set asked h))))
   unread_of (of_help h s) reads = s.unread.left
@@ -532,6 +704,7 @@ module _ (words : List (List ℕ)) (r : Ending) (f : Effect) where
   ends_no_line_of (of_synth set budget cert h s) spells = absurd (spells (line.Synth set budget cert) h)
   ends_no_line_of (of_exec set job h s) spells = absurd (spells (line_of set job) h)
   ends_no_line_of (of_lower set h s) spells = absurd (spells (line.Lower set) h)
+  ends_no_line_of (of_prune set h s) spells = absurd (spells (line.Prune set) h)
   ends_no_line_of (of_question set asked h s) spells = absurd (spells (line_asking set asked) h)
   ends_no_line_of (of_check set h s) spells = absurd (spells (line.Check set) h)
   ends_no_line_of (of_help h s) spells = absurd (spells line.Help h)
@@ -548,6 +721,7 @@ module _ (words : List (List ℕ)) (r : Ending) (f : Effect) where
   ends_help_of (of_synth set budget cert g s) h = let q = one (line.Synth set budget cert) line.Help g h in cc
   ends_help_of (of_exec set job g s) h = not_of_job line.Help set job refl (one line.Help (line_of set job) h g)
   ends_help_of (of_lower set g s) h = let q = one (line.Lower set) line.Help g h in cc
+  ends_help_of (of_prune set g s) h = let q = one (line.Prune set) line.Help g h in cc
   ends_help_of (of_question set asked g s) h = not_asking line.Help set asked refl (one line.Help (line_asking set asked) h g)
   ends_help_of (of_check t g s) h = let q = one (line.Check t) line.Help g h in cc
   ends_help_of (of_help g s) h = shown_ends help_text ending.HelpShown (λ x. EndsHelp x f.write_faults_old f.write_faults_new) s refl (λ w. w) tt
@@ -560,6 +734,7 @@ module _ (words : List (List ℕ)) (r : Ending) (f : Effect) where
   ends_version_of (of_synth set budget cert g s) h = let q = one (line.Synth set budget cert) line.Version g h in cc
   ends_version_of (of_exec set job g s) h = not_of_job line.Version set job refl (one line.Version (line_of set job) h g)
   ends_version_of (of_lower set g s) h = let q = one (line.Lower set) line.Version g h in cc
+  ends_version_of (of_prune set g s) h = let q = one (line.Prune set) line.Version g h in cc
   ends_version_of (of_question set asked g s) h = not_asking line.Version set asked refl (one line.Version (line_asking set asked) h g)
   ends_version_of (of_check t g s) h = let q = one (line.Check t) line.Version g h in cc
   ends_version_of (of_help g s) h = let q = one line.Help line.Version g h in cc
@@ -572,6 +747,7 @@ module _ (words : List (List ℕ)) (r : Ending) (f : Effect) where
   prefix_help_of (of_synth set budget cert g s) h e = let q = one (line.Synth set budget cert) line.Help g h in cc
   prefix_help_of (of_exec set job g s) h e = not_of_job line.Help set job refl (one line.Help (line_of set job) h g)
   prefix_help_of (of_lower set g s) h e = let q = one (line.Lower set) line.Help g h in cc
+  prefix_help_of (of_prune set g s) h e = let q = one (line.Prune set) line.Help g h in cc
   prefix_help_of (of_question set asked g s) h e = not_asking line.Help set asked refl (one line.Help (line_asking set asked) h g)
   prefix_help_of (of_check t g s) h e = let q = one (line.Check t) line.Help g h in cc
   prefix_help_of (of_help g s) h e = shown_cut help_text ending.HelpShown s (λ q. cc) (λ q. cc) e
@@ -584,6 +760,7 @@ module _ (words : List (List ℕ)) (r : Ending) (f : Effect) where
   prefix_version_of (of_synth set budget cert g s) h e = let q = one (line.Synth set budget cert) line.Version g h in cc
   prefix_version_of (of_exec set job g s) h e = not_of_job line.Version set job refl (one line.Version (line_of set job) h g)
   prefix_version_of (of_lower set g s) h e = let q = one (line.Lower set) line.Version g h in cc
+  prefix_version_of (of_prune set g s) h e = let q = one (line.Prune set) line.Version g h in cc
   prefix_version_of (of_question set asked g s) h e = not_asking line.Version set asked refl (one line.Version (line_asking set asked) h g)
   prefix_version_of (of_check t g s) h e = let q = one (line.Check t) line.Version g h in cc
   prefix_version_of (of_help g s) h e = let q = one line.Help line.Version g h in cc
@@ -602,6 +779,7 @@ module _ (words : List (List ℕ)) (r : Ending) (f : Effect) where
       subst (λ x. P x budget cert) sets (subst (λ x. P t x cert) budgets (subst (P t other) certs (a t other its s)))
   for_synth P a m (of_exec other job g s) set budget cert h = not_of_job (line.Synth set budget cert) other job refl (one (line.Synth set budget cert) (line_of other job) h g)
   for_synth P a m (of_lower t g s) set budget cert h = let q = one (line.Lower t) (line.Synth set budget cert) g h in cc
+  for_synth P a m (of_prune t g s) set budget cert h = let q = one (line.Prune t) (line.Synth set budget cert) g h in cc
   for_synth P a m (of_question t asked g s) set budget cert h = not_asking (line.Synth set budget cert) t asked refl (one (line.Synth set budget cert) (line_asking t asked) h g)
   for_synth P a m (of_check t g s) set budget cert h = let q = one (line.Check t) (line.Synth set budget cert) g h in cc
   for_synth P a m (of_help g s) set budget cert h = let q = one line.Help (line.Synth set budget cert) g h in cc
@@ -617,6 +795,7 @@ module _ (words : List (List ℕ)) (r : Ending) (f : Effect) where
       let same = one_job t set other job (one (line_of t other) (line_of set job) g h) in
       subst (λ x. P x job) same.sets (subst (P t) same.jobs (a t other s))
   for_exec P a m (of_lower t g s) set job h = not_of_job (line.Lower t) set job refl (one (line.Lower t) (line_of set job) g h)
+  for_exec P a m (of_prune t g s) set job h = not_of_job (line.Prune t) set job refl (one (line.Prune t) (line_of set job) g h)
   for_exec P a m (of_question t asked g s) set job h = job_or_question set job t asked (one (line_of set job) (line_asking t asked) h g)
   for_exec P a m (of_check t g s) set job h = not_of_job (line.Check t) set job refl (one (line.Check t) (line_of set job) g h)
   for_exec P a m (of_help g s) set job h = not_of_job line.Help set job refl (one line.Help (line_of set job) g h)
@@ -634,10 +813,28 @@ module _ (words : List (List ℕ)) (r : Ending) (f : Effect) where
       let sets : t ≡ set = cc in
       subst P sets (a t s)
   for_lower P a m (of_check t g s) set h = let q = one (line.Check t) (line.Lower set) g h in cc
+  for_lower P a m (of_prune t g s) set h = let q = one (line.Prune t) (line.Lower set) g h in cc
   for_lower P a m (of_help g s) set h = let q = one line.Help (line.Lower set) g h in cc
   for_lower P a m (of_question t asked g s) set h = not_asking (line.Lower set) t asked refl (one (line.Lower set) (line_asking t asked) h g)
   for_lower P a m (of_version g s) set h = let q = one line.Version (line.Lower set) g h in cc
   for_lower P a m (of_memory s) set h = m set s.is
+
+  -- what follows for a line `prune` from its own call, or from want of memory
+  for_prune : (P : Set → Type 0) → ((set : Set) → Prunes set r f → P set) → ((set : Set) → r ≡ ending.Memory → P set) → Kind → (set : Set) → IsLine words (line.Prune set) → P set
+  for_prune P a m (of_none n s) set h = absurd (n (line.Prune set) h)
+  for_prune P a m (of_self n g s) set h = let q = one (line.Itself n) (line.Prune set) g h in cc
+  for_prune P a m (of_synth t budget cert g s) set h = let q = one (line.Synth t budget cert) (line.Prune set) g h in cc
+  for_prune P a m (of_exec t job g s) set h = not_of_job (line.Prune set) t job refl (one (line.Prune set) (line_of t job) h g)
+  for_prune P a m (of_prune t g s) set h =
+      let q = one (line.Prune t) (line.Prune set) g h in
+      let sets : t ≡ set = cc in
+      subst P sets (a t s)
+  for_prune P a m (of_check t g s) set h = let q = one (line.Check t) (line.Prune set) g h in cc
+  for_prune P a m (of_lower t g s) set h = let q = one (line.Lower t) (line.Prune set) g h in cc
+  for_prune P a m (of_help g s) set h = let q = one line.Help (line.Prune set) g h in cc
+  for_prune P a m (of_question t asked g s) set h = not_asking (line.Prune set) t asked refl (one (line.Prune set) (line_asking t asked) h g)
+  for_prune P a m (of_version g s) set h = let q = one line.Version (line.Prune set) g h in cc
+  for_prune P a m (of_memory s) set h = m set s.is
 
   -- what follows for a line `all` or `why` from its own call, or from want of memory
   for_asking : (P : Set → Question → Type 0) → ((set : Set) (asked : Question) → Asks set asked r f → P set asked) → ((set : Set) (asked : Question) → r ≡ ending.Memory → P set asked) → Kind → (set : Set) (asked : Question) → IsLine words (line_asking set asked) → P set asked
@@ -646,6 +843,7 @@ module _ (words : List (List ℕ)) (r : Ending) (f : Effect) where
   for_asking P a m (of_synth t budget cert g s) set asked h = not_asking (line.Synth t budget cert) set asked refl (one (line.Synth t budget cert) (line_asking set asked) g h)
   for_asking P a m (of_exec t job g s) set asked h = job_or_question t job set asked (one (line_of t job) (line_asking set asked) g h)
   for_asking P a m (of_lower t g s) set asked h = not_asking (line.Lower t) set asked refl (one (line.Lower t) (line_asking set asked) g h)
+  for_asking P a m (of_prune t g s) set asked h = not_asking (line.Prune t) set asked refl (one (line.Prune t) (line_asking set asked) g h)
   for_asking P a m (of_question t other g s) set asked h =
       let same = one_question t set other asked (one (line_asking t other) (line_asking set asked) g h) in
       subst (λ x. P x asked) same.0 (subst (P t) same.1 (a t other s))
@@ -661,6 +859,7 @@ module _ (words : List (List ℕ)) (r : Ending) (f : Effect) where
   for_check P a m (of_synth t budget cert g s) set h = let q = one (line.Synth t budget cert) (line.Check set) g h in cc
   for_check P a m (of_exec t job g s) set h = not_of_job (line.Check set) t job refl (one (line.Check set) (line_of t job) h g)
   for_check P a m (of_lower t g s) set h = let q = one (line.Lower t) (line.Check set) g h in cc
+  for_check P a m (of_prune t g s) set h = let q = one (line.Prune t) (line.Check set) g h in cc
   for_check P a m (of_question t asked g s) set h = not_asking (line.Check set) t asked refl (one (line.Check set) (line_asking t asked) h g)
   for_check P a m (of_check t g s) set h =
       let q = one (line.Check t) (line.Check set) g h in
@@ -680,6 +879,7 @@ module _ (words : List (List ℕ)) (r : Ending) (f : Effect) where
   for_self P a m (of_synth t budget cert g s) n h = let q = one (line.Synth t budget cert) (line.Itself n) g h in cc
   for_self P a m (of_exec t job g s) n h = not_of_job (line.Itself n) t job refl (one (line.Itself n) (line_of t job) h g)
   for_self P a m (of_lower t g s) n h = let q = one (line.Lower t) (line.Itself n) g h in cc
+  for_self P a m (of_prune t g s) n h = let q = one (line.Prune t) (line.Itself n) g h in cc
   for_self P a m (of_question t asked g s) n h = not_asking (line.Itself n) t asked refl (one (line.Itself n) (line_asking t asked) h g)
   for_self P a m (of_check t g s) n h = let q = one (line.Check t) (line.Itself n) g h in cc
   for_self P a m (of_help g s) n h = let q = one line.Help (line.Itself n) g h in cc
@@ -695,6 +895,7 @@ module _ (words : List (List ℕ)) (r : Ending) (f : Effect) where
   completed_of (of_synth set budget cert h s) e = inl (record { set = set; budget = budget; cert = cert; is = h; holds = s.completed e })
   completed_of (of_exec set job h s) e = by_exec.exec_not set job r f ending.Completed refl s.runs e
   completed_of (of_lower set h s) e = by_lower.lower_not set r f ending.Completed refl s.lowers e
+  completed_of (of_prune set h s) e = by_prune.prune_not set r f ending.Completed refl s.prunes e
   completed_of (of_question set asked h s) e = by_asking.question_not set asked r f ending.Completed refl s.asks e
   completed_of (of_check set h s) e = by_check.check_not set r f ending.Completed refl s.checks e
   completed_of (of_help h s) e = absurd (shown_not help_text ending.HelpShown s ending.Completed (λ q. cc) (λ q. cc) (λ q. cc) e)
@@ -710,6 +911,37 @@ module _ (words : List (List ℕ)) (r : Ending) (f : Effect) where
   check_alone_not : (y x : Ending) → is_check_alone x ≡ true → is_check_alone y ≡ false → y ≡ x → ⊥
   check_alone_not y x a b e = false≢true (sym b ∙ ap is_check_alone e ∙ a)
 
+  check_alone_not_prune : (x : Ending) → is_check_alone x ≡ true → by_prune.is_of_prune x ≡ false
+  check_alone_not_prune ending.Completed a = absurd (false≢true a)
+  check_alone_not_prune ending.NoCompletion a = absurd (false≢true a)
+  check_alone_not_prune (ending.SpentRounds pairs best) a = absurd (false≢true a)
+  check_alone_not_prune (ending.SpentConflicts pairs q g log best) a = absurd (false≢true a)
+  check_alone_not_prune ending.HelpShown a = absurd (false≢true a)
+  check_alone_not_prune ending.VersionShown a = absurd (false≢true a)
+  check_alone_not_prune ending.NotALine a = absurd (false≢true a)
+  check_alone_not_prune ending.ExecDone a = absurd (false≢true a)
+  check_alone_not_prune (ending.ExecFailed span) a = absurd (false≢true a)
+  check_alone_not_prune (ending.ExecSkipped span) a = absurd (false≢true a)
+  check_alone_not_prune (ending.NotText fault) a = absurd (false≢true a)
+  check_alone_not_prune (ending.NotTyped fault) a = absurd (false≢true a)
+  check_alone_not_prune (ending.TooLarge reason) a = absurd (false≢true a)
+  check_alone_not_prune (ending.NotRun reason) a = absurd (false≢true a)
+  check_alone_not_prune (ending.NotFilled reason) a = absurd (false≢true a)
+  check_alone_not_prune ending.Lowered a = absurd (false≢true a)
+  check_alone_not_prune ending.Pruned a = absurd (false≢true a)
+  check_alone_not_prune ending.Listed a = absurd (false≢true a)
+  check_alone_not_prune ending.Explained a = absurd (false≢true a)
+  check_alone_not_prune ending.Met a = absurd (false≢true a)
+  check_alone_not_prune (ending.NotLowered reason) a = absurd (false≢true a)
+  check_alone_not_prune (ending.NotTagged span) a = absurd (false≢true a)
+  check_alone_not_prune ending.Accepted a = refl
+  check_alone_not_prune (ending.Rejected why) a = refl
+  check_alone_not_prune (ending.NotCertificate why) a = refl
+  check_alone_not_prune ending.ReadFault a = absurd (false≢true a)
+  check_alone_not_prune ending.WriteFault a = absurd (false≢true a)
+  check_alone_not_prune ending.TooLong a = absurd (false≢true a)
+  check_alone_not_prune ending.Memory a = absurd (false≢true a)
+
   -- its endings come for no other line
   check_of : (x : Ending) → is_check_alone x ≡ true → is_of_synth x ≡ false → by_exec.is_of_exec x ≡ false → by_lower.is_of_lower x ≡ false → by_asking.is_of_question x ≡ false → Kind → r ≡ x → ForCheck words (λ set. Checks set r f)
   check_of x a b c d o (of_none n s) e = absurd (check_alone_not ending.NotALine x a refl (sym s.is ∙ e))
@@ -717,6 +949,7 @@ module _ (words : List (List ℕ)) (r : Ending) (f : Effect) where
   check_of x a b c d o (of_synth set budget cert h s) e = absurd (false≢true (sym b ∙ ap is_of_synth (sym e) ∙ s.ends))
   check_of x a b c d o (of_exec set job h s) e = by_exec.exec_not set job r f x c s.runs e
   check_of x a b c d o (of_lower set h s) e = by_lower.lower_not set r f x d s.lowers e
+  check_of x a b c d o (of_prune set h s) e = by_prune.prune_not set r f x (check_alone_not_prune x a) s.prunes e
   check_of x a b c d o (of_question set asked h s) e = by_asking.question_not set asked r f x o s.asks e
   check_of x a b c d o (of_check set h s) e = record { set = set; is = h; holds = s }
   check_of x a b c d o (of_help h s) e = absurd (shown_not help_text ending.HelpShown s x (check_alone_not ending.HelpShown x a refl) (check_alone_not ending.WriteFault x a refl) (check_alone_not ending.Memory x a refl) e)
@@ -771,10 +1004,17 @@ module _ {words : List (List ℕ)} {r : Ending} {f : Effect} (a : Answers words 
   pub exec_skipped : (span : Span) → r ≡ ending.ExecSkipped span → ForJob words (λ set job. IfSome f.left_old (λ text. Writes (IsRunResult set job (ending.ExecSkipped span) text) f.held_old f.held_new))
   exec_skipped span = run_written (ending.ExecSkipped span) refl refl refl refl refl
 
-  pub not_run : (told : ExecFault) → r ≡ ending.NotRun told → ForJob words (λ set job. IfSome f.left_old (λ text. IsStopped set job text (reason.NotRun told)))
-  not_run told e =
-      let s = exec_of words r f (ending.NotRun told) refl refl refl refl the e in
-      record { set = s.set; job = s.job; is = s.is; holds = by_exec.told_by s.set s.job r f (λ text. IsStopped s.set s.job text (reason.NotRun told)) (λ text w. by_exec.not_run_by s.set s.job r f (reason.NotRun told) e text w) (s.holds).runs }
+  stopped_as : (told : ExecFault) → r ≡ ending.NotRun told → ForJob words (λ set job. Executes set job r f) ⊎ ForPrune words (λ set. Prunes set r f) → ForJob words (λ set job. IfSome f.left_old (λ text. IsStopped set job text (reason.NotRun told))) ⊎ ForPrune words (λ set. IfSome f.left_old (λ text. (told ≡ exec.Unfilled) × IsOpenText set text))
+  stopped_as told e (inl s) = inl (record { set = s.set; job = s.job; is = s.is; holds = by_exec.told_by s.set s.job r f (λ text. IsStopped s.set s.job text (reason.NotRun told)) (λ text w. by_exec.not_run_by s.set s.job r f (reason.NotRun told) e text w) (s.holds).runs })
+  stopped_as told e (inr s) = inr (record { set = s.set; is = s.is; holds = by_prune.told_as s.set r f (ending.NotRun told) (λ text. (told ≡ exec.Unfilled) × IsOpenText s.set text) (λ text h. h) e (s.holds).prunes })
+
+  pub not_run : (told : ExecFault) → r ≡ ending.NotRun told → ForJob words (λ set job. IfSome f.left_old (λ text. IsStopped set job text (reason.NotRun told))) ⊎ ForPrune words (λ set. IfSome f.left_old (λ text. (told ≡ exec.Unfilled) × IsOpenText set text))
+  not_run told e = stopped_as told e (stopped_of words r f told the e)
+
+  pub pruned : r ≡ ending.Pruned → ForPrune words (λ set. IfSome f.left_old (λ text. Writes (IsPrunedText set text) f.held_old f.held_new))
+  pruned e =
+      let s = prune_of words r f the e in
+      record { set = s.set; is = s.is; holds = by_prune.told_as s.set r f ending.Pruned (λ text. Writes (IsPrunedText s.set text) f.held_old f.held_new) (λ text h. h) e (s.holds).prunes }
 
   abbrev Unfilled : FillFault → Type 0
   Unfilled told = ForTrace words (λ set holes name values. IfSome f.left_old (λ text. IsNotTraced set holes name values text (reason.NotFilled told)))
@@ -832,8 +1072,8 @@ module _ {words : List (List ℕ)} {r : Ending} {f : Effect} (a : Answers words 
   met e = let s = asking_of words r f ending.Met refl refl refl refl refl the e in met_of s.set s.asked s.is s.holds e
 
   -- what is told of the text by an ending of lines that read their source
-  told_of : (x : Ending) → is_of_text x ≡ true → (P Q C : Set → List ℕ → Type 0) → ((set : Set) (budget : Budget) (cert : Bool) → Synthesises set budget cert r f → IfSome f.left_old (P set)) → ((set : Set) (job : Job) → Executes set job r f → IfSome f.left_old (P set)) → ((set : Set) → Lowers set r f → IfSome f.left_old (Q set)) → ((set : Set) (asked : Question) → Asks set asked r f → IfSome f.left_old (P set)) → ((set : Set) → Checks set r f → IfSome f.left_old (C set)) → r ≡ x → ForText words (λ set. IfSome f.left_old (P set)) ⊎ ForLower words (λ set. IfSome f.left_old (Q set)) ⊎ ForCheck words (λ set. IfSome f.left_old (C set))
-  told_of x a P Q C k l m n o e = text_of words r f x a (λ set. IfSome f.left_old (P set)) (λ set. IfSome f.left_old (Q set)) (λ set. IfSome f.left_old (C set)) k l m n o the e
+  told_of : (x : Ending) → is_of_text x ≡ true → (P Q C : Set → List ℕ → Type 0) → ((set : Set) (budget : Budget) (cert : Bool) → Synthesises set budget cert r f → IfSome f.left_old (P set)) → ((set : Set) (job : Job) → Executes set job r f → IfSome f.left_old (P set)) → ((set : Set) → Lowers set r f → IfSome f.left_old (Q set)) → ((set : Set) (asked : Question) → Asks set asked r f → IfSome f.left_old (P set)) → ((set : Set) → Checks set r f → IfSome f.left_old (C set)) → ((set : Set) → Prunes set r f → IfSome f.left_old (P set)) → r ≡ x → ForText words (λ set. IfSome f.left_old (P set)) ⊎ ForLower words (λ set. IfSome f.left_old (Q set)) ⊎ ForCheck words (λ set. IfSome f.left_old (C set))
+  told_of x a P Q C k l m n o p e = text_of words r f x a (λ set. IfSome f.left_old (P set)) (λ set. IfSome f.left_old (Q set)) (λ set. IfSome f.left_old (C set)) k l m n o p the e
 
   pub not_text : (fault : TextFault) → r ≡ ending.NotText fault → ForText words (λ set. IfSome f.left_old (IsTextFault fault)) ⊎ ForLower words (λ set. IfSome f.left_old (λ text. IsFaultOfLowering set text (sketch.NotText fault))) ⊎ ForCheck words (λ set. IfSome f.left_old (λ input. IsFaultOfCheck set input (check.Sketch (sketch.NotText fault))))
   not_text fault e =
@@ -842,7 +1082,8 @@ module _ {words : List (List ℕ)} {r : Ending} {f : Effect} (a : Answers words 
       (λ set job s. by_exec.told_by set job r f (IsTextFault fault) (λ text w. by_exec.not_text_by set job r f fault e text w) s.runs)
       (λ set s. by_lower.told_as set r f (ending.NotText fault) (λ text. IsFaultOfLowering set text (sketch.NotText fault)) (λ text h. h.0) e s.lowers)
       (λ set asked s. by_asking.told_as set asked r f (ending.NotText fault) (IsTextFault fault) (λ text h. h.1) e s.asks)
-      (λ set s. by_check.told_as set r f (ending.NotText fault) (λ input. IsFaultOfCheck set input (check.Sketch (sketch.NotText fault))) (λ input h. h.0) e s.checks) e
+      (λ set s. by_check.told_as set r f (ending.NotText fault) (λ input. IsFaultOfCheck set input (check.Sketch (sketch.NotText fault))) (λ input h. h.0) e s.checks)
+      (λ set s. by_prune.told_as set r f (ending.NotText fault) (IsTextFault fault) (λ text h. h) e s.prunes) e
 
   pub not_typed : (fault : TypeFault) → r ≡ ending.NotTyped fault → ForText words (λ set. IfSome f.left_old (IsUntyped set)) ⊎ ForLower words (λ set. IfSome f.left_old (λ text. IsFaultOfLowering set text (sketch.NotTyped fault))) ⊎ ForCheck words (λ set. IfSome f.left_old (λ input. IsFaultOfCheck set input (check.Sketch (sketch.NotTyped fault))))
   not_typed fault e =
@@ -851,7 +1092,8 @@ module _ {words : List (List ℕ)} {r : Ending} {f : Effect} (a : Answers words 
       (λ set job s. by_exec.told_by set job r f (IsUntyped set) (λ text w. by_exec.not_typed_by set job r f fault e text w) s.runs)
       (λ set s. by_lower.told_as set r f (ending.NotTyped fault) (λ text. IsFaultOfLowering set text (sketch.NotTyped fault)) (λ text h. h.0) e s.lowers)
       (λ set asked s. by_asking.told_as set asked r f (ending.NotTyped fault) (IsUntyped set) (λ text h. h.1) e s.asks)
-      (λ set s. by_check.told_as set r f (ending.NotTyped fault) (λ input. IsFaultOfCheck set input (check.Sketch (sketch.NotTyped fault))) (λ input h. h.0) e s.checks) e
+      (λ set s. by_check.told_as set r f (ending.NotTyped fault) (λ input. IsFaultOfCheck set input (check.Sketch (sketch.NotTyped fault))) (λ input h. h.0) e s.checks)
+      (λ set s. by_prune.told_as set r f (ending.NotTyped fault) (IsUntyped set) (λ text h. h.0) e s.prunes) e
 
   -- a fault of the text is told within it
   byte_told : (fault : TextFault) → IfSome f.left_old (IsTextFault fault) → IfSome f.left_old (λ text. byte_of fault ≤ length text)
@@ -864,7 +1106,8 @@ module _ {words : List (List ℕ)} {r : Ending} {f : Effect} (a : Answers words 
       (λ set job s. byte_told fault (by_exec.told_by set job r f (IsTextFault fault) (λ text w. by_exec.not_text_by set job r f fault e text w) s.runs))
       (λ set s. by_lower.told_as set r f (ending.NotText fault) (λ text. byte_of fault ≤ length text) (λ text h. h.1) e s.lowers)
       (λ set asked s. byte_told fault (by_asking.told_as set asked r f (ending.NotText fault) (IsTextFault fault) (λ text h. h.1) e s.asks))
-      (λ set s. by_check.told_as set r f (ending.NotText fault) (λ input. byte_of fault ≤ length input) (λ input h. by_check.byte_within_input input fault h.1) e s.checks) e)
+      (λ set s. by_check.told_as set r f (ending.NotText fault) (λ input. byte_of fault ≤ length input) (λ input h. by_check.byte_within_input input fault h.1) e s.checks)
+      (λ set s. byte_told fault (by_prune.told_as set r f (ending.NotText fault) (IsTextFault fault) (λ text h. h) e s.prunes)) e)
 
   pub type_place : (fault : TypeFault) → r ≡ ending.NotTyped fault → ForText words (λ set. IfSome f.left_old (λ text. HasSpan text fault.span)) ⊎ ForLower words (λ set. IfSome f.left_old (λ text. IsPlacedFault text (sketch.NotTyped fault))) ⊎ ForCheck words (λ set. IfSome f.left_old (λ input. checking.IsPlacedFault input (check.Sketch (sketch.NotTyped fault))))
   type_place fault e =
@@ -873,7 +1116,8 @@ module _ {words : List (List ℕ)} {r : Ending} {f : Effect} (a : Answers words 
       (λ set job s. s.place fault e)
       (λ set s. by_lower.told_as set r f (ending.NotTyped fault) (λ text. IsPlacedFault text (sketch.NotTyped fault)) (λ text h. h.1) e s.lowers)
       (λ set asked s. by_asking.told_by set asked r f (λ text. HasSpan text fault.span) (by_asking.place_by set asked r f fault e) s.asks)
-      (λ set s. by_check.told_as set r f (ending.NotTyped fault) (λ input. checking.IsPlacedFault input (check.Sketch (sketch.NotTyped fault))) (λ input h. h.1) e s.checks) e
+      (λ set s. by_check.told_as set r f (ending.NotTyped fault) (λ input. checking.IsPlacedFault input (check.Sketch (sketch.NotTyped fault))) (λ input h. h.1) e s.checks)
+      (λ set s. by_prune.told_as set r f (ending.NotTyped fault) (λ text. HasSpan text fault.span) (λ text h. h.1) e s.prunes) e
 
   -- this does not come for a line `lower`
   not_lower : (P C : Set → Type 0) → ForText words P ⊎ ForLower words (λ set. ⊥) ⊎ ForCheck words C → ForText words P ⊎ ForCheck words C
@@ -889,7 +1133,8 @@ module _ {words : List (List ℕ)} {r : Ending} {f : Effect} (a : Answers words 
       (λ set job s. by_exec.told_by set job r f (λ text. IsTooLarge set text reason) (λ text w. by_exec.too_large_by set job r f reason e text w) s.runs)
       (λ set s. by_lower.lower_not set r f (ending.TooLarge reason) refl s.lowers e)
       (λ set asked s. by_asking.told_as set asked r f (ending.TooLarge reason) (λ text. IsTooLarge set text reason) (λ text h. h) e s.asks)
-      (λ set s. by_check.told_as set r f (ending.TooLarge reason) (λ input. IsFaultOfCheck set input (check.Sketch (sketch.TooLarge reason))) (λ input h. h) e s.checks) the e)
+      (λ set s. by_check.told_as set r f (ending.TooLarge reason) (λ input. IsFaultOfCheck set input (check.Sketch (sketch.TooLarge reason))) (λ input h. h) e s.checks)
+      (λ set s. by_prune.told_as set r f (ending.TooLarge reason) (λ text. IsTooLarge set text reason) (λ text h. h) e s.prunes) the e)
 
   pub too_long : r ≡ ending.TooLong → IfSome f.left_old (λ text. most_bytes < length text)
   too_long e =
@@ -898,7 +1143,8 @@ module _ {words : List (List ℕ)} {r : Ending} {f : Effect} (a : Answers words 
       (λ set job s. by_exec.told_by set job r f (λ text. most_bytes < length text) (λ text w. by_exec.too_long_by set job r f e text w) s.runs)
       (λ set s. by_lower.told_as set r f ending.TooLong (λ text. most_bytes < length text) (λ text h. h) e s.lowers)
       (λ set asked s. by_asking.told_as set asked r f ending.TooLong (λ text. most_bytes < length text) (λ text h. h) e s.asks)
-      (λ set s. by_check.told_as set r f ending.TooLong (λ input. most_bytes < length input) (λ input h. by_check.long_within input h) e s.checks) e)
+      (λ set s. by_check.told_as set r f ending.TooLong (λ input. most_bytes < length input) (λ input h. by_check.long_within input h) e s.checks)
+      (λ set s. by_prune.told_as set r f ending.TooLong (λ text. most_bytes < length text) (λ text h. h) e s.prunes) e)
 
   pub read_fault : r ≡ ending.ReadFault → Rose f.read_faults_old f.read_faults_new
   read_fault e =
@@ -907,7 +1153,8 @@ module _ {words : List (List ℕ)} {r : Ending} {f : Effect} (a : Answers words 
       (λ set job s. by_exec.read_fault_by set job r f s.runs e)
       (λ set s. by_lower.read_fault_by set r f s.lowers e)
       (λ set asked s. by_asking.read_fault_by set asked r f s.asks e)
-      (λ set s. by_check.read_fault_by set r f s.checks e) the e)
+      (λ set s. by_check.read_fault_by set r f s.checks e)
+      (λ set s. by_prune.read_fault_by set r f s.prunes e) the e)
 
   pub write_fault : r ≡ ending.WriteFault → Rose f.write_faults_old f.write_faults_new
   write_fault = write_fault_of words r f the
@@ -970,15 +1217,20 @@ module _ {words : List (List ℕ)} {r : Ending} {f : Effect} (a : Answers words 
   for_sizes P k set (sizes_why h) = for_asking_told P k set question.Why h
 
   -- and for each line that takes a text as it is
-  for_taking : (P : Set → List ℕ → Type 0) → ((set : Set) (text : List ℕ) → IsToldOf set text r f.read_faults_old f.read_faults_new f.write_faults_old f.write_faults_new → P set text) → ((set : Set) (job : Job) → IsJob words set job → IfSome f.left_old (P set)) → (set : Set) → TakesText words set → IfSome f.left_old (P set)
-  for_taking P k l set (takes_synth h) = for_text P k set h
-  for_taking P k l set (takes_job job h) = l set job h
-  for_taking P k l set (takes_all most h) = for_asking_told P k set (question.Which most) h
-  for_taking P k l set (takes_why h) = for_asking_told P k set question.Why h
+  for_taking : (P : Set → List ℕ → Type 0) → ((set : Set) (text : List ℕ) → IsToldOf set text r f.read_faults_old f.read_faults_new f.write_faults_old f.write_faults_new → P set text) → ((set : Set) (job : Job) → IsJob words set job → IfSome f.left_old (P set)) → ((set : Set) → IsLine words (line.Prune set) → IfSome f.left_old (P set)) → (set : Set) → TakesText words set → IfSome f.left_old (P set)
+  for_taking P k l n set (takes_synth h) = for_text P k set h
+  for_taking P k l n set (takes_job job h) = l set job h
+  for_taking P k l n set (takes_prune h) = n set h
+  for_taking P k l n set (takes_all most h) = for_asking_told P k set (question.Which most) h
+  for_taking P k l n set (takes_why h) = for_asking_told P k set question.Why h
 
   -- and for a line `lower`
   for_lowering : (P : Set → List ℕ → Type 0) → ((set : Set) (text : List ℕ) → by_lower.Came set r f text → P set text) → (set : Set) → IsLine words (line.Lower set) → IfSome f.left_old (P set)
   for_lowering P k = for_lower words r f (λ set. IfSome f.left_old (P set)) (λ set s. by_lower.told_by set r f (P set) (k set) s.lowers) (λ set m. every f.left_old (P set) (λ text. k set text (came_wanting m))) the
+
+  -- and for a line `prune`
+  for_pruning : (P : Set → List ℕ → Type 0) → ((set : Set) (text : List ℕ) → by_prune.Came set r f text → P set text) → (set : Set) → IsLine words (line.Prune set) → IfSome f.left_old (P set)
+  for_pruning P k = for_prune words r f (λ set. IfSome f.left_old (P set)) (λ set s. by_prune.told_by set r f (P set) (k set) s.prunes) (λ set m. every f.left_old (P set) (λ text. k set text (came_wanting m))) the
 
   -- a budget that is spent is not 0
   allowed : (set : Set) (budget : Budget) (cert : Bool) → Synthesises set budget cert r f → (x : Ending) → r ≡ x → by.IsAllowed budget x
@@ -1001,6 +1253,7 @@ module _ {words : List (List ℕ)} {r : Ending} {f : Effect} (a : Answers words 
   allowed set budget cert s (ending.NotRun reason) e = tt
   allowed set budget cert s (ending.NotFilled reason) e = tt
   allowed set budget cert s ending.Lowered e = tt
+  allowed set budget cert s ending.Pruned e = tt
   allowed set budget cert s ending.Listed e = absurd (synth_not words r f set budget cert ending.Listed s refl e)
   allowed set budget cert s ending.Explained e = absurd (synth_not words r f set budget cert ending.Explained s refl e)
   allowed set budget cert s ending.Met e = absurd (synth_not words r f set budget cert ending.Met s refl e)
@@ -1025,12 +1278,14 @@ module _ {words : List (List ℕ)} {r : Ending} {f : Effect} (a : Answers words 
       for_taking (λ set text. length text ≤ most_bytes → (fault : TextFault) → IsTextFault fault text → EndsFaulty fault r f.read_faults_old f.read_faults_new)
       (λ set text. by.ends_faulty set text f.read_faults_old f.read_faults_new f.write_faults_old f.write_faults_new r)
       (for_exec_text (λ set job text. length text ≤ most_bytes → (fault : TextFault) → IsTextFault fault text → EndsFaulty fault r f.read_faults_old f.read_faults_new) (λ set job text w. by_exec.ends_faulty_by set job r f text w))
+      (for_pruning (λ set text. length text ≤ most_bytes → (fault : TextFault) → IsTextFault fault text → EndsFaulty fault r f.read_faults_old f.read_faults_new) (λ set text w. by_prune.ends_faulty_by set r f text w))
 
   pub ends_untyped : (set : Set) → TakesText words set → IfSome f.left_old (λ text. length text ≤ most_bytes → IsUntyped set text → EndsUntyped r f.read_faults_old f.read_faults_new)
   ends_untyped =
       for_taking (λ set text. length text ≤ most_bytes → IsUntyped set text → EndsUntyped r f.read_faults_old f.read_faults_new)
       (λ set text. by.ends_untyped set text f.read_faults_old f.read_faults_new f.write_faults_old f.write_faults_new r)
       (for_exec_text (λ set job text. length text ≤ most_bytes → IsUntyped set text → EndsUntyped r f.read_faults_old f.read_faults_new) (λ set job text w. by_exec.ends_untyped_by set job r f by.some_fault text w))
+      (for_pruning (λ set text. length text ≤ most_bytes → IsUntyped set text → EndsUntyped r f.read_faults_old f.read_faults_new) (λ set text w. by_prune.ends_untyped_by set r f by.some_fault text w))
 
   pub ends_large : (set : Set) → SizesText words set → IfSome f.left_old (λ text. (reason : SizeFault) → IsTooLarge set text reason → EndsLarge reason r f.read_faults_old f.read_faults_new)
   ends_large = for_sizes (λ set text. (reason : SizeFault) → IsTooLarge set text reason → EndsLarge reason r f.read_faults_old f.read_faults_new) (λ set text. by.ends_large set text f.read_faults_old f.read_faults_new f.write_faults_old f.write_faults_new r)
@@ -1040,6 +1295,7 @@ module _ {words : List (List ℕ)} {r : Ending} {f : Effect} (a : Answers words 
       for_taking (λ set text. (reason : SizeFault) → IsTrue (is_of_expansion reason) → IsTooLarge set text reason → EndsLarge reason r f.read_faults_old f.read_faults_new)
       (λ set text told reason b is. by.ends_large set text f.read_faults_old f.read_faults_new f.write_faults_old f.write_faults_new r told reason is)
       (for_exec_text (λ set job text. (reason : SizeFault) → IsTrue (is_of_expansion reason) → IsTooLarge set text reason → EndsLarge reason r f.read_faults_old f.read_faults_new) (λ set job text w. by_exec.ends_copies_by set job r f text w))
+      (for_pruning (λ set text. (reason : SizeFault) → IsTrue (is_of_expansion reason) → IsTooLarge set text reason → EndsLarge reason r f.read_faults_old f.read_faults_new) (λ set text w. by_prune.ends_copies_by set r f text w))
 
   pub ends_run : (set : Set) (job : Job) → IsJob words set job → IfSome f.left_old (λ text. (outcome : Outcome) (out : List ℕ) → IsRunOfJob set job text outcome out → EndsRun outcome r f.read_faults_old f.read_faults_new f.write_faults_old f.write_faults_new)
   ends_run = for_exec_text (λ set job text. (outcome : Outcome) (out : List ℕ) → IsRunOfJob set job text outcome out → EndsRun outcome r f.read_faults_old f.read_faults_new f.write_faults_old f.write_faults_new) (λ set job text w. by_exec.ends_run_by set job r f text w)
@@ -1058,6 +1314,12 @@ module _ {words : List (List ℕ)} {r : Ending} {f : Effect} (a : Answers words 
 
   pub ends_refused : (set : Set) → IsLine words (line.Lower set) → IfSome f.left_old (λ text. length text ≤ most_bytes → (told : SketchFault) → IsCause (IsFaultOfLowering set text) told → EndsRefused told r f.read_faults_old f.read_faults_new)
   ends_refused = for_lowering (λ set text. length text ≤ most_bytes → (told : SketchFault) → IsCause (IsFaultOfLowering set text) told → EndsRefused told r f.read_faults_old f.read_faults_new) (λ set text w. by_lower.ends_refused_by set r f text w)
+
+  pub ends_pruned : (set : Set) → IsLine words (line.Prune set) → IfSome f.left_old (λ text. (out : List ℕ) → IsPrunedText set text out → EndsPruned r f.read_faults_old f.read_faults_new f.write_faults_old f.write_faults_new)
+  ends_pruned = for_pruning (λ set text. (out : List ℕ) → IsPrunedText set text out → EndsPruned r f.read_faults_old f.read_faults_new f.write_faults_old f.write_faults_new) (λ set text w. by_prune.ends_pruned_by set r f text w)
+
+  pub ends_open : (set : Set) → IsLine words (line.Prune set) → IfSome f.left_old (λ text. IsOpenText set text → EndsOpen r f.read_faults_old f.read_faults_new)
+  ends_open = for_pruning (λ set text. IsOpenText set text → EndsOpen r f.read_faults_old f.read_faults_new) (λ set text w. by_prune.ends_open_by set r f text w)
 
   -- a text that is taken, and whose question has this reply alone, ends with it
   abbrev EndsOnly : Reply → Set → Question → List ℕ → Type 0
@@ -1097,6 +1359,7 @@ module _ {words : List (List ℕ)} {r : Ending} {f : Effect} (a : Answers words 
       for_taking Long
       (λ set text. by.ends_long set text f.read_faults_old f.read_faults_new f.write_faults_old f.write_faults_new r)
       (for_exec_text (λ set job. Long set) (λ set job text w. by_exec.ends_long_by set job r f text w))
+      (for_pruning Long (λ set text w. by_prune.ends_long_by set r f text w))
 
   pub ends_long : (set : Set) → ReadsText words set → IfSome f.left_old (λ text. most_bytes < length text → EndsLong r f.read_faults_old f.read_faults_new)
   ends_long set (inl h) = ends_long_taken set h

@@ -40,6 +40,7 @@ module _ (budget : Budget) where
   is_synth (ending.NotRun reason) h = absurd h
   is_synth (ending.NotFilled reason) h = absurd h
   is_synth ending.Lowered h = absurd h
+  is_synth ending.Pruned h = absurd h
   is_synth ending.Listed h = absurd h
   is_synth ending.Explained h = absurd h
   is_synth ending.Met h = absurd h
@@ -70,6 +71,7 @@ module _ (budget : Budget) where
   writes (ending.NotRun reason) h = absurd h
   writes (ending.NotFilled reason) h = absurd h
   writes ending.Lowered h = absurd h
+  writes ending.Pruned h = absurd h
   writes ending.Listed h = absurd h
   writes ending.Explained h = absurd h
   writes ending.Met h = absurd h
@@ -102,6 +104,7 @@ module _ (budget : Budget) where
     taken (ending.NotRun reason) h = absurd h
     taken (ending.NotFilled reason) h = absurd h
     taken ending.Lowered h = absurd h
+    taken ending.Pruned h = absurd h
     taken ending.Listed h = absurd h
     taken ending.Explained h = absurd h
     taken ending.Met h = absurd h
@@ -132,6 +135,7 @@ module _ (budget : Budget) where
     tells (ending.NotRun reason) h t = absurd h
     tells (ending.NotFilled reason) h t = absurd h
     tells ending.Lowered h t = absurd h
+    tells ending.Pruned h t = absurd h
     tells ending.Listed h t = absurd h
     tells ending.Explained h t = absurd h
     tells ending.Met h t = absurd h

@@ -12,8 +12,9 @@ use Rattle.sk_trace_text.specs.declared.fault.TraceFault.{TraceFault}
 use Rattle.sk_cert.specs.declared.fault.CertFault.{CertFault}
 use Rattle.sk_check_laws.specs.declared.reason.Reason.{Reason}
 use Rattle.sk_check_text.specs.declared.fault.CheckFault.{CheckFault}
+use Rattle.sk_exec.specs.declared.fault.ExecFault.TheVariants as exec
 use Rattle.sk_app.specs.declared.ending.Ending.{Ending}
-use Rattle.sk_app.specs.declared.ending.Ending.TheVariants.{Completed, HelpShown, VersionShown, Lowered, Listed, Explained, Met, Rejected, NotALine, TooLarge, NotLowered, NotTagged, NotCertificate, TooLong}
+use Rattle.sk_app.specs.declared.ending.Ending.TheVariants.{Completed, HelpShown, VersionShown, Lowered, Pruned, Listed, Explained, Met, Rejected, NotALine, TooLarge, NotRun, NotLowered, NotTagged, NotCertificate, TooLong}
 use Rattle.sk_app.specs.Questions.{Reply, ending_with}
 use Rattle.sk_app.specs.Ends.{Ends, IsOfBuilt, IsOfFault, IsOfUntyped, IsOfRefused, IsOfRefusedInput, IsOfVerdict, IsOfAccepted, ending_of, stopped}
 
@@ -52,6 +53,12 @@ EndsStopped reason result source_old source_new = Ends (λ e. e ≡ stopped reas
 
 abbrev pub EndsLowered : Ending → ℕ → ℕ → ℕ → ℕ → Type 0
 EndsLowered result source_old source_new sink_old sink_new = Ends (λ e. e ≡ Lowered) (Rose source_old source_new) (Rose sink_old sink_new) result
+
+abbrev pub EndsPruned : Ending → ℕ → ℕ → ℕ → ℕ → Type 0
+EndsPruned result source_old source_new sink_old sink_new = Ends (λ e. e ≡ Pruned) (Rose source_old source_new) (Rose sink_old sink_new) result
+
+abbrev pub EndsOpen : Ending → ℕ → ℕ → Type 0
+EndsOpen result source_old source_new = Ends (λ e. e ≡ NotRun exec.Unfilled) (Rose source_old source_new) ⊥ result
 
 abbrev pub EndsListed : Ending → ℕ → ℕ → ℕ → ℕ → Type 0
 EndsListed result source_old source_new sink_old sink_new = Ends (λ e. e ≡ Listed) (Rose source_old source_new) (Rose sink_old sink_new) result

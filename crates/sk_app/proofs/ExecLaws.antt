@@ -54,6 +54,7 @@ is_of_exec ending.NotALine = false
 is_of_exec ending.HelpShown = false
 is_of_exec ending.VersionShown = false
 is_of_exec ending.Lowered = false
+is_of_exec ending.Pruned = false
 is_of_exec (ending.NotLowered reason) = false
 is_of_exec (ending.NotTagged span) = false
 is_of_exec ending.Listed = false

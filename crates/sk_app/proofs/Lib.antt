@@ -7,6 +7,7 @@ mod JobLaws
 mod SourceLaws
 mod ExecLaws
 mod LowerLaws
+mod PruneLaws
 mod QuestionLaws
 mod CheckLaws
 mod EffectLaws

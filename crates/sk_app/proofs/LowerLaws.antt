@@ -89,6 +89,7 @@ module _ (set : Set) (r : Ending) (f : Effect) where
   told_is_of_lower text (ending.NotText told) h = refl
   told_is_of_lower text (ending.NotTyped told) h = refl
   told_is_of_lower text ending.Lowered h = refl
+  told_is_of_lower text ending.Pruned h = absurd h
   told_is_of_lower text ending.Listed h = absurd h
   told_is_of_lower text ending.Explained h = absurd h
   told_is_of_lower text ending.Met h = absurd h

@@ -73,6 +73,7 @@ module _ (set : Set) (text : List ℕ) where
     ends_built budget (ending.NotRun reason) some h bounds e is = absurd h
     ends_built budget (ending.NotFilled reason) some h bounds e is = absurd h
     ends_built budget ending.Lowered some h bounds e is = absurd h
+    ends_built budget ending.Pruned some h bounds e is = absurd h
     ends_built budget ending.Listed some h bounds e is = absurd some
     ends_built budget ending.Explained some h bounds e is = absurd some
     ends_built budget ending.Met some h bounds e is = absurd some
@@ -103,6 +104,7 @@ module _ (set : Set) (text : List ℕ) where
     ends_faulty (ending.NotRun reason) h short f is = absurd h
     ends_faulty (ending.NotFilled reason) h short f is = absurd h
     ends_faulty ending.Lowered h short f is = absurd h
+    ends_faulty ending.Pruned h short f is = absurd h
     ends_faulty ending.Listed h short f is = taken_or_cause (fault.NotText f) h is
     ends_faulty ending.Explained h short f is = taken_or_cause (fault.NotText f) h is
     ends_faulty ending.Met h short f is = taken_or_cause (fault.NotText f) h is
@@ -133,6 +135,7 @@ module _ (set : Set) (text : List ℕ) where
     ends_untyped (ending.NotRun reason) h short n = absurd h
     ends_untyped (ending.NotFilled reason) h short n = absurd h
     ends_untyped ending.Lowered h short n = absurd h
+    ends_untyped ending.Pruned h short n = absurd h
     ends_untyped ending.Listed h short n = taken_or_cause (fault.NotTyped some_fault) h n
     ends_untyped ending.Explained h short n = taken_or_cause (fault.NotTyped some_fault) h n
     ends_untyped ending.Met h short n = taken_or_cause (fault.NotTyped some_fault) h n
@@ -163,6 +166,7 @@ module _ (set : Set) (text : List ℕ) where
     ends_large (ending.NotRun reason) h s is = absurd h
     ends_large (ending.NotFilled reason) h s is = absurd h
     ends_large ending.Lowered h s is = absurd h
+    ends_large ending.Pruned h s is = absurd h
     ends_large ending.Listed h s is = taken_or_cause (fault.TooLarge s) h is
     ends_large ending.Explained h s is = taken_or_cause (fault.TooLarge s) h is
     ends_large ending.Met h s is = taken_or_cause (fault.TooLarge s) h is
@@ -193,6 +197,7 @@ module _ (set : Set) (text : List ℕ) where
     ends_long (ending.NotRun reason) h long = absurd h
     ends_long (ending.NotFilled reason) h long = absurd h
     ends_long ending.Lowered h long = absurd h
+    ends_long ending.Pruned h long = absurd h
     ends_long ending.Listed h long = too_long (short_of h) long
     ends_long ending.Explained h long = too_long (short_of h) long
     ends_long ending.Met h long = too_long (short_of h) long

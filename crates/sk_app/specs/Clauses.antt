@@ -26,12 +26,15 @@ use Rattle.sk_adt_text.specs.PlainTexts.{HasPlainForm, HasNoPlainForm, IsNotTagg
 use Rattle.sk_types_laws.specs.declared.fault.TypeFault.{TypeFault}
 use Rattle.sk_expand_sizes.specs.declared.fault.SizeFault.{SizeFault}
 use Rattle.sk_exec.specs.declared.fault.ExecFault.{ExecFault}
+use Rattle.sk_exec.specs.declared.fault.ExecFault.TheVariants as exec
+use Rattle.sk_prune_text.specs.PrunedTexts.{IsOpenText, IsPrunedText}
+use Rattle.sk_prune_text.specs.Kept.{KeepsRuns}
 use Rattle.sk_holes.specs.declared.fault.FillFault.{FillFault}
 use Rattle.sk_trace_text.specs.declared.fault.TraceFault.{TraceFault}
 use Rattle.sk_trace_text.specs.declared.fault.TraceFault.TheVariants as reason
 use Rattle.sk_trace_text.specs.Traced.{IsNotTraced}
 use Rattle.sk_app.specs.declared.direct.Job.{Job}
-use Rattle.sk_app.specs.declared.ending.Ending.TheVariants.{Completed, NoCompletion, SpentRounds, SpentConflicts, HelpShown, VersionShown, ExecDone, ExecFailed, ExecSkipped, Lowered, Listed, Explained, Met, Accepted, Rejected, NotALine, NotText, NotTyped, TooLarge, NotRun, NotFilled, NotLowered, NotTagged, NotCertificate, ReadFault, WriteFault, TooLong}
+use Rattle.sk_app.specs.declared.ending.Ending.TheVariants.{Completed, NoCompletion, SpentRounds, SpentConflicts, HelpShown, VersionShown, ExecDone, ExecFailed, ExecSkipped, Lowered, Pruned, Listed, Explained, Met, Accepted, Rejected, NotALine, NotText, NotTyped, TooLarge, NotRun, NotFilled, NotLowered, NotTagged, NotCertificate, ReadFault, WriteFault, TooLong}
 use Rattle.sk_min_laws.specs.Best.{Meeting}
 use Rattle.sk_all_text.specs.Built.{IsBuilt}
 use Rattle.sk_all_text.specs.AllTexts.{IsListing}
@@ -49,7 +52,7 @@ use Rattle.sk_check_text.specs.Checking.{TakesSketch, IsAccepted, IsRejectedFor,
 use Rattle.sk_check_text.specs.Checking as checking
 use Rattle.sk_app.specs.Summary.{IsSummary}
 use Rattle.sk_app.specs.Checks.{most_input, IsTooLongInput, told_reason}
-use Rattle.sk_app.specs.Lines.{IsNoLine, IsSearch, ForSearch, IsJob, ForJob, ForTrace, ForLower, ForAll, ForWhy, TakesText, SizesText, ForText, ReadsText, ForCheck, ReadsSource, ForSelf}
+use Rattle.sk_app.specs.Lines.{IsNoLine, IsSearch, ForSearch, IsJob, ForJob, ForTrace, ForLower, ForPrune, ForAll, ForWhy, TakesText, SizesText, ForText, ReadsText, ForCheck, ReadsSource, ForSelf}
 use Rattle.sk_app.specs.Jobs.{IsStopped, IsRunOfJob}
 use Rattle.sk_app.specs.Questions.{IsExplained, IsMet}
 use Rattle.sk_app.specs.Ends.{WritesPart, writes_nothing, Ends, IsOfBuilt, IsOfFault, IsOfUntyped, IsOfRefused, IsOfRefusedInput, IsOfVerdict, IsOfAccepted, ending_of, stopped}
@@ -147,7 +150,7 @@ TellsTooLarge c = (reason : SizeFault) → c.ending ≡ TooLarge reason → ForT
 abbrev pub LargeEnds : Call → Type 0
 LargeEnds c = (set : Set) → SizesText c.words set → OfText c (λ text. (reason : SizeFault) → IsTooLarge set text reason → Ends (λ e. e ≡ TooLarge reason) (SourceFailed c) ⊥ c.ending)
 
--- For a line `exec` or `trace` too, where it has too many nodes or sites.
+-- For a line `exec`, `trace` or `prune` too, where it has too many nodes or sites.
 abbrev pub CopiesEnds : Call → Type 0
 CopiesEnds c = (set : Set) → TakesText c.words set → OfText c (λ text. (reason : SizeFault) → IsTrue (is_of_expansion reason) → IsTooLarge set text reason → Ends (λ e. e ≡ TooLarge reason) (SourceFailed c) ⊥ c.ending)
 
@@ -177,9 +180,9 @@ TellsSkipped c = (span : Span) → c.ending ≡ ExecSkipped span → ForJob c.wo
 abbrev pub RunEnds : Call → Type 0
 RunEnds c = (set : Set) (job : Job) → IsJob c.words set job → OfText c (λ text. (outcome : Outcome) (out : List ℕ) → IsRunOfJob set job text outcome out → Ends (λ e. e ≡ ending_of outcome) (SourceFailed c) (SinkFailed c) c.ending)
 
--- No function is run, for this reason.
+-- No function is run, for this reason; for a line `prune` the expansion of the text has a site.
 abbrev pub TellsNotRun : Call → Type 0
-TellsNotRun c = (told : ExecFault) → c.ending ≡ NotRun told → ForJob c.words (λ set job. OfText c (λ text. IsStopped set job text (reason.NotRun told)))
+TellsNotRun c = (told : ExecFault) → c.ending ≡ NotRun told → ForJob c.words (λ set job. OfText c (λ text. IsStopped set job text (reason.NotRun told))) ⊎ ForPrune c.words (λ set. OfText c (λ text. (told ≡ exec.Unfilled) × IsOpenText set text))
 
 -- The numbers of a line `trace` do not fill the sketch, for this reason.
 abbrev pub TellsNotFilled : Call → Type 0
@@ -223,6 +226,25 @@ NotTaggedEnds c = (set : Set) → IsLine c.words (line.Lower set) → OfText c (
 -- A text that has no tokens, or whose plain form reads as no tree or means no program, ends with that fault.
 abbrev pub RefusedEnds : Call → Type 0
 RefusedEnds c = (set : Set) → IsLine c.words (line.Lower set) → OfText c (λ text. length text ≤ most_bytes → (told : SketchFault) → IsCause (IsFaultOfLowering set text) told → Ends (IsOfRefused told) (SourceFailed c) ⊥ c.ending)
+
+-- A line `prune`
+
+-- The sink got the text of the program that the text means, without what no run can reach.
+abbrev pub TellsPruned : Call → Type 0
+TellsPruned c = c.ending ≡ Pruned → ForPrune c.words (λ set. OfText c (λ text. Gets c (IsPrunedText set text)))
+
+-- And each function that stays runs on all arguments as before, with result, `ref` values and cost; and the text that the sink got
+-- shows the program that is left.
+abbrev pub KeepsFunctions : Call → Type 0
+KeepsFunctions c = c.ending ≡ Pruned → ForPrune c.words (λ set. OfText c (λ text. Gets c (KeepsRuns set text)))
+
+-- A text with such a program ends so.
+abbrev pub PrunedEnds : Call → Type 0
+PrunedEnds c = (set : Set) → IsLine c.words (line.Prune set) → OfText c (λ text. (out : List ℕ) → IsPrunedText set text out → Ends (λ e. e ≡ Pruned) (SourceFailed c) (SinkFailed c) c.ending)
+
+-- A text whose expansion has a site is not pruned.
+abbrev pub OpenEnds : Call → Type 0
+OpenEnds c = (set : Set) → IsLine c.words (line.Prune set) → OfText c (λ text. IsOpenText set text → Ends (λ e. e ≡ NotRun exec.Unfilled) (SourceFailed c) ⊥ c.ending)
 
 -- A line `all` or `why`
 

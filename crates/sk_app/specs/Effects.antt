@@ -22,6 +22,8 @@ use Rattle.sk_front.specs.Texts.{most_bytes, HasSpan}
 use Rattle.sk_adt.specs.declared.algebraic.AdtFault.{AdtFault}
 use Rattle.sk_adt_text.specs.PlainTexts.{HasNoPlainForm, IsNotTagged, IsLoweredText, IsFaultOfLowering, IsPlacedFault}
 use Rattle.sk_types_laws.specs.declared.fault.TypeFault.{TypeFault}
+use Rattle.sk_exec.specs.declared.fault.ExecFault.TheVariants as exec
+use Rattle.sk_prune_text.specs.PrunedTexts.{IsOpenText, IsPrunedText}
 use Rattle.sk_expand_sizes.specs.declared.fault.SizeFault.{SizeFault}
 use Rattle.sk_expand_sizes.specs.declared.fault.SizeFault.TheVariants as size
 use Rattle.sk_trace_text.specs.declared.fault.TraceFault.{TraceFault}
@@ -43,13 +45,13 @@ use Rattle.sk_check_text.specs.Checking as checking
 use Rattle.sk_app.specs.Summary.{IsSummary}
 use Rattle.sk_app.specs.Checks.{most_input, told_reason, IsVerdictText}
 use Rattle.sk_app.specs.declared.ending.Ending.{Ending}
-use Rattle.sk_app.specs.declared.ending.Ending.TheVariants.{Completed, NoCompletion, SpentRounds, SpentConflicts, HelpShown, VersionShown, NotALine, NotText, NotTyped, TooLarge, NotRun, NotFilled, ReadFault, WriteFault, TooLong, Memory, ExecDone, ExecFailed, ExecSkipped, Lowered, NotLowered, NotTagged, Listed, Explained, Met, Accepted, Rejected, NotCertificate}
+use Rattle.sk_app.specs.declared.ending.Ending.TheVariants.{Completed, NoCompletion, SpentRounds, SpentConflicts, HelpShown, VersionShown, NotALine, NotText, NotTyped, TooLarge, NotRun, NotFilled, ReadFault, WriteFault, TooLong, Memory, ExecDone, ExecFailed, ExecSkipped, Lowered, Pruned, NotLowered, NotTagged, Listed, Explained, Met, Accepted, Rejected, NotCertificate}
 use Rattle.sk_app_reading.specs.Streams.{IsWhole, IsLong, TakesFew}
 use Rattle.sk_app.specs.ResultText.{IsCompletion, IsNone}
 use Rattle.sk_app.specs.Spent.{AreLearnt, IsSpentRounds, IsSpentConflicts}
 use Rattle.sk_app.specs.Results.{IsResult}
 use Rattle.sk_app.specs.Help.{help_text, version_text}
-use Rattle.sk_app.specs.Lines.{IsNoLine, ForSearch, ForJob, ForLower, ForAll, ForWhy, ForCheck, ForSelf}
+use Rattle.sk_app.specs.Lines.{IsNoLine, ForSearch, ForJob, ForLower, ForPrune, ForAll, ForWhy, ForCheck, ForSelf}
 use Rattle.sk_app.specs.Call.{Effect}
 use Rattle.sk_app.specs.Ends.{IsDelivered, Writes, WritesPart, writes_nothing, IsToldOf, ending_of, stopped}
 
@@ -84,6 +86,7 @@ is_of_synth (ExecSkipped span) = false
 is_of_synth (NotRun reason) = false
 is_of_synth (NotFilled reason) = false
 is_of_synth Lowered = false
+is_of_synth Pruned = false
 is_of_synth (NotLowered reason) = false
 is_of_synth (NotTagged span) = false
 is_of_synth Listed = false
@@ -175,6 +178,20 @@ pub record Lowers (set : Set) (result : Ending) (f : Effect) : Type 0 where
   pub lowers : LowersSource set result f
   pub few : TakesFew most_bytes f.left_old f.left_new
 
+-- what a line `prune` does for a text that is not too long
+pub data PrunesText (set : Set) (text : List ℕ) (result : Ending) (faults_old faults_new : ℕ) (old new : Option (List ℕ)) : Type 0 where
+  unexpanded : (told : SketchFault) → IsFaultOfExpansion set text told → front.IsPlacedFault text told → result ≡ refusal told → new ≡ old → PrunesText set text result faults_old faults_new old new
+  unfilled : IsOpenText set text → result ≡ NotRun exec.Unfilled → new ≡ old → PrunesText set text result faults_old faults_new old new
+  pruned : (out : List ℕ) → IsPrunedText set text out → IsDelivered result Pruned out faults_old faults_new old new → PrunesText set text result faults_old faults_new old new
+
+abbrev pub PrunesSource : Set → Ending → Effect → Type 0
+PrunesSource set result f = TakesSource most_bytes (λ text. PrunesText set text result f.write_faults_old f.write_faults_new f.held_old f.held_new) result f
+
+-- a call for a line `prune` with these options
+pub record Prunes (set : Set) (result : Ending) (f : Effect) : Type 0 where
+  pub prunes : PrunesSource set result f
+  pub few : TakesFew most_bytes f.left_old f.left_new
+
 -- what a line `all` or `why` does for a text that is not too long
 pub data RepliesTo (set : Set) (q : Question) (text : List ℕ) (result : Ending) (faults_old faults_new : ℕ) (old new : Option (List ℕ)) : Type 0 where
   unanswered : (told : SketchFault) → IsFaultOfSizes set text told → front.IsPlacedFault text told → result ≡ refusal told → new ≡ old → RepliesTo set q text result faults_old faults_new old new
@@ -229,6 +246,7 @@ Serves (line.Synth set budget cert) result f = Synthesises set budget cert resul
 Serves (line.Exec set name values) result f = Executes set (record { name = name; values = values; way = way.Exec }) result f
 Serves (line.Trace set name values holes) result f = Executes set (record { name = name; values = values; way = way.Trace holes }) result f
 Serves (line.Lower set) result f = Lowers set result f
+Serves (line.Prune set) result f = Prunes set result f
 Serves (line.All set most) result f = Asks set (question.Which most) result f
 Serves (line.Why set) result f = Asks set question.Why result f
 Serves (line.Check set) result f = Checks set result f
@@ -247,6 +265,7 @@ pub data IsOutput (words : List (List ℕ)) (text out : List ℕ) : Type 0 where
   result : ForSearch words (λ set budget cert. IsResult set budget cert text out) → IsOutput words text out
   run : ForJob words (λ set job. IsRunOutput set job text out) → IsOutput words text out
   plain : ForLower words (λ set. IsLoweredText set text out) → IsOutput words text out
+  left : ForPrune words (λ set. IsPrunedText set text out) → IsOutput words text out
   listing : ForAll words (λ set most. IsListing set most text out) → IsOutput words text out
   reasons : ForWhy words (λ set. IsExplained set text out) → IsOutput words text out
   meeting : ForWhy words (λ set. IsMet set text out) → IsOutput words text out

@@ -23,7 +23,7 @@ use Rattle.sk_holes.specs.declared.fault.FillFault.TheVariants as hole
 use Rattle.sk_cert.specs.declared.fault.CertFault.{CertFault}
 use Rattle.sk_cert.specs.declared.fault.CertFault.TheVariants as cert
 use Rattle.sk_app.specs.declared.ending.Ending.{Ending}
-use Rattle.sk_app.specs.declared.ending.Ending.TheVariants.{Completed, NoCompletion, SpentRounds, SpentConflicts, HelpShown, VersionShown, ExecDone, ExecFailed, ExecSkipped, Lowered, Listed, Explained, Met, Accepted, Rejected, NotALine, NotText, NotTyped, TooLarge, NotRun, NotFilled, NotLowered, NotTagged, NotCertificate, ReadFault, WriteFault, TooLong, Memory}
+use Rattle.sk_app.specs.declared.ending.Ending.TheVariants.{Completed, NoCompletion, SpentRounds, SpentConflicts, HelpShown, VersionShown, ExecDone, ExecFailed, ExecSkipped, Lowered, Pruned, Listed, Explained, Met, Accepted, Rejected, NotALine, NotText, NotTyped, TooLarge, NotRun, NotFilled, NotLowered, NotTagged, NotCertificate, ReadFault, WriteFault, TooLong, Memory}
 
 -- The refusal for a fault of a text. Want of memory, which `run` answers as `Memory`, is no fault of it.
 abbrev pub text_refusal : TextFault → Refusal
@@ -115,6 +115,7 @@ status_of ExecDone = 0
 status_of (ExecFailed span) = 4
 status_of (ExecSkipped span) = 5
 status_of Lowered = 0
+status_of Pruned = 0
 status_of Listed = 0
 status_of Explained = 0
 status_of Met = 7
@@ -145,6 +146,7 @@ message_of ExecDone = []
 message_of (ExecFailed span) = []
 message_of (ExecSkipped span) = []
 message_of Lowered = []
+message_of Pruned = []
 message_of Listed = []
 message_of Explained = []
 message_of Met = []

@@ -5,7 +5,7 @@ use Rattle.sk_base.specs.declared.bounds.Budget.{Budget}
 use Rattle.sk_model.specs.declared.outcome.Outcome.{Outcome}
 use Rattle.sk_model.specs.declared.outcome.Outcome.TheVariants as outcome
 use Rattle.sk_app.specs.declared.ending.Ending.{Ending}
-use Rattle.sk_app.specs.declared.ending.Ending.TheVariants.{Completed, NoCompletion, SpentRounds, SpentConflicts, HelpShown, VersionShown, ExecDone, ExecFailed, ExecSkipped, Lowered, Listed, Explained, Met, Accepted, Rejected, NotText, NotTyped, TooLarge, NotRun, NotFilled, ReadFault, WriteFault, TooLong, Memory}
+use Rattle.sk_app.specs.declared.ending.Ending.TheVariants.{Completed, NoCompletion, SpentRounds, SpentConflicts, HelpShown, VersionShown, ExecDone, ExecFailed, ExecSkipped, Lowered, Pruned, Listed, Explained, Met, Accepted, Rejected, NotText, NotTyped, TooLarge, NotRun, NotFilled, ReadFault, WriteFault, TooLong, Memory}
 use Rattle.sk_front.specs.declared.fault.TextFault.{TextFault}
 use Rattle.sk_front.specs.Texts.{most_bytes, IsTextFault, IsSameFault}
 use Rattle.sk_front.specs.declared.fault.SketchFault.{SketchFault}
@@ -45,6 +45,7 @@ writes_nothing ExecDone = false
 writes_nothing (ExecFailed span) = false
 writes_nothing (ExecSkipped span) = false
 writes_nothing Lowered = false
+writes_nothing Pruned = false
 writes_nothing Listed = false
 writes_nothing Explained = false
 writes_nothing Met = false

@@ -67,6 +67,12 @@ pub record ForLower (words : List (List ℕ)) (Holds : Set → Type 0) : Type 0 
   pub is : IsLine words (line.Lower set)
   pub holds : Holds set
 
+-- The words are a line `prune`, and this holds of its options.
+pub record ForPrune (words : List (List ℕ)) (Holds : Set → Type 0) : Type 0 where
+  pub set : Set
+  pub is : IsLine words (line.Prune set)
+  pub holds : Holds set
+
 -- The words are a line `all` with these options, which asks for so many completions at most, and this holds of it.
 pub record ForAll (words : List (List ℕ)) (Holds : Set → ℕ → Type 0) : Type 0 where
   pub set : Set
@@ -97,11 +103,12 @@ abbrev pub line_asking : Set → Question → Line
 line_asking set (question.Which most) = line.All set most
 line_asking set question.Why = line.Why set
 
--- The words are a line that takes a text as it is, with these options: `synth`, `exec` or `trace`, `all` or
+-- The words are a line that takes a text as it is, with these options: `synth`, `exec` or `trace`, `prune`, `all` or
 -- `why`.
 pub data TakesText (words : List (List ℕ)) (set : Set) : Type 0 where
   takes_synth : IsSynth words set → TakesText words set
   takes_job : (job : Job) → IsJob words set job → TakesText words set
+  takes_prune : IsLine words (line.Prune set) → TakesText words set
   takes_all : (most : ℕ) → IsLine words (line.All set most) → TakesText words set
   takes_why : IsLine words (line.Why set) → TakesText words set
 

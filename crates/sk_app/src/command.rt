@@ -21,7 +21,7 @@ ghost use Rattle.sk_app.specs.Effects.{is_of_synth, TellsSpan, Serves, Answers};
 ghost use Rattle.sk_app.specs.Call.{effect, call};
 ghost use Rattle.sk_app.specs.Headline.{Headline};
 ghost use Rattle.sk_app.specs.Listings.{Listings};
-ghost use Rattle.sk_app.specs.Clauses.{TellsNoLine, NoLineEnds, TellsHelp, HelpEnds, TellsVersion, VersionEnds, TellsCompletion, TellsNone, TellsRounds, TellsConflicts, BuiltEnds, SelfEnds, TellsNotText, PlacesNotText, FaultyEnds, TellsNotTyped, PlacesNotTyped, UntypedEnds, TellsTooLarge, LargeEnds, CopiesEnds, TellsTooLong, LongEnds, TellsDone, TellsFailed, TellsSkipped, RunEnds, TellsNotRun, TellsNotFilled, NotRunEnds, TellsLowered, KeepsTypes, LoweredEnds, TellsNotLowered, NotLoweredEnds, TellsNotTagged, NotTaggedEnds, RefusedEnds, TellsListed, ListedEnds, TellsExplained, ExplainedEnds, TellsMet, MetEnds, TellsAccepted, CheckedEnds, AcceptedEnds, TellsRejected, RejectedEnds, TellsNoForm, NoFormEnds, TellsLongInput, LongInputEnds, UntakenEnds, TellsReadFault, TellsWriteFault, CutsOutput, CutsHelp, CutsSummary, CutsVersion, KeepsSink, ReadsFew, LeavesSource};
+ghost use Rattle.sk_app.specs.Clauses.{TellsNoLine, NoLineEnds, TellsHelp, HelpEnds, TellsVersion, VersionEnds, TellsCompletion, TellsNone, TellsRounds, TellsConflicts, BuiltEnds, SelfEnds, TellsNotText, PlacesNotText, FaultyEnds, TellsNotTyped, PlacesNotTyped, UntypedEnds, TellsTooLarge, LargeEnds, CopiesEnds, TellsTooLong, LongEnds, TellsDone, TellsFailed, TellsSkipped, RunEnds, TellsNotRun, TellsNotFilled, NotRunEnds, TellsLowered, KeepsTypes, LoweredEnds, TellsNotLowered, NotLoweredEnds, TellsNotTagged, NotTaggedEnds, RefusedEnds, TellsPruned, KeepsFunctions, PrunedEnds, OpenEnds, TellsListed, ListedEnds, TellsExplained, ExplainedEnds, TellsMet, MetEnds, TellsAccepted, CheckedEnds, AcceptedEnds, TellsRejected, RejectedEnds, TellsNoForm, NoFormEnds, TellsLongInput, LongInputEnds, UntakenEnds, TellsReadFault, TellsWriteFault, CutsOutput, CutsHelp, CutsSummary, CutsVersion, KeepsSink, ReadsFew, LeavesSource};
 
 use crate::check::check_source;
 use crate::direct::{Job, Way, run_source};
@@ -32,6 +32,7 @@ use crate::listing::{Question, ask_source};
 use crate::lower::lower_source;
 use crate::output::deliver;
 use crate::prepare::{Found, Prepared, prepare};
+use crate::prune::prune_source;
 use sk_base::{Budget, Sink, Source};
 use sk_opts::{Line, Set, Usage, options};
 use std::alloc::Global;
@@ -117,6 +118,7 @@ fn serve<S: Source, K: Sink>(alloc: Global, line: Line, source: &mut S, sink: &m
             run_source(alloc, &set, &Job { name, values, way }, source, sink)
         }
         Line::Lower { set } => lower_source(alloc, &set, source, sink),
+        Line::Prune { set } => prune_source(alloc, &set, source, sink),
         Line::All { set, most } => {
             let question = Question::Which { most };
             ask_source(alloc, &set, question, source, sink)
@@ -148,7 +150,7 @@ fn answer<S: Source, K: Sink>(
 /// Runs a command: the words are those behind the program's own name. A line `synth` reads a sketch from the source,
 /// completes it, and writes the result to the sink; a line `exec` runs a function of it, and writes what comes of that; a line
 /// `trace` fills it with numbers, runs a function of the filling, and writes its steps too; a line `lower` writes the plain
-/// sketch of a text with algebraic types; a line `all` lists completions of a sketch, and a line `why` writes inputs that explain why
+/// sketch of a text with algebraic types; a line `prune` writes a program without what no run can reach; a line `all` lists completions of a sketch, and a line `why` writes inputs that explain why
 /// it has none; a line `check` says whether a sketch and a certificate behind it belong together; `--help` and `--version` write their
 /// texts; a line `self` completes a sketch that the program makes itself, and writes a summary.
 ///
@@ -214,6 +216,12 @@ pub fn run<S: Source, K: Sink>(
     ensures not_tagged { TellsNotTagged (call S.Source K.Sink words.now result source sink) }
     ensures ends_not_tagged { NotTaggedEnds (call S.Source K.Sink words.now result source sink) }
     ensures ends_refused { RefusedEnds (call S.Source K.Sink words.now result source sink) }
+
+    // A line `prune`.
+    ensures pruned { TellsPruned (call S.Source K.Sink words.now result source sink) }
+    ensures kept_functions { KeepsFunctions (call S.Source K.Sink words.now result source sink) }
+    ensures ends_pruned { PrunedEnds (call S.Source K.Sink words.now result source sink) }
+    ensures ends_open { OpenEnds (call S.Source K.Sink words.now result source sink) }
 
     // A line `all` or `why`.
     ensures listed { TellsListed (call S.Source K.Sink words.now result source sink) }

@@ -61,6 +61,8 @@ pub enum Ending {
     },
     /// The sink got the plain sketch of the text.
     Lowered,
+    /// The sink got the program of the text without what no run can reach.
+    Pruned,
     /// The sink got a list of completions: all of them, or as many as the line asks for.
     Listed,
     /// There is no completion. The sink got inputs that explain why.
@@ -79,7 +81,7 @@ pub enum Ending {
     NotTyped(TypeFault),
     /// The expansion of its program is too large.
     TooLarge(SizeFault),
-    /// No function of the text is run, for this reason.
+    /// No function of the text is run, for this reason; for a line `prune` the expansion of the text has a site.
     NotRun(ExecFault),
     /// The numbers of the line do not fill the sketch of the text.
     NotFilled(FillFault),
@@ -107,7 +109,7 @@ pub fn status(ending: &Ending) -> u8
 {
     match ending {
         Ending::Completed | Ending::HelpShown | Ending::VersionShown => 0,
-        Ending::ExecDone | Ending::Lowered => 0,
+        Ending::ExecDone | Ending::Lowered | Ending::Pruned => 0,
         Ending::Listed | Ending::Explained => 0,
         Ending::Met => 7,
         Ending::Accepted => 0,
@@ -158,7 +160,7 @@ pub fn message(alloc: Global, ending: &Ending) -> Result<Name, AllocError>
             log: _,
             best: _,
         } => said(alloc, b""),
-        Ending::Lowered => said(alloc, b""),
+        Ending::Lowered | Ending::Pruned => said(alloc, b""),
         Ending::Listed | Ending::Explained | Ending::Met => said(alloc, b""),
         Ending::Accepted | Ending::Rejected(_) => said(alloc, b""),
         Ending::NotCertificate(fault) => cert_message(alloc, *fault),

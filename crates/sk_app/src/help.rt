@@ -15,6 +15,7 @@ sketch synth [OPTION].. < SKETCH               writes the completed sketch, or t
 sketch exec [OPTION].. NAME VALUE.. < PROGRAM  writes what the function NAME gives for the values
 sketch trace [OPTION].. NAME VALUE.. < SKETCH  writes each step of that run, in a filling
 sketch lower [OPTION].. < TEXT                 writes the plain sketch of a text with algebraic types
+sketch prune [OPTION].. < PROGRAM              writes the program without what no run can reach
 sketch all [OPTION].. K < SKETCH               writes the hole values of up to K completions
 sketch why [OPTION].. < SKETCH                 writes inputs that leave no completion, or //@ met
 sketch check [OPTION].. < INPUT                judges what synth --cert wrote, behind the sketch and a line //%%
@@ -43,7 +44,7 @@ fn statuses() -> &'static [u8]
     b"
 It ends with one of these, and from 10 on says more on standard error.
 
-   0  completed, or accepted, or the run is done, or what lower, all or why found is written
+   0  completed, or accepted, or the run is done, or what lower, prune, all or why found is written
    1  no completion meets the harnesses and references on every input
    2  a budget is spent, and no completion is known
    3  a budget is spent; the completion may not cost least
@@ -59,7 +60,7 @@ It ends with one of these, and from 10 on says more on standard error.
   15  standard output failed
   16  the sketch has more than 1048576 bytes, or the input of check more than 67108864
   17  out of memory
-  18  the function cannot be run
+  18  the function cannot be run, or what prune reads is open
   19  behind the sketch stands no certificate
   21  algebraic types of the text have no plain form
   22  the numbers of --holes do not fill the sketch

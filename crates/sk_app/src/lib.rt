@@ -14,6 +14,7 @@ mod listing;
 mod lower;
 mod output;
 mod prepare;
+mod prune;
 mod result_text;
 mod spent;
 

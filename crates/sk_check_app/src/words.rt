@@ -32,7 +32,8 @@ fn options_of(found: Line) -> Option<Set>
     match found {
         Line::Check { set } => Some(set),
         Line::Synth { .. } | Line::Exec { .. } | Line::Trace { .. } | Line::Lower { .. } => None,
-        Line::All { .. } | Line::Why { .. } | Line::Itself { .. } => None,
+        Line::Prune { .. } | Line::All { .. } | Line::Why { .. } => None,
+        Line::Itself { .. } => None,
         Line::Help | Line::Version => None,
     }
 }

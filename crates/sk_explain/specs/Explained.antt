@@ -63,6 +63,7 @@ span_of ending.HelpShown = None
 span_of ending.VersionShown = None
 span_of ending.ExecDone = None
 span_of ending.Lowered = None
+span_of ending.Pruned = None
 span_of ending.Listed = None
 span_of ending.Explained = None
 span_of ending.Met = None

@@ -23,7 +23,8 @@ fn set_of(line: &Line) -> Option<Set>
     match line {
         Line::All { set, .. } | Line::Why { set } => Some(*set),
         Line::Synth { .. } | Line::Exec { .. } | Line::Trace { .. } | Line::Lower { .. } => None,
-        Line::Check { .. } | Line::Itself { .. } | Line::Help | Line::Version => None,
+        Line::Prune { .. } | Line::Check { .. } | Line::Itself { .. } => None,
+        Line::Help | Line::Version => None,
     }
 }
 

@@ -316,6 +316,7 @@ pub fn tell_not_run(
         Ok(Line::Synth { .. } | Line::Lower { .. } | Line::Check { .. } | Line::Itself { .. }) => {
             told.title(&[b"the function is not run"])
         }
+        Ok(Line::Prune { .. }) => told.title(&[b"prune takes no program with an open part"]),
         Ok(Line::All { .. } | Line::Why { .. } | Line::Help | Line::Version) => {
             told.title(&[b"the function is not run"])
         }

@@ -93,7 +93,7 @@ pub fn tell_not_filled(
         Ok(Line::Synth { .. } | Line::Exec { .. } | Line::Lower { .. } | Line::Check { .. }) => {
             told.title(&[b"the numbers do not fill the sketch"])
         }
-        Ok(Line::All { .. } | Line::Why { .. } | Line::Itself { .. }) => {
+        Ok(Line::Prune { .. } | Line::All { .. } | Line::Why { .. } | Line::Itself { .. }) => {
             told.title(&[b"the numbers do not fill the sketch"])
         }
         Ok(Line::Help | Line::Version) | Err(Usage::NotALine) => {

@@ -31,7 +31,7 @@ pub fn set_of(line: &Option<Line>) -> Option<Set>
     match line {
         Some(Line::Synth { set, .. }) => Some(*set),
         Some(Line::Exec { set, .. } | Line::Trace { set, .. }) => Some(*set),
-        Some(Line::Lower { set }) => Some(*set),
+        Some(Line::Lower { set } | Line::Prune { set }) => Some(*set),
         Some(Line::All { set, .. } | Line::Why { set }) => Some(*set),
         Some(Line::Check { .. } | Line::Itself { .. } | Line::Help | Line::Version) => None,
         None => None,
@@ -45,7 +45,7 @@ pub fn lowers(line: &Option<Line>) -> bool
     match line {
         Some(Line::Lower { .. }) => true,
         Some(Line::Synth { .. } | Line::Exec { .. } | Line::Trace { .. }) => false,
-        Some(Line::All { .. } | Line::Why { .. }) => false,
+        Some(Line::Prune { .. } | Line::All { .. } | Line::Why { .. }) => false,
         Some(Line::Check { .. } | Line::Itself { .. } | Line::Help | Line::Version) => false,
         None => false,
     }

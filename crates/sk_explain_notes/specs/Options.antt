@@ -17,13 +17,14 @@ command_word command.Synth = codes "synth"
 command_word command.Exec = codes "exec"
 command_word command.Trace = codes "trace"
 command_word command.Lower = codes "lower"
+command_word command.Prune = codes "prune"
 command_word command.All = codes "all"
 command_word command.Why = codes "why"
 command_word command.Check = codes "check"
 command_word command.Itself = codes "self"
 
 abbrev pub commands : List Command
-commands = command.Synth ∷ command.Exec ∷ command.Trace ∷ command.Lower ∷ command.All ∷ command.Why ∷ command.Check ∷ command.Itself ∷ []
+commands = command.Synth ∷ command.Exec ∷ command.Trace ∷ command.Lower ∷ command.Prune ∷ command.All ∷ command.Why ∷ command.Check ∷ command.Itself ∷ []
 
 -- the one of these that a word is
 abbrev pub command_among : List Command → List ℕ → Option Command

@@ -23,6 +23,7 @@ command_lines =
     ++ one_line (codes "       sketch exec [OPTION].. NAME VALUE.. < PROGRAM")
     ++ one_line (codes "       sketch trace [OPTION].. NAME VALUE.. < SKETCH")
     ++ one_line (codes "       sketch lower [OPTION].. < SKETCH")
+    ++ one_line (codes "       sketch prune [OPTION].. < PROGRAM")
     ++ one_line (codes "       sketch all [OPTION].. K < SKETCH")
     ++ one_line (codes "       sketch why [OPTION].. < SKETCH")
 
@@ -37,7 +38,7 @@ question (Some name) = said (codes "; is " ∷ name ∷ codes " meant?" ∷ [])
 
 -- the commands and the lines of one word
 abbrev pub command_names : List (List ℕ)
-command_names = codes "synth" ∷ codes "exec" ∷ codes "trace" ∷ codes "lower" ∷ codes "all" ∷ codes "why" ∷ codes "check" ∷ codes "self" ∷ codes "--help" ∷ codes "--version" ∷ []
+command_names = codes "synth" ∷ codes "exec" ∷ codes "trace" ∷ codes "lower" ∷ codes "prune" ∷ codes "all" ∷ codes "why" ∷ codes "check" ∷ codes "self" ∷ codes "--help" ∷ codes "--version" ∷ []
 
 -- the names of the options of a command
 abbrev pub names_of : Command → List (List ℕ)

@@ -11,6 +11,7 @@ pub enum Command {
     Exec,
     Trace,
     Lower,
+    Prune,
     All,
     Why,
     Check,
@@ -34,6 +35,7 @@ impl Command {
             Command::Exec => b"exec",
             Command::Trace => b"trace",
             Command::Lower => b"lower",
+            Command::Prune => b"prune",
             Command::All => b"all",
             Command::Why => b"why",
             Command::Check => b"check",
@@ -48,7 +50,8 @@ impl Command {
         match self {
             Command::Synth => !choice.is_holes(),
             Command::Trace => choice.is_holes() || choice.is_bound(),
-            Command::Exec | Command::Lower | Command::Check => choice.is_bound(),
+            Command::Exec | Command::Lower | Command::Prune => choice.is_bound(),
+            Command::Check => choice.is_bound(),
             Command::All | Command::Why => choice.is_bound(),
             Command::Itself => false,
         }
@@ -61,18 +64,19 @@ impl Command {
         match self {
             Command::All => Range { low: 1, high: 100 },
             Command::Synth | Command::Exec | Command::Trace => Range { low: 0, high: 60 },
-            Command::Lower | Command::Why => Range { low: 0, high: 60 },
+            Command::Lower | Command::Prune | Command::Why => Range { low: 0, high: 60 },
             Command::Check | Command::Itself => Range { low: 0, high: 60 },
         }
     }
 }
 
 /// All commands.
-const COMMANDS: [Command; 8] = [
+const COMMANDS: [Command; 9] = [
     Command::Synth,
     Command::Exec,
     Command::Trace,
     Command::Lower,
+    Command::Prune,
     Command::All,
     Command::Why,
     Command::Check,

@@ -171,7 +171,11 @@ impl Walk {
     {
         match self.command {
             Command::Exec | Command::Trace => None,
-            Command::Synth | Command::Lower | Command::Why | Command::Check => Some(Found {
+            Command::Synth | Command::Lower | Command::Prune => Some(Found {
+                slip: Slip::Extra(self.command),
+                word,
+            }),
+            Command::Why | Command::Check => Some(Found {
                 slip: Slip::Extra(self.command),
                 word,
             }),
@@ -272,7 +276,8 @@ impl Walk {
         match self.command {
             Command::Exec | Command::Trace => !self.others,
             Command::All | Command::Itself => !self.others,
-            Command::Synth | Command::Lower | Command::Why | Command::Check => false,
+            Command::Synth | Command::Lower | Command::Prune => false,
+            Command::Why | Command::Check => false,
         }
     }
 

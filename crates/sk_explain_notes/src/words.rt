@@ -23,6 +23,7 @@ fn push_commands(told: &mut Told) -> Result<(), AllocError>
     told.note(&[b"       sketch exec [OPTION].. NAME VALUE.. < PROGRAM"])?;
     told.note(&[b"       sketch trace [OPTION].. NAME VALUE.. < SKETCH"])?;
     told.note(&[b"       sketch lower [OPTION].. < SKETCH"])?;
+    told.note(&[b"       sketch prune [OPTION].. < PROGRAM"])?;
     told.note(&[b"       sketch all [OPTION].. K < SKETCH"])?;
     told.note(&[b"       sketch why [OPTION].. < SKETCH"])?;
     Ok(())
@@ -64,6 +65,7 @@ fn near_command(alloc: Global, word: &[u8]) -> Result<Option<&'static [u8]>, All
             b"exec",
             b"trace",
             b"lower",
+            b"prune",
             b"all",
             b"why",
             b"check",
@@ -128,7 +130,8 @@ fn takes_values(command: Command) -> bool
 {
     match command {
         Command::Exec | Command::Trace => true,
-        Command::Synth | Command::Lower | Command::Check | Command::Itself => false,
+        Command::Synth | Command::Lower | Command::Prune | Command::Check => false,
+        Command::Itself => false,
         Command::All | Command::Why => false,
     }
 }
@@ -380,6 +383,7 @@ fn tell_extra(told: &mut Told, command: Command, word: &[u8]) -> Result<(), Allo
         | Command::Exec
         | Command::Trace
         | Command::Lower
+        | Command::Prune
         | Command::Why
         | Command::Check => {
             push_extra(told, command, word)?;
@@ -429,7 +433,11 @@ fn tell_missing(told: &mut Told, command: Command) -> Result<(), AllocError>
             push_listing(told)?;
             Ok(())
         }
-        Command::Synth | Command::Lower | Command::Why | Command::Check | Command::Itself => {
+        Command::Synth | Command::Lower | Command::Prune | Command::Why => {
+            tell_wants_number(told, command)?;
+            Ok(())
+        }
+        Command::Check | Command::Itself => {
             tell_wants_number(told, command)?;
             Ok(())
         }

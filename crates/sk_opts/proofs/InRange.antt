@@ -18,7 +18,7 @@ use Rattle.sk_opts.specs.Settings.{setting_bytes, lowest, highest, is_flag, is_l
 use Rattle.sk_opts.specs.SpeltValues.{between_commas}
 use Rattle.sk_opts.specs.GivenValues.{long_numbers, given_value}
 use Rattle.sk_opts.specs.CommandLine.{set_of, budget_of}
-use Rattle.sk_opts.specs.Reader.{Piece, Ends, Names, Sets, Plain, Unknown, piece_of, with_setting, with_positional, words_with, words_from, if_once, words_of, if_none, synth_line, exec_with, exec_line, trace_with, trace_line, lower_line, check_line, all_with, all_line, why_line, self_with, self_line, line_of}
+use Rattle.sk_opts.specs.Reader.{Piece, Ends, Names, Sets, Plain, Unknown, piece_of, with_setting, with_positional, words_with, words_from, if_once, words_of, if_none, synth_line, exec_with, exec_line, trace_with, trace_line, lower_line, prune_line, check_line, all_with, all_line, why_line, self_with, self_line, line_of}
 use Rattle.sk_opts.specs.Ranges.{IsBetween, LiesIn, IsInRanges, LineIsInRanges}
 
 -- Values
@@ -204,6 +204,10 @@ lower_lies : (words : Option Words) → WordsLie words → LineLies (lower_line 
 lower_lies None k = tt
 lower_lies (Some w) k = alone_lies w.positionals (line.Lower (set_of w.settings)) (set_lies w.settings k)
 
+prune_lies : (words : Option Words) → WordsLie words → LineLies (prune_line words)
+prune_lies None k = tt
+prune_lies (Some w) k = alone_lies w.positionals (line.Prune (set_of w.settings)) (set_lies w.settings k)
+
 check_lies : (words : Option Words) → WordsLie words → LineLies (check_line words)
 check_lies None k = tt
 check_lies (Some w) k = alone_lies w.positionals (line.Check (set_of w.settings)) (set_lies w.settings k)
@@ -249,19 +253,21 @@ words_line_lies (w ∷ ws) =
     let why : Option Line = cond (is (codes "why")) (why_line (words_of of_bounds ws)) itself in
     let every : Option Line = cond (is (codes "all")) (all_line (words_of of_bounds ws)) why in
     let check : Option Line = cond (is (codes "check")) (check_line (words_of of_bounds ws)) every in
-    let lower : Option Line = cond (is (codes "lower")) (lower_line (words_of of_bounds ws)) check in
+    let prune : Option Line = cond (is (codes "prune")) (prune_line (words_of of_bounds ws)) check in
+    let lower : Option Line = cond (is (codes "lower")) (lower_line (words_of of_bounds ws)) prune in
     let trace : Option Line = cond (is (codes "trace")) (trace_line (words_of of_trace ws)) lower in
     let exec : Option Line = cond (is (codes "exec")) (exec_line (words_of of_bounds ws)) trace in
     choice_lies (is (codes "synth")) (synth_line (words_of of_synth ws)) exec (synth_lies (words_of of_synth ws) (behind of_synth ws))
     (choice_lies (is (codes "exec")) (exec_line (words_of of_bounds ws)) trace (exec_lies (words_of of_bounds ws) (behind of_bounds ws))
     (choice_lies (is (codes "trace")) (trace_line (words_of of_trace ws)) lower (trace_lies (words_of of_trace ws) (behind of_trace ws))
-    (choice_lies (is (codes "lower")) (lower_line (words_of of_bounds ws)) check (lower_lies (words_of of_bounds ws) (behind of_bounds ws))
+    (choice_lies (is (codes "lower")) (lower_line (words_of of_bounds ws)) prune (lower_lies (words_of of_bounds ws) (behind of_bounds ws))
+    (choice_lies (is (codes "prune")) (prune_line (words_of of_bounds ws)) check (prune_lies (words_of of_bounds ws) (behind of_bounds ws))
     (choice_lies (is (codes "check")) (check_line (words_of of_bounds ws)) every (check_lies (words_of of_bounds ws) (behind of_bounds ws))
     (choice_lies (is (codes "all")) (all_line (words_of of_bounds ws)) why (all_lies (words_of of_bounds ws) (behind of_bounds ws))
     (choice_lies (is (codes "why")) (why_line (words_of of_bounds ws)) itself (why_lies (words_of of_bounds ws) (behind of_bounds ws))
     (choice_lies (is (codes "self")) (self_line (words_of [] ws)) help (self_lies (words_of [] ws))
     (choice_lies (is (codes "--help")) (if_none ws line.Help) version (alone_lies ws line.Help tt)
-    (choice_lies (is (codes "--version")) (if_none ws line.Version) None (alone_lies ws line.Version tt) tt)))))))))
+    (choice_lies (is (codes "--version")) (if_none ws line.Version) None (alone_lies ws line.Version tt) tt))))))))))
 
 pub line_in_ranges : (words : List (List ℕ)) (l : Line) → line_of words ≡ Some l → LineIsInRanges l
 line_in_ranges words l e = subst LineLies e (words_line_lies words)

@@ -17,7 +17,7 @@ use Rattle.sk_opts.specs.declared.words.Words.{Words}
 use Rattle.sk_opts.specs.Settings.{setting_bytes, is_flag, of_bounds, of_synth, of_trace, setting_among, number_in, all_once, last_of, last_list}
 use Rattle.sk_opts.specs.GivenValues.{given_value}
 use Rattle.sk_opts.specs.CommandLine.{Part, Apart, Joined, Flag, Positional, part_words, is_option, IsPart, part_settings, part_positionals, end_words, Divides, HasWords, set_of, budget_of, IsLine}
-use Rattle.sk_opts.specs.Reader.{Piece, Ends, Names, Sets, Plain, Unknown, before_equals, after_equals, option_piece, piece_of, with_setting, with_positional, words_with, words_from, if_once, words_of, if_none, synth_line, exec_with, exec_line, trace_with, trace_line, lower_line, check_line, all_with, all_line, why_line, self_with, self_line, line_of}
+use Rattle.sk_opts.specs.Reader.{Piece, Ends, Names, Sets, Plain, Unknown, before_equals, after_equals, option_piece, piece_of, with_setting, with_positional, words_with, words_from, if_once, words_of, if_none, synth_line, exec_with, exec_line, trace_with, trace_line, lower_line, prune_line, check_line, all_with, all_line, why_line, self_with, self_line, line_of}
 use Rattle.sk_opts.proofs.InRange.{same_setting, flag_has_none}
 
 some_none : {X : Type 0} {x : X} → None ≡ Some x → ⊥
@@ -323,6 +323,14 @@ lower_spelt ws (Some w) e =
       | p ∷ ps ↦ λ f. tt
     ] refl
 
+prune_spelt : (ws : List (List ℕ)) (o : Option Words) → words_of of_bounds ws ≡ o → MaySpell (codes "prune" ∷ ws) (prune_line o)
+prune_spelt ws None e = tt
+prune_spelt ws (Some w) e =
+    elim w.positionals as (λ ps. w.positionals ≡ ps → MaySpell (codes "prune" ∷ ws) (if_none ps (line.Prune (set_of w.settings)))) [
+      | [] ↦ λ f. (w, has_words (codes "prune") of_bounds ws w e, f, refl)
+      | p ∷ ps ↦ λ f. tt
+    ] refl
+
 check_spelt : (ws : List (List ℕ)) (o : Option Words) → words_of of_bounds ws ≡ o → MaySpell (codes "check" ∷ ws) (check_line o)
 check_spelt ws None e = tt
 check_spelt ws (Some w) e =
@@ -387,19 +395,21 @@ words_spell (w ∷ ws) =
     let why : Option Line = cond (is (codes "why")) (why_line (words_of of_bounds ws)) itself in
     let every : Option Line = cond (is (codes "all")) (all_line (words_of of_bounds ws)) why in
     let check : Option Line = cond (is (codes "check")) (check_line (words_of of_bounds ws)) every in
-    let lower : Option Line = cond (is (codes "lower")) (lower_line (words_of of_bounds ws)) check in
+    let prune : Option Line = cond (is (codes "prune")) (prune_line (words_of of_bounds ws)) check in
+    let lower : Option Line = cond (is (codes "lower")) (lower_line (words_of of_bounds ws)) prune in
     let trace : Option Line = cond (is (codes "trace")) (trace_line (words_of of_trace ws)) lower in
     let exec : Option Line = cond (is (codes "exec")) (exec_line (words_of of_bounds ws)) trace in
     choice_spelt w (codes "synth") ws (synth_line (words_of of_synth ws)) exec (synth_spelt ws (words_of of_synth ws) refl)
     (choice_spelt w (codes "exec") ws (exec_line (words_of of_bounds ws)) trace (exec_spelt ws (words_of of_bounds ws) refl)
     (choice_spelt w (codes "trace") ws (trace_line (words_of of_trace ws)) lower (trace_spelt ws (words_of of_trace ws) refl)
-    (choice_spelt w (codes "lower") ws (lower_line (words_of of_bounds ws)) check (lower_spelt ws (words_of of_bounds ws) refl)
+    (choice_spelt w (codes "lower") ws (lower_line (words_of of_bounds ws)) prune (lower_spelt ws (words_of of_bounds ws) refl)
+    (choice_spelt w (codes "prune") ws (prune_line (words_of of_bounds ws)) check (prune_spelt ws (words_of of_bounds ws) refl)
     (choice_spelt w (codes "check") ws (check_line (words_of of_bounds ws)) every (check_spelt ws (words_of of_bounds ws) refl)
     (choice_spelt w (codes "all") ws (all_line (words_of of_bounds ws)) why (all_spelt ws (words_of of_bounds ws) refl)
     (choice_spelt w (codes "why") ws (why_line (words_of of_bounds ws)) itself (why_spelt ws (words_of of_bounds ws) refl)
     (choice_spelt w (codes "self") ws (self_line (words_of [] ws)) help (self_spelt ws (words_of [] ws) refl)
     (choice_spelt w (codes "--help") ws (if_none ws line.Help) version (alone_spelt (codes "--help") ws line.Help (λ e. e))
-    (choice_spelt w (codes "--version") ws (if_none ws line.Version) None (alone_spelt (codes "--version") ws line.Version (λ e. e)) tt)))))))))
+    (choice_spelt w (codes "--version") ws (if_none ws line.Version) None (alone_spelt (codes "--version") ws line.Version (λ e. e)) tt))))))))))
 
 pub found_is_line : (words : List (List ℕ)) (l : Line) → line_of words ≡ Some l → IsLine words l
 found_is_line words l e = subst (MaySpell words) e (words_spell words)
@@ -418,6 +428,8 @@ line_is_found words (line.Trace set name values holes) (w, has, some, sets, list
     ap line_of has.first ∙ ap trace_line (words_whole (codes "trace") of_trace words w has) ∙ ap (trace_with (set_of w.settings) (last_list Holes w.settings)) some ∙ rw (sets, lists) refl
 line_is_found words (line.Lower set) (w, has, none, sets) =
     ap line_of has.first ∙ ap lower_line (words_whole (codes "lower") of_bounds words w has) ∙ ap (λ ps. if_none ps (line.Lower (set_of w.settings))) none ∙ rw sets refl
+line_is_found words (line.Prune set) (w, has, none, sets) =
+    ap line_of has.first ∙ ap prune_line (words_whole (codes "prune") of_bounds words w has) ∙ ap (λ ps. if_none ps (line.Prune (set_of w.settings))) none ∙ rw sets refl
 line_is_found words (line.Check set) (w, has, none, sets) =
     ap line_of has.first ∙ ap check_line (words_whole (codes "check") of_bounds words w has) ∙ ap (λ ps. if_none ps (line.Check (set_of w.settings))) none ∙ rw sets refl
 line_is_found words (line.All set most) (w, has, (digits, one, number), sets) =

@@ -7,7 +7,7 @@ use Rattle.sk_opts.specs.declared.setting.Setting.TheVariants.{HoleBits, InputBi
 use Rattle.sk_opts.specs.declared.words.Words.{Words}
 use Rattle.sk_opts.specs.Settings.{number_given, numbers_given, last_of, last_list}
 use Rattle.sk_opts.specs.CommandLine.{set_of, budget_of}
-use Rattle.sk_opts.specs.Reader.{if_none, synth_line, exec_with, exec_line, trace_with, trace_line, lower_line, check_line, all_with, all_line, why_line, self_with, self_line}
+use Rattle.sk_opts.specs.Reader.{if_none, synth_line, exec_with, exec_line, trace_with, trace_line, lower_line, prune_line, check_line, all_with, all_line, why_line, self_with, self_line}
 use Rattle.sk_opts.specs.Matching.{SameWords, SameReading}
 
 same_number : (v w : Words) → SameWords v w → (s : Setting) → last_of s v.settings ≡ last_of s w.settings
@@ -45,6 +45,12 @@ lower_same None None h = refl
 lower_same None (Some w) h = absurd h
 lower_same (Some v) None h = absurd h
 lower_same (Some v) (Some w) h = λ i. if_none (h.0 i) (line.Lower (same_set v w h i))
+
+pub prune_same : (v w : Option Words) → SameReading v w → prune_line v ≡ prune_line w
+prune_same None None h = refl
+prune_same None (Some w) h = absurd h
+prune_same (Some v) None h = absurd h
+prune_same (Some v) (Some w) h = λ i. if_none (h.0 i) (line.Prune (same_set v w h i))
 
 pub check_same : (v w : Option Words) → SameReading v w → check_line v ≡ check_line w
 check_same None None h = refl

@@ -104,6 +104,7 @@ IsLine words (line.Exec set name values) = (w : Words) × HasWords (codes "exec"
 IsLine words (line.Trace set name values holes) =
     (w : Words) × HasWords (codes "trace") of_trace words w × (w.positionals ≡ name ∷ values) × (set ≡ set_of w.settings) × (holes ≡ last_list Holes w.settings)
 IsLine words (line.Lower set) = (w : Words) × HasWords (codes "lower") of_bounds words w × (w.positionals ≡ []) × (set ≡ set_of w.settings)
+IsLine words (line.Prune set) = (w : Words) × HasWords (codes "prune") of_bounds words w × (w.positionals ≡ []) × (set ≡ set_of w.settings)
 IsLine words (line.Check set) = (w : Words) × HasWords (codes "check") of_bounds words w × (w.positionals ≡ []) × (set ≡ set_of w.settings)
 -- one number from 1 to 100
 IsLine words (line.All set most) =

@@ -31,6 +31,7 @@ LineIsInRanges (line.Synth set budget cert) = IsInRanges set
 LineIsInRanges (line.Exec set name values) = IsInRanges set
 LineIsInRanges (line.Trace set name values holes) = IsInRanges set
 LineIsInRanges (line.Lower set) = IsInRanges set
+LineIsInRanges (line.Prune set) = IsInRanges set
 LineIsInRanges (line.Check set) = IsInRanges set
 LineIsInRanges (line.All set most) = IsInRanges set × IsBetween 1 100 (Some most)
 LineIsInRanges (line.Why set) = IsInRanges set

@@ -116,6 +116,10 @@ abbrev pub lower_line : Option Words → Option Line
 lower_line None = None
 lower_line (Some w) = if_none w.positionals (line.Lower (set_of w.settings))
 
+abbrev pub prune_line : Option Words → Option Line
+prune_line None = None
+prune_line (Some w) = if_none w.positionals (line.Prune (set_of w.settings))
+
 abbrev pub check_line : Option Words → Option Line
 check_line None = None
 check_line (Some w) = if_none w.positionals (line.Check (set_of w.settings))
@@ -152,10 +156,11 @@ line_of (w ∷ ws) =
     else (if bytes_eq w (codes "exec") then exec_line (words_of of_bounds ws)
     else (if bytes_eq w (codes "trace") then trace_line (words_of of_trace ws)
     else (if bytes_eq w (codes "lower") then lower_line (words_of of_bounds ws)
+    else (if bytes_eq w (codes "prune") then prune_line (words_of of_bounds ws)
     else (if bytes_eq w (codes "check") then check_line (words_of of_bounds ws)
     else (if bytes_eq w (codes "all") then all_line (words_of of_bounds ws)
     else (if bytes_eq w (codes "why") then why_line (words_of of_bounds ws)
     else (if bytes_eq w (codes "self") then self_line (words_of [] ws)
     else (if bytes_eq w (codes "--help") then if_none ws line.Help
     else (if bytes_eq w (codes "--version") then if_none ws line.Version
-    else None)))))))))
+    else None))))))))))

@@ -47,6 +47,10 @@ pub enum Line {
     Lower {
         set: Set,
     },
+    /// Write a program without what no run can reach.
+    Prune {
+        set: Set,
+    },
     /// Check a certificate.
     Check {
         set: Set,

@@ -3,7 +3,7 @@ ghost use Rattle.std.specs.Prelude.{◌≡◌, [], ◌∷◌, ℕ, None, map, un
 ghost use Rattle.std.specs.String.{string_bytes};
 ghost use Rattle.sk_opts.specs.Settings.{is_of, number_given, numbers_given, last_of, last_list, of_bounds, of_synth, of_trace};
 ghost use Rattle.sk_opts.specs.CommandLine.{set_of, budget_of, IsLine};
-ghost use Rattle.sk_opts.specs.Reader.{if_none, synth_line, exec_with, exec_line, trace_with, trace_line, lower_line, check_line, all_with, all_line, why_line, self_with, self_line, words_of, line_of};
+ghost use Rattle.sk_opts.specs.Reader.{if_none, synth_line, exec_with, exec_line, trace_with, trace_line, lower_line, prune_line, check_line, all_with, all_line, why_line, self_with, self_line, words_of, line_of};
 ghost use Rattle.sk_opts.specs.Ranges.{LineIsInRanges};
 ghost use Rattle.sk_opts.specs.Told.{IsTold};
 ghost use Rattle.sk_opts.specs.declared.line.Line.{Line};
@@ -159,6 +159,20 @@ fn lower_line(words: Option<Words>) -> Option<Line>
         None => None,
         Some(words) => {
             let line = Line::Lower {
+                set: set_of(words.settings.as_slice()),
+            };
+            if_none(words.positionals.as_slice(), line)
+        }
+    }
+}
+
+fn prune_line(words: Option<Words>) -> Option<Line>
+    ensures { result ≡ prune_line words }
+{
+    match words {
+        None => None,
+        Some(words) => {
+            let line = Line::Prune {
                 set: set_of(words.settings.as_slice()),
             };
             if_none(words.positionals.as_slice(), line)
@@ -327,6 +341,13 @@ fn lower_of(alloc: Global, words: &[String]) -> Result<Option<Line>, AllocError>
     Ok(lower_line(words_of(alloc, &OF_BOUNDS, words)?))
 }
 
+#[tactic(auto, using(crate::proofs::SameLines::prune_same))]
+fn prune_of(alloc: Global, words: &[String]) -> Result<Option<Line>, AllocError>
+    ensures { IfOk result (λ line. line ≡ prune_line (words_of of_bounds (map string_bytes words.now))) }
+{
+    Ok(prune_line(words_of(alloc, &OF_BOUNDS, words)?))
+}
+
 #[tactic(auto, using(crate::proofs::SameLines::check_same))]
 fn check_of(alloc: Global, words: &[String]) -> Result<Option<Line>, AllocError>
     ensures { IfOk result (λ line. line ≡ check_line (words_of of_bounds (map string_bytes words.now))) }
@@ -378,6 +399,8 @@ fn line_behind(alloc: Global, command: &[u8], words: &[String]) -> Result<Option
         Ok(trace_of(alloc, words)?)
     } else if command == b"lower".as_slice() {
         Ok(lower_of(alloc, words)?)
+    } else if command == b"prune".as_slice() {
+        Ok(prune_of(alloc, words)?)
     } else if command == b"check".as_slice() {
         Ok(check_of(alloc, words)?)
     } else if command == b"all".as_slice() {

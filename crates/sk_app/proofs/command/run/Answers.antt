@@ -1,7 +1,7 @@
 use Rattle.sk_app.proofs.EffectLaws as laws
 use Rattle.sk_app.proofs.HeadlineLaws.{headline}
 use Rattle.sk_app.proofs.ListingsLaws.{listings}
-use Rattle.sk_app.proofs.KeptLaws.{kept_types}
+use Rattle.sk_app.proofs.KeptLaws.{kept_types, kept_functions}
 use Rattle.sk_app.proofs.command.run.Goals as goal
 
 pub returns-clause-headline : goal.returns-clause-headline
@@ -117,6 +117,18 @@ returns-clause-ends_run g c = laws.ends_run c.answer-ending.ensures
 
 pub returns-clause-ends_not_run : goal.returns-clause-ends_not_run
 returns-clause-ends_not_run g c = laws.ends_not_run c.answer-ending.ensures
+
+pub returns-clause-pruned : goal.returns-clause-pruned
+returns-clause-pruned g c = laws.pruned c.answer-ending.ensures
+
+pub returns-clause-kept_functions : goal.returns-clause-kept_functions
+returns-clause-kept_functions g c = kept_functions c.answer-ending.ensures
+
+pub returns-clause-ends_pruned : goal.returns-clause-ends_pruned
+returns-clause-ends_pruned g c = laws.ends_pruned c.answer-ending.ensures
+
+pub returns-clause-ends_open : goal.returns-clause-ends_open
+returns-clause-ends_open g c = laws.ends_open c.answer-ending.ensures
 
 pub returns-clause-lowered : goal.returns-clause-lowered
 returns-clause-lowered g c = laws.lowered c.answer-ending.ensures

@@ -4,6 +4,9 @@ use Rattle.sk_app.proofs.command.serve.Goals as goal
 pub returns-in-Lower : goal.returns-in-Lower
 returns-in-Lower g c = rw c.in-Lower.is c.lower_source.ensures
 
+pub returns-in-Prune : goal.returns-in-Prune
+returns-in-Prune g c = rw c.in-Prune.is c.prune_source.ensures
+
 pub returns-in-All : goal.returns-in-All
 returns-in-All g c = rw c.in-All.is c.ask_source.ensures
 

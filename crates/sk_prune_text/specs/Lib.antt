@@ -1,0 +1,3 @@
+pub mod PrunedTexts
+pub mod Kept
+pub mod Laws
