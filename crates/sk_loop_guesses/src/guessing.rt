@@ -15,6 +15,9 @@ use sk_oblig_queries::{Query, obligations};
 use sk_prog::{Elem, FunId, ParamDef, Prog, Ty};
 use std::alloc::{AllocError, Global};
 
+/// Nothing is guessed for programs of more obligations: each guess runs all of them, and each run walks the whole program.
+const MOST_OBLIGATIONS: usize = 64;
+
 // By how many bits an element is said.
 fn bits_of_elem(elem: Elem, inbits: u32) -> u64 {
     match elem {
@@ -147,6 +150,9 @@ pub fn guess(
         limit,
     };
     let all = obligations(alloc, &expanded.prog)?;
+    if all.as_slice().len() > MOST_OBLIGATIONS {
+        return Ok(None);
+    }
     let counts = counts_of(alloc, &expanded.prog, bounds.inbits, all.as_slice())?;
     let counts = counts.as_slice();
     let tried = patterns(alloc, greatest(counts))?;
