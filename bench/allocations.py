@@ -112,7 +112,7 @@ harness void main(int x, bit c) {
 }
 """
 
-# What the runs are: words, a file of examples/ or a text, and the status with ample memory. `exec` and `trace` run what EVERY is completed to, and `check` has
+# What the runs are: words, a file of examples/ or a text, and the status with ample memory. `exec`, `trace` and `prune` read what EVERY is completed to, and `check` has
 # behind the sketch what `synth --cert` writes for it.
 RUNS = [
     ("synth", EVERY, 0),
@@ -133,6 +133,8 @@ RUNS = [
     ("trace main 2 1", EVERY, 0),
     ("trace f 1 --holes 2", "void f(int x) { assert x == ??; } harness void main() { }", 4),
     ("lower", "expression.sk", 0),
+    ("prune", EVERY, 0),
+    ("prune", "doubled.sk", 18),
     ("all 3", "doubled.sk", 0),
     ("why", "no_multiple.sk", 0),
     ("why", "doubled.sk", 7),
@@ -151,7 +153,7 @@ RUNS = [
 
 
 def text_of(program, words, named):
-    if named is EVERY and words.startswith(("exec", "trace")):
+    if named is EVERY and words.startswith(("exec", "trace", "prune")):
         return subprocess.run([program, "synth"], input=EVERY.encode(), capture_output=True, check=True).stdout
     if not named.endswith(".sk"):
         return named.encode()

@@ -42,6 +42,13 @@ LINES = [
     ),
     ("trace, failed", "trace main 1 --holes 0", "harness void main(int x) { assert x + ?? == x * 2; }\n", 4, "1 27 50 false\nfailed 27 50\n"),
     ("lower", "lower", "int f(int x){return x+1;}\n", 0, "int f(int x) {\n    return x + 1;\n}\n"),
+    (
+        "prune",
+        "prune",
+        "int f(int x) { return x; }\nharness void main(int x) { if (0) { assert f(x) == 1; } assert x == x; }\n",
+        0,
+        "harness void main(int x) {\n    assert x == x;\n}\n",
+    ),
     ("all", "all 5", "harness void main(int x) { int n = ??(2); assert n > 1; minimize(n / 2); }\n", 0, "//@ holes 2\n//@ holes 3\n//@ all\n"),
     ("why, an input", "why", "harness void main(int x) { assert x != 7; }\n", 0, "//@ input 0 7\n//@ why 1\n"),
     ("why, a choice", "why", DOUBLED, 7, "//@ met\n//@ holes 2\n"),
@@ -69,6 +76,7 @@ LINES = [
 # (title, words, text, status, the message)
 REFUSED = [
     ("a text that is refused", "synth", "void f() { y = 1; }\n", 12, " type 1 11 12"),
+    ("a text with an open part", "prune", "void f() { int x = ??; }\n", 18, " exec Unfilled"),
     ("a function that is not there", "exec g", "void f() { }\n", 18, " exec NoFunction"),
     ("a certificate of another form", "check", f"{RECORD}//%%\n{CERTIFIED.replace('certificate 2', 'certificate 7')}", 19, " certificate Version 7"),
     ("no line", "synth exec", "", 10, " usage"),

@@ -146,7 +146,7 @@ fn exclude_one(
 
 /// Excludes listed choices from a formula that has a name for each bit of each site: for each a clause is added by which
 /// the names say a choice that differs from it in the value of some site that stands under it. After a refusal the formula
-/// may have some of these clauses.
+/// may have some of these clauses, and is given up by the caller, which made it for this one question.
 ///
 /// # Errors
 ///
