@@ -95,7 +95,7 @@ fn is_cheap(
 // Has each literal of clause i know it.
 fn note(lists: &mut Lists, i: usize, clause: &[Packed]) -> Result<(), AllocError> {
     for packed in clause {
-        lists.push(packed.code(), Watch::new(i, false, NONE))?;
+        lists.push(packed.code(), Watch::new(i, true, NONE))?;
     }
     Ok(())
 }
@@ -188,7 +188,7 @@ fn find(
     found.clear();
     let (start, end) = lists.range(code_of(l));
     for at in start..end {
-        let i = lists.get(at).clause();
+        let i = lists.get(at).target();
         if watches.is_counted(i) {
             if found.len() >= CLAUSES {
                 return Ok(false);

@@ -4,6 +4,7 @@
 
 mod activity;
 mod analysis;
+mod blocks;
 mod codes;
 mod eliminated;
 mod elimination;

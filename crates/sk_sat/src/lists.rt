@@ -5,8 +5,8 @@ use std::alloc::{AllocError, Global};
 /// A clause that watches a literal, and another literal of it: where that is true, the clause is not looked at.
 #[derive(Clone, Copy, Drop)]
 pub struct Watch {
-    /// Twice the number of the clause, and one more where it has two literals.
-    clause: u32,
+    /// Twice the place of the clause's block, or twice its number and one more.
+    target: u32,
     pub other: u32,
 }
 
@@ -14,11 +14,11 @@ pub struct Watch {
 const ROOM: u32 = 4;
 
 impl Watch {
-    /// The watch of clause i, which may be one of two literals.
-    pub fn new(i: usize, is_pair: bool, other: u32) -> Watch {
-        let twice = place_of(i).saturating_mul(2);
+    /// A watch that has the place of the clause's block, or the clause's number.
+    pub fn new(target: usize, is_number: bool, other: u32) -> Watch {
+        let twice = place_of(target).saturating_mul(2);
         Watch {
-            clause: if is_pair {
+            target: if is_number {
                 twice.saturating_add(1)
             } else {
                 twice
@@ -30,7 +30,7 @@ impl Watch {
     // No watch.
     fn none() -> Watch {
         Watch {
-            clause: NONE,
+            target: NONE,
             other: NONE,
         }
     }
@@ -38,19 +38,19 @@ impl Watch {
     /// The same beside another literal.
     pub fn beside(self, other: u32) -> Watch {
         Watch {
-            clause: self.clause,
+            target: self.target,
             other,
         }
     }
 
-    /// The number of the clause.
-    pub fn clause(self) -> usize {
-        (self.clause / 2) as usize
+    /// The place of the clause's block, or the clause's number.
+    pub fn target(self) -> usize {
+        (self.target / 2) as usize
     }
 
-    /// Whether the clause has two literals.
-    pub fn is_pair(self) -> bool {
-        self.clause % 2 == 1
+    /// Whether it has the clause's number.
+    pub fn is_number(self) -> bool {
+        self.target % 2 == 1
     }
 }
 

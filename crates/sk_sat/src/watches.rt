@@ -6,7 +6,8 @@ ghost use Rattle.sk_sat.specs.Analysis.{IsFalsified};
 ghost use Rattle.sk_sat.specs.declared.watches.Visit.TheVariants.{Falsified};
 
 use crate::activity::Activity;
-use crate::codes::{NONE, code_of, is_false, is_true, opposite, place_of};
+use crate::blocks::{Blocks, Term};
+use crate::codes::{NONE, code_of, is_true, opposite, place_of};
 use crate::known::Known;
 use crate::lists::{Lists, Watch};
 use crate::packed::Packed;
@@ -22,10 +23,8 @@ enum Use {
     Added,
     /// It is a resolvent that stands for eliminated clauses, and always does.
     Resolvent,
-    /// It was learnt, and always does.
-    Always,
-    /// It was learnt, and does until it rests: until so many more were learnt since it forced a literal or was false.
-    Last { at: u32, rest: u32 },
+    /// It was learnt, and does until it rests.
+    Learnt,
     /// It was added, and does not before its eliminated variable is back.
     Asleep,
     /// The same of a resolvent.
@@ -34,49 +33,10 @@ enum Use {
     Over,
 }
 
-/// Learnt clauses of so many literals always watch.
-const SHORT: usize = 3;
-
-/// Learnt clauses whose literals had so many levels always watch.
-const CLOSE: u32 = 2;
-
-/// Learnt clauses whose literals had so many levels rest late.
-const NEAR: u32 = 6;
-
-/// A learnt clause whose literals had few levels stops watching when so many more were learnt since it was of use. It
-/// stays in the list of clauses, and can be a reason.
-const LATE: u32 = 10_000;
-
-/// The same of other learnt clauses.
-const EARLY: u32 = 1000;
-
 impl Use {
-    // The use of a clause that has just been learnt.
-    fn of_learnt(len: usize, glue: u32, now: u32) -> Use {
-        if len <= SHORT || glue <= CLOSE {
-            return Use::Always;
-        }
-        Use::Last {
-            at: now,
-            rest: if glue <= NEAR { LATE } else { EARLY },
-        }
-    }
-
-    // Whether a clause has stopped watching when so many have been learnt.
-    fn is_over(self, now: u32) -> bool {
-        match self {
-            Use::Added | Use::Resolvent | Use::Always => false,
-            Use::Last { at, rest } => at.saturating_add(rest) < now,
-            Use::Asleep | Use::Waiting | Use::Over => true,
-        }
-    }
-
-    // The use of a clause that has just been of use.
-    fn renewed(self, now: u32) -> Use {
-        match self {
-            Use::Last { rest, .. } => Use::Last { at: now, rest },
-            other => other,
-        }
+    // Whether a clause watches, if it does not rest.
+    fn is_awake(self) -> bool {
+        matches!(self, Use::Added | Use::Resolvent | Use::Learnt)
     }
 
     // Whether an elimination has to do with the clause: the others follow from those.
@@ -103,11 +63,10 @@ impl Use {
     }
 }
 
-/// Where the literals of a clause begin and end among those of all, and whether it watches.
+/// Where the block of a clause begins, and whether it watches.
 #[derive(Clone, Copy, Drop)]
 struct Row {
     start: u32,
-    end: u32,
     used: Use,
 }
 
@@ -116,8 +75,7 @@ struct Row {
 #[derive(Drop)]
 pub struct Watches {
     lists: Lists,
-    /// The literals of the clauses, one clause behind another, in each the watched ones first.
-    codes: Vec<u32>,
+    blocks: Blocks,
     rows: Vec<Row>,
     /// So many clauses, from the first on, have their watches.
     ready: usize,
@@ -137,41 +95,8 @@ pub enum Visit {
     Stays(u32),
     /// It watches it no more.
     Leaves,
-    /// Each literal of it is false.
-    Falsified,
-}
-
-// Puts a literal that is not false into the second place, if there is one that is not watched.
-fn replace(codes: &mut [u32], values: &[Option<bool>], other: u32) -> Option<u32> {
-    for p in 2..codes.len() {
-        let code = codes[p];
-        if !is_false(values, code) && code != other {
-            codes.swap(p, 1);
-            return Some(code);
-        }
-    }
-    None
-}
-
-// Brings a watched literal to the second place. The other watched one.
-fn turn_over(codes: &mut [u32], gone: u32) -> u32 {
-    if codes.len() < 2 {
-        return NONE;
-    }
-    if codes[0] == gone {
-        codes.swap(0, 1);
-    }
-    codes[0]
-}
-
-// Brings a literal to a place.
-fn bring(codes: &mut [u32], code: u32, place: usize) {
-    for p in place..codes.len() {
-        if codes[p] == code {
-            codes.swap(p, place);
-            return;
-        }
-    }
+    /// Each literal of the clause of this number is false.
+    Falsified(usize),
 }
 
 // The level of a literal's variable.
@@ -194,12 +119,31 @@ fn deepest_of(level: &[usize], clause: &[Packed], other: Lit) -> Lit {
     best
 }
 
+// Looks at clause i, of which no other literal is left to watch.
+#[tactic(auto, using(crate::proofs::PropagateLemmas::passes))]
+fn look(trail: &mut Trail, known: &Known, i: usize, other: u32) -> Result<Visit, AllocError>
+    requires trail { IsTrail known.now trail.old }
+    requires within { AreWithin (length trail.old.values.items) known.now }
+    ensures trail { OnOk result (IsTrail known.now trail.new) }
+    ensures extends { OnOk result (Extends trail.old trail.new) }
+    ensures falsified { IfOk result (λ seen. (j : ℕ) → seen ≡ Falsified j → IsFalsified known.now trail.new.values.items j) }
+{
+    if i >= known.len() {
+        return Ok(Visit::Leaves);
+    }
+    match look_at(trail, known, i)? {
+        Look::Falsified => Ok(Visit::Falsified(i)),
+        Look::Forced => Ok(Visit::Stays(other)),
+        Look::Settled(_, _) => Ok(Visit::Stays(other)),
+    }
+}
+
 impl Watches {
     /// No variables, and no watches. It takes no memory.
     pub fn new(alloc: Global) -> Watches {
         Watches {
             lists: Lists::new(alloc),
-            codes: Vec::new(alloc),
+            blocks: Blocks::new(alloc),
             rows: Vec::new(alloc),
             ready: 0,
             learnt: 0,
@@ -231,63 +175,40 @@ impl Watches {
         self.rows.len()
     }
 
-    // Makes the watches of the next clause, which watch nothing.
-    fn make(&mut self, clause: &[Packed], first_use: Use) -> Result<(), AllocError> {
-        let start = place_of(self.codes.len());
-        for packed in clause {
-            self.codes.push(packed.code())?;
-        }
-        self.rows.push(Row {
-            start,
-            end: place_of(self.codes.len()),
-            used: first_use,
-        })?;
+    // Makes the block of the next clause, which watches nothing.
+    fn make(&mut self, clause: &[Packed], used: Use, term: Term) -> Result<(), AllocError> {
+        let start = self.blocks.push(self.rows.len(), clause, term)?;
+        self.rows.push(Row { start, used })?;
         Ok(())
     }
 
-    // Where the literals of a clause begin and end.
-    fn range(&self, i: usize) -> (usize, usize)
-        ensures order { result.0 ≤ result.1 }
-        ensures within { result.1 ≤ length self.now.codes.items }
-    {
-        if i >= self.rows.len() {
-            return (0, 0);
-        }
-        let start = self.rows[i].start as usize;
-        let end = self.rows[i].end as usize;
-        if start <= end && end <= self.codes.len() {
-            (start, end)
+    // The place of a clause's block.
+    fn start(&self, i: usize) -> usize {
+        if i < self.rows.len() {
+            self.rows[i].start as usize
         } else {
-            (0, 0)
+            NONE as usize
         }
     }
 
-    // Has a clause watch two literals of it, if they are two.
+    // Has a clause watch two literals of it, if they are two. Where it has no others, its watches have its number.
     fn set(&mut self, i: usize, a: Lit, b: Lit) -> Result<(), AllocError> {
         if a.is(b) {
             return Ok(());
         }
         let (a, b) = (code_of(a), code_of(b));
-        let (start, end) = self.range(i);
-        let codes = &mut self.codes[start..end];
-        bring(codes, a, 0);
-        bring(codes, b, 1);
-        let is_pair = end - start == 2;
-        self.lists.push(a, Watch::new(i, is_pair, b))?;
-        self.lists.push(b, Watch::new(i, is_pair, a))?;
+        let start = self.start(i);
+        let is_pair = self.blocks.bring(start, a, b);
+        let target = if is_pair { i } else { start };
+        self.lists.push(a, Watch::new(target, is_pair, b))?;
+        self.lists.push(b, Watch::new(target, is_pair, a))?;
         Ok(())
     }
 
     // Whether a clause has stopped watching. Its watches leave the lists when they are next met.
     fn is_forgotten(&self, i: usize) -> bool {
-        i < self.rows.len() && self.rows[i].used.is_over(self.learnt)
-    }
-
-    // A clause has been of use.
-    fn renew(&mut self, i: usize) {
-        if i < self.rows.len() {
-            self.rows[i].used = self.rows[i].used.renewed(self.learnt);
-        }
+        i < self.rows.len()
+            && (!self.rows[i].used.is_awake() || self.blocks.is_over(self.start(i), self.learnt))
     }
 
     // Whether a level is met for the first time since the count began.
@@ -320,8 +241,8 @@ impl Watches {
         if let [front @ .., _] = clause {
             glue = self.glue_of(front, level).saturating_add(1);
         }
-        let first_use = Use::of_learnt(clause.len(), glue, self.learnt);
-        self.make(clause, first_use)?;
+        let term = Term::of_learnt(clause.len(), glue, self.learnt);
+        self.make(clause, Use::Learnt, term)?;
         self.ready = self.len();
         if let [front @ .., turn] = clause {
             let turn = turn.lit();
@@ -332,7 +253,7 @@ impl Watches {
 
     /// Makes the watches of a resolvent that was added, which watch nothing yet.
     pub fn resolvent(&mut self, clause: &[Packed]) -> Result<(), AllocError> {
-        self.make(clause, Use::Resolvent)
+        self.make(clause, Use::Resolvent, Term::always())
     }
 
     /// Whether an elimination counts a clause: it was added, or is a resolvent, and has no eliminated variable.
@@ -351,8 +272,7 @@ impl Watches {
 
     // Whether a clause has a hidden variable.
     fn is_hidden(&self, i: usize, activity: &Activity) -> bool {
-        let (start, end) = self.range(i);
-        for code in &self.codes[start..end] {
+        for code in self.blocks.literals(self.start(i)) {
             if activity.is_hidden((*code / 2) as usize) {
                 return true;
             }
@@ -392,12 +312,12 @@ impl Watches {
         }
     }
 
-    // Makes the watches of clause i, if it has none, which watch nothing.
+    // Makes the block of clause i, which watches nothing, if it has none.
     fn open(&mut self, i: usize, clause: &[Packed]) -> Result<(), AllocError> {
         if i < self.rows.len() {
             return Ok(());
         }
-        self.make(clause, Use::Added)
+        self.make(clause, Use::Added, Term::always())
     }
 
     // Makes the watches of the clauses that have none yet, and makes literals true that they force. A false one.
@@ -424,104 +344,62 @@ impl Watches {
         Ok(None)
     }
 
-    // Brings the watched literal of a clause that became false to the second place. The other watched one.
-    fn turned(&mut self, i: usize, gone: u32) -> u32 {
-        let (start, end) = self.range(i);
-        turn_over(&mut self.codes[start..end], gone)
-    }
-
-    // Puts a literal that is not false into the second place of a clause, if there is one.
-    fn replaced(&mut self, values: &[Option<bool>], i: usize, other: u32) -> Option<u32> {
-        let (start, end) = self.range(i);
-        replace(&mut self.codes[start..end], values, other)
-    }
-
-    // Deals with a clause that watches a literal which became false, where no other literal is there to watch.
-    #[tactic(auto, using(crate::proofs::PropagateLemmas::passes))]
-    fn look(
-        &mut self,
-        trail: &mut Trail,
-        known: &Known,
-        i: usize,
-        other: u32,
-    ) -> Result<Visit, AllocError>
-        requires trail { IsTrail known.now trail.old }
-        requires within { AreWithin (length trail.old.values.items) known.now }
-        ensures trail { OnOk result (IsTrail known.now trail.new) }
-        ensures extends { OnOk result (Extends trail.old trail.new) }
-        ensures falsified { IfOk result (λ seen. seen ≡ Falsified → IsFalsified known.now trail.new.values.items i) }
-    {
-        if i >= known.len() {
-            return Ok(Visit::Leaves);
-        }
-        match look_at(trail, known, i)? {
-            Look::Falsified => {
-                self.renew(i);
-                Ok(Visit::Falsified)
-            }
-            Look::Forced => {
-                self.renew(i);
-                Ok(Visit::Stays(other))
-            }
-            Look::Settled(_, _) => Ok(Visit::Stays(other)),
-        }
-    }
-
-    // Deals with clause i, which watches a literal that became false.
+    // Deals with the clause whose block is at a place, and which watches a literal that became false.
     #[tactic(auto, using(crate::proofs::PropagateLemmas::passes))]
     fn visit(
         &mut self,
         trail: &mut Trail,
         known: &Known,
         gone: u32,
-        i: usize,
         watch: Watch,
     ) -> Result<Visit, AllocError>
         requires trail { IsTrail known.now trail.old }
         requires within { AreWithin (length trail.old.values.items) known.now }
         ensures trail { OnOk result (IsTrail known.now trail.new) }
         ensures extends { OnOk result (Extends trail.old trail.new) }
-        ensures falsified { IfOk result (λ seen. seen ≡ Falsified → IsFalsified known.now trail.new.values.items i) }
+        ensures falsified { IfOk result (λ seen. (i : ℕ) → seen ≡ Falsified i → IsFalsified known.now trail.new.values.items i) }
     {
-        if self.is_forgotten(i) {
+        let start = watch.target();
+        if self.blocks.is_over(start, self.learnt) {
             return Ok(Visit::Leaves);
         }
-        let other = self.turned(i, gone);
+        let other = self.blocks.turned(start, gone);
         if is_true(&trail.values, other) {
             return Ok(Visit::Stays(other));
         }
-        if let Some(code) = self.replaced(&trail.values, i, other) {
+        if let Some(code) = self.blocks.replaced(&trail.values, start, other) {
             self.lists.push(code, watch.beside(other))?;
             return Ok(Visit::Leaves);
         }
-        let seen = self.look(trail, known, i, other)?;
+        self.blocks.renew(start, self.learnt);
+        let i = self.blocks.number(start);
+        let seen = look(trail, known, i, other)?;
         Ok(seen)
     }
 
-    // Deals with clause i, which may have two literals, and watches a literal that became false.
+    // Deals with a clause that may have two literals, and watches a literal that became false.
     #[tactic(auto, using(crate::proofs::PropagateLemmas::passes))]
     fn meet(
         &mut self,
         trail: &mut Trail,
         known: &Known,
         gone: u32,
-        i: usize,
         watch: Watch,
     ) -> Result<Visit, AllocError>
         requires trail { IsTrail known.now trail.old }
         requires within { AreWithin (length trail.old.values.items) known.now }
         ensures trail { OnOk result (IsTrail known.now trail.new) }
         ensures extends { OnOk result (Extends trail.old trail.new) }
-        ensures falsified { IfOk result (λ seen. seen ≡ Falsified → IsFalsified known.now trail.new.values.items i) }
+        ensures falsified { IfOk result (λ seen. (i : ℕ) → seen ≡ Falsified i → IsFalsified known.now trail.new.values.items i) }
     {
         if is_true(&trail.values, watch.other) {
             return Ok(Visit::Stays(watch.other));
         }
-        if watch.is_pair() {
-            let seen = self.look(trail, known, i, watch.other)?;
+        if watch.is_number() {
+            let seen = look(trail, known, watch.target(), watch.other)?;
             return Ok(seen);
         }
-        let seen = self.visit(trail, known, gone, i, watch)?;
+        let seen = self.visit(trail, known, gone, watch)?;
         Ok(seen)
     }
 
@@ -543,14 +421,13 @@ impl Watches {
         let mut kept = start;
         for at in start..end {
             let watch = self.lists.get(at);
-            let i = watch.clause();
-            match self.meet(trail, known, gone, i, watch)? {
+            match self.meet(trail, known, gone, watch)? {
                 Visit::Stays(other) => {
                     self.lists.put(kept, watch.beside(other));
                     kept = kept.saturating_add(1);
                 }
                 Visit::Leaves => {}
-                Visit::Falsified => {
+                Visit::Falsified(i) => {
                     self.lists.close(gone, kept, at);
                     return Ok(Some(i));
                 }
