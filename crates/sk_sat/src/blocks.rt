@@ -5,12 +5,10 @@ use crate::codes::{NONE, is_false, place_of};
 use crate::packed::Packed;
 use std::alloc::{AllocError, Global};
 
-/// The numbers before the literals of a block.
+/// So many numbers of a block are its head.
 const HEAD: usize = 4;
 
-/// Among these the places of the block's end, and of its term.
-const END: usize = 1;
-
+/// The place in a block of the number that a use of its clause changes.
 const UNTIL: usize = 2;
 
 /// Learnt clauses of so many literals always watch.
@@ -74,7 +72,7 @@ struct Head {
 /// first. No contract says that they are right: wrong ones would only make the search slower.
 #[derive(Drop)]
 pub struct Blocks {
-    codes: Vec<u32>,
+    numbers: Vec<u32>,
 }
 
 // Puts a literal that is not false into the second place, if there is one that is not watched.
@@ -114,28 +112,28 @@ impl Blocks {
     /// None. It takes no memory.
     pub fn new(alloc: Global) -> Blocks {
         Blocks {
-            codes: Vec::new(alloc),
+            numbers: Vec::new(alloc),
         }
     }
 
     /// Makes the block of clause i. Its place.
     pub fn push(&mut self, i: usize, clause: &[Packed], term: Term) -> Result<u32, AllocError> {
-        let start = self.codes.len();
+        let start = self.numbers.len();
         let end = start.saturating_add(HEAD).saturating_add(clause.len());
-        self.codes.push(place_of(i))?;
-        self.codes.push(place_of(end))?;
-        self.codes.push(term.until)?;
-        self.codes.push(term.more)?;
+        self.numbers.push(place_of(i))?;
+        self.numbers.push(place_of(end))?;
+        self.numbers.push(term.until)?;
+        self.numbers.push(term.more)?;
         for packed in clause {
-            self.codes.push(packed.code())?;
+            self.numbers.push(packed.code())?;
         }
         Ok(place_of(start))
     }
 
     // The head of the block at a place.
     fn head(&self, start: usize) -> Head {
-        if start < self.codes.len() {
-            if let [number, end, until, more, ..] = &self.codes[start..] {
+        if start < self.numbers.len() {
+            if let [number, end, until, more, ..] = &self.numbers[start..] {
                 return Head {
                     number: *number,
                     end: *end,
@@ -156,11 +154,11 @@ impl Blocks {
     // Where the literals of a block begin and end.
     fn range(&self, start: usize) -> (usize, usize)
         ensures order { result.0 ≤ result.1 }
-        ensures within { result.1 ≤ length self.now.codes.items }
+        ensures within { result.1 ≤ length self.now.numbers.items }
     {
         let first = start.saturating_add(HEAD);
         let end = self.head(start).end as usize;
-        if first <= end && end <= self.codes.len() {
+        if first <= end && end <= self.numbers.len() {
             (first, end)
         } else {
             (0, 0)
@@ -169,8 +167,8 @@ impl Blocks {
 
     // Writes a number to a place.
     fn put(&mut self, place: usize, number: u32) {
-        if place < self.codes.len() {
-            self.codes[place] = number;
+        if place < self.numbers.len() {
+            self.numbers[place] = number;
         }
     }
 
@@ -182,7 +180,7 @@ impl Blocks {
     /// The literals of a block.
     pub fn literals(&self, start: usize) -> &[u32] {
         let (first, end) = self.range(start);
-        &self.codes[first..end]
+        &self.numbers[first..end]
     }
 
     /// Whether a clause has stopped watching when so many have been learnt.
@@ -201,7 +199,7 @@ impl Blocks {
     /// Brings two literals of a block to the front, to be watched. Whether there are no others.
     pub fn bring(&mut self, start: usize, a: u32, b: u32) -> bool {
         let (first, end) = self.range(start);
-        let codes = &mut self.codes[first..end];
+        let codes = &mut self.numbers[first..end];
         bring(codes, a, 0);
         bring(codes, b, 1);
         end - first == 2
@@ -210,12 +208,12 @@ impl Blocks {
     /// Brings the watched literal of a block that became false to the second place. The other watched one.
     pub fn turned(&mut self, start: usize, gone: u32) -> u32 {
         let (first, end) = self.range(start);
-        turn_over(&mut self.codes[first..end], gone)
+        turn_over(&mut self.numbers[first..end], gone)
     }
 
     /// Puts a literal that is not false into the second place of a block, if there is one.
     pub fn replaced(&mut self, values: &[Option<bool>], start: usize, other: u32) -> Option<u32> {
         let (first, end) = self.range(start);
-        replace(&mut self.codes[first..end], values, other)
+        replace(&mut self.numbers[first..end], values, other)
     }
 }

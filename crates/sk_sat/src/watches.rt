@@ -7,7 +7,7 @@ ghost use Rattle.sk_sat.specs.declared.watches.Visit.TheVariants.{Falsified};
 
 use crate::activity::Activity;
 use crate::blocks::{Blocks, Term};
-use crate::codes::{NONE, code_of, is_true, opposite, place_of};
+use crate::codes::{NONE, code_of, is_true, opposite};
 use crate::known::Known;
 use crate::lists::{Lists, Watch};
 use crate::packed::Packed;
@@ -205,7 +205,8 @@ impl Watches {
         Ok(())
     }
 
-    // Whether a clause has stopped watching. Its watches leave the lists when they are next met.
+    // Whether a clause has stopped watching. Where it rests, its watches leave the lists when they are next met; the others
+    // are gone once all watches are made anew.
     fn is_forgotten(&self, i: usize) -> bool {
         i < self.rows.len()
             && (!self.rows[i].used.is_awake() || self.blocks.is_over(self.start(i), self.learnt))
