@@ -150,9 +150,10 @@ fn answer<S: Source, K: Sink>(
 /// Runs a command: the words are those behind the program's own name. A line `synth` reads a sketch from the source,
 /// completes it, and writes the result to the sink; a line `exec` runs a function of it, and writes what comes of that; a line
 /// `trace` fills it with numbers, runs a function of the filling, and writes its steps too; a line `lower` writes the plain
-/// sketch of a text with algebraic types; a line `prune` writes a program without what no run can reach; a line `all` lists completions of a sketch, and a line `why` writes inputs that explain why
-/// it has none; a line `check` says whether a sketch and a certificate behind it belong together; `--help` and `--version` write their
-/// texts; a line `self` completes a sketch that the program makes itself, and writes a summary.
+/// sketch of a text with algebraic types; a line `prune` writes a program without what no run can reach; a line `all` lists
+/// completions of a sketch, and a line `why` writes inputs that explain why it has none; a line `check` says whether a sketch and
+/// a certificate behind it belong together; `--help` and `--version` write their texts; a line `self` completes a sketch that the
+/// program makes itself, and writes a summary.
 ///
 /// What is said of the text holds where the source tells what is left, and what is said of what the sink
 /// holds where the sink tells it. Want of memory may come at any step.
