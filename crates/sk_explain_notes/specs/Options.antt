@@ -111,6 +111,7 @@ command_has command.Synth c = not (is_holes c)
 command_has command.Exec c = is_bound c
 command_has command.Trace c = is_holes c || is_bound c
 command_has command.Lower c = is_bound c
+command_has command.Prune c = is_bound c
 command_has command.All c = is_bound c
 command_has command.Why c = is_bound c
 command_has command.Check c = is_bound c
@@ -123,6 +124,7 @@ command_range command.Synth = record { low = 0; high = 60 }
 command_range command.Exec = record { low = 0; high = 60 }
 command_range command.Trace = record { low = 0; high = 60 }
 command_range command.Lower = record { low = 0; high = 60 }
+command_range command.Prune = record { low = 0; high = 60 }
 command_range command.Why = record { low = 0; high = 60 }
 command_range command.Check = record { low = 0; high = 60 }
 command_range command.Itself = record { low = 0; high = 60 }

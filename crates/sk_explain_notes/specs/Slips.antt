@@ -80,6 +80,7 @@ other_slip command.Exec others word = None
 other_slip command.Trace others word = None
 other_slip command.Synth others word = Some (of_word (slip.Extra command.Synth) word)
 other_slip command.Lower others word = Some (of_word (slip.Extra command.Lower) word)
+other_slip command.Prune others word = Some (of_word (slip.Extra command.Prune) word)
 other_slip command.Why others word = Some (of_word (slip.Extra command.Why) word)
 other_slip command.Check others word = Some (of_word (slip.Extra command.Check) word)
 other_slip command.All others word = if others then Some (of_word (slip.Extra command.All) word) else number_slip command.All word
@@ -140,6 +141,7 @@ wants_word command.All = true
 wants_word command.Itself = true
 wants_word command.Synth = false
 wants_word command.Lower = false
+wants_word command.Prune = false
 wants_word command.Why = false
 wants_word command.Check = false
 

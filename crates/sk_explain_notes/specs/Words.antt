@@ -16,12 +16,17 @@ use Rattle.sk_explain_notes.specs.declared.options.Takes.TheVariants as takes
 use Rattle.sk_explain_notes.specs.declared.slips.Slip.{Slip}
 use Rattle.sk_explain_notes.specs.declared.slips.Slip.TheVariants as slip
 
+-- how the commands are called that run a function
+abbrev pub run_lines : List ℕ
+run_lines =
+    one_line (codes "       sketch exec [OPTION].. NAME VALUE.. < PROGRAM")
+    ++ one_line (codes "       sketch trace [OPTION].. NAME VALUE.. < SKETCH")
+
 -- how the commands are called that take a text
 abbrev pub command_lines : List ℕ
 command_lines =
     one_line (codes "usage: sketch synth [OPTION].. < SKETCH")
-    ++ one_line (codes "       sketch exec [OPTION].. NAME VALUE.. < PROGRAM")
-    ++ one_line (codes "       sketch trace [OPTION].. NAME VALUE.. < SKETCH")
+    ++ run_lines
     ++ one_line (codes "       sketch lower [OPTION].. < SKETCH")
     ++ one_line (codes "       sketch prune [OPTION].. < PROGRAM")
     ++ one_line (codes "       sketch all [OPTION].. K < SKETCH")
@@ -55,6 +60,7 @@ takes_values command.Exec = true
 takes_values command.Trace = true
 takes_values command.Synth = false
 takes_values command.Lower = false
+takes_values command.Prune = false
 takes_values command.All = false
 takes_values command.Why = false
 takes_values command.Check = false
@@ -115,6 +121,7 @@ extra_title command.Synth word = extra_words command.Synth word
 extra_title command.Exec word = extra_words command.Exec word
 extra_title command.Trace word = extra_words command.Trace word
 extra_title command.Lower word = extra_words command.Lower word
+extra_title command.Prune word = extra_words command.Prune word
 extra_title command.Check word = extra_words command.Check word
 
 abbrev pub wants_number : Command → List ℕ
@@ -125,6 +132,7 @@ missing_title command.Exec = one (codes "exec wants the name of a function")
 missing_title command.Trace = one (codes "trace wants the name of a function")
 missing_title command.Synth = wants_number command.Synth
 missing_title command.Lower = wants_number command.Lower
+missing_title command.Prune = wants_number command.Prune
 missing_title command.All = wants_number command.All
 missing_title command.Why = wants_number command.Why
 missing_title command.Check = wants_number command.Check
@@ -171,6 +179,7 @@ extra_notes command.Synth word = input_notes command.Synth word
 extra_notes command.Exec word = input_notes command.Exec word
 extra_notes command.Trace word = input_notes command.Trace word
 extra_notes command.Lower word = input_notes command.Lower word
+extra_notes command.Prune word = input_notes command.Prune word
 extra_notes command.Check word = input_notes command.Check word
 
 abbrev pub listing_notes : List ℕ
@@ -181,6 +190,7 @@ missing_notes command.Exec = one_line (codes "as in: sketch exec NAME VALUE.. < 
 missing_notes command.Trace = one_line (codes "as in: sketch trace NAME VALUE.. < SKETCH")
 missing_notes command.Synth = []
 missing_notes command.Lower = []
+missing_notes command.Prune = []
 missing_notes command.All = listing_notes
 missing_notes command.Why = []
 missing_notes command.Check = []

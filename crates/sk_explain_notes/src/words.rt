@@ -5,7 +5,7 @@ ghost use Rattle.std.specs.String.{string_bytes};
 ghost use Rattle.sk_explain_notes.specs.Near.{nearest};
 ghost use Rattle.sk_explain_notes.specs.Options.{choice_name, command_has};
 ghost use Rattle.sk_explain_notes.specs.declared.slips.Slip.TheVariants as slip;
-ghost use Rattle.sk_explain_notes.specs.Words.{command_lines, one_number, listing_notes, usage, question, command_names, names_of, no_command_title, no_others, wants_number, unknown_notes, value_title, value_notes, early_title, is_below_zero, takes_values, is_value, range_text, takes_text, wants_text, not_text, unknown_title, no_option_title, extra_words, extra_title, missing_title, slip_title, alone_notes, no_option_notes, input_notes, extra_notes, missing_notes, slip_notes, words_title, words_notes};
+ghost use Rattle.sk_explain_notes.specs.Words.{run_lines, command_lines, one_number, listing_notes, usage, question, command_names, names_of, no_command_title, no_others, wants_number, unknown_notes, value_title, value_notes, early_title, is_below_zero, takes_values, is_value, range_text, takes_text, wants_text, not_text, unknown_title, no_option_title, extra_words, extra_title, missing_title, slip_title, alone_notes, no_option_notes, input_notes, extra_notes, missing_notes, slip_notes, words_title, words_notes};
 
 use crate::near::nearest;
 use crate::note::Told;
@@ -14,14 +14,23 @@ use crate::options::{CHOICES, Choice, Command, Range, Takes};
 use crate::slips::{Slip, halves, slip_of};
 use std::alloc::{AllocError, Global};
 
+// How the commands are called that run a function.
+fn push_runs(told: &mut Told) -> Result<(), AllocError>
+    ensures notes { OnOk result (told.new.notes.bytes.items ≡ told.old.notes.bytes.items ++ run_lines) }
+    ensures title { told.new.title ≡ told.old.title }
+{
+    told.note(&[b"       sketch exec [OPTION].. NAME VALUE.. < PROGRAM"])?;
+    told.note(&[b"       sketch trace [OPTION].. NAME VALUE.. < SKETCH"])?;
+    Ok(())
+}
+
 // How the commands are called that take a text.
 fn push_commands(told: &mut Told) -> Result<(), AllocError>
     ensures notes { OnOk result (told.new.notes.bytes.items ≡ told.old.notes.bytes.items ++ command_lines) }
     ensures title { told.new.title ≡ told.old.title }
 {
     told.note(&[b"usage: sketch synth [OPTION].. < SKETCH"])?;
-    told.note(&[b"       sketch exec [OPTION].. NAME VALUE.. < PROGRAM"])?;
-    told.note(&[b"       sketch trace [OPTION].. NAME VALUE.. < SKETCH"])?;
+    push_runs(told)?;
     told.note(&[b"       sketch lower [OPTION].. < SKETCH"])?;
     told.note(&[b"       sketch prune [OPTION].. < PROGRAM"])?;
     told.note(&[b"       sketch all [OPTION].. K < SKETCH"])?;

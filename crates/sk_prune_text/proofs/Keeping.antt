@@ -1,14 +1,12 @@
 -- A text that is written keeps its runs, and shows its program.
-use Rattle.std.proofs.Common.{◌≡◌, ℕ, ◌+◌, ◌-◌, ◌<◌, ◌≤◌, ◌^◌, List, [], Option, Some, None, min, refl, sym, ap, subst, ◌∙◌, arith}
-use Rattle.std.specs.Prelude.{IsTrue, unwrap_or, slice_get}
+use Rattle.std.proofs.Common.{◌≡◌, ℕ, ◌-◌, ◌<◌, ◌≤◌, ◌^◌, List, [], Option, Some, None, min, refl, sym, ap, subst, ◌∙◌, arith}
+use Rattle.std.specs.Prelude.{unwrap_or, slice_get}
 use Rattle.std.proofs.Math.Nat.{min-le_right}
 use Rattle.sk_base.specs.declared.bounds.Bounds.{Bounds}
 use Rattle.sk_tree.specs.declared.item.Tree.{Tree}
 use Rattle.sk_prog.specs.declared.ids.FunId.{FunId}
 use Rattle.sk_prog.specs.declared.prog.Fun.{Fun}
 use Rattle.sk_prog.specs.declared.prog.Prog.{Prog}
-use Rattle.sk_prog.specs.Fits.{prog_fits}
-use Rattle.sk_types_rules.specs.WellTyped.{WellTyped}
 use Rattle.sk_print.specs.Layout.{layout}
 use Rattle.sk_print.specs.Shows.{Shows}
 use Rattle.sk_print_laws.proofs.ProgramShown.{programs_shown}
@@ -34,8 +32,8 @@ use Rattle.sk_front.specs.Front.{IsExpandedTo}
 use Rattle.sk_front_laws.proofs.Whole.{texts_keep, texts_fit}
 use Rattle.sk_prune_text.specs.declared.pruning.Pruning.{Pruning}
 use Rattle.sk_prune_text.specs.declared.pruning.Pruning.TheVariants as pruning
-use Rattle.sk_prune_text.specs.PrunedTexts.{IsPrunedText, IsPruning}
-use Rattle.sk_prune_text.specs.Kept.{IsLeft, KeepsRuns, IsKept, TextsKeepRuns}
+use Rattle.sk_prune_text.specs.PrunedTexts.{IsPruning}
+use Rattle.sk_prune_text.specs.Kept.{IsLeft, IsKept, TextsKeepRuns}
 
 -- The bounds
 

@@ -1,13 +1,13 @@
 -- A program has one form without what no run can reach.
-use Rattle.std.proofs.Common.{◌≡◌, ℕ, zero, suc, ◌+◌, Bool, true, false, List, [], ◌∷◌, length, Option, Some, refl, sym, ap, subst, ◌∙◌, arith}
+use Rattle.std.proofs.Common.{◌≡◌, ℕ, zero, suc, Bool, true, false, List, [], ◌∷◌, length, Some, refl, sym, ap, ◌∙◌, arith}
 use Rattle.std.proofs.lemmas.Bool.{false≢true}
 use Rattle.std.specs.Prelude.{IsTrue, slice_get, slice_index_or}
 use Rattle.sk_base.specs.declared.bounds.Bounds.{Bounds}
 use Rattle.sk_prog.specs.declared.prog.Fun.{Fun}
 use Rattle.sk_prog.specs.declared.prog.Prog.{Prog}
 use Rattle.sk_model.specs.Parts.{rank}
-use Rattle.sk_prune.specs.Stays.{Stays, AreMarks}
-use Rattle.sk_prune.specs.Pruned.{trimmed_funs, kept_funs, AreKept, IsPruned}
+use Rattle.sk_prune.specs.Stays.{AreMarks}
+use Rattle.sk_prune.specs.Pruned.{trimmed_funs, kept_funs, IsPruned}
 
 -- where one is marked, the others too
 abbrev Within : List Bool → List Bool → Type 0
