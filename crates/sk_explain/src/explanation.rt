@@ -15,6 +15,7 @@ use sk_explain_causes::{
 use sk_explain_notes::{Command, Note, Told, tell_words};
 use sk_explain_places::{Spot, push_excerpt, push_place, spot_of};
 use sk_explain_runs::push_runs;
+use sk_explain_steps::push_steps;
 use sk_lexer::LexFault;
 use sk_parser::ParseFault;
 use std::alloc::{AllocError, Global};
@@ -183,8 +184,8 @@ fn tell_too_long(told: &mut Told) -> Result<(), AllocError> {
     ])
 }
 
-// Tells of an ending that is no search.
-fn tell_refusal(
+// Tells of an ending of a run.
+fn tell_run(
     alloc: Global,
     told: &mut Told,
     words: &[String],
@@ -194,6 +195,19 @@ fn tell_refusal(
     match ending {
         Ending::ExecFailed { span } => tell_failed(alloc, told, words, text, *span),
         Ending::ExecSkipped { span: _ } => tell_skipped(told),
+        _ => push_passed_over(alloc, told, text),
+    }
+}
+
+// Tells of an ending that is neither a search nor a run.
+fn tell_refusal(
+    alloc: Global,
+    told: &mut Told,
+    words: &[String],
+    text: &[u8],
+    ending: &Ending,
+) -> Result<(), AllocError> {
+    match ending {
         Ending::NotALine => tell_words(alloc, told, words),
         Ending::NotText(fault) => tell_text(alloc, told, words, text, fault),
         Ending::NotTyped(fault) => tell_type(alloc, told, words, text, fault),
@@ -210,8 +224,8 @@ fn tell_refusal(
         Ending::Memory => tell_memory(told),
         Ending::Rejected(reason) => tell_rejected(told, reason),
         Ending::NotCertificate(fault) => tell_not_certificate(alloc, told, *fault),
-        Ending::ExecDone => push_passed_over(alloc, told, text),
         Ending::Lowered | Ending::Pruned => push_not_written(alloc, told, text),
+        Ending::ExecDone | Ending::ExecFailed { .. } | Ending::ExecSkipped { .. } => Ok(()),
         Ending::Completed | Ending::NoCompletion | Ending::HelpShown => Ok(()),
         Ending::SpentRounds { .. } | Ending::SpentConflicts { .. } | Ending::VersionShown => Ok(()),
         Ending::Listed | Ending::Explained | Ending::Met | Ending::Accepted => Ok(()),
@@ -232,6 +246,14 @@ fn is_search(ending: &Ending) -> bool {
         Ending::NotTagged { .. } | Ending::ReadFault => false,
         Ending::Accepted | Ending::Rejected(_) | Ending::NotCertificate(_) => false,
         Ending::WriteFault | Ending::TooLong | Ending::Memory => false,
+    }
+}
+
+// Whether an ending is one of a run.
+fn is_run(ending: &Ending) -> bool {
+    match ending {
+        Ending::ExecDone | Ending::ExecFailed { .. } | Ending::ExecSkipped { .. } => true,
+        _ => false,
     }
 }
 
@@ -261,6 +283,9 @@ fn told_of(
     let mut told = Told::new(alloc);
     if is_search(ending) && !reads_nothing(words) {
         tell_search(alloc, &mut told, words, text, answer, ending)?;
+    } else if is_run(ending) {
+        tell_run(alloc, &mut told, words, text, ending)?;
+        push_steps(alloc, &mut told, words, text, answer)?;
     } else {
         tell_refusal(alloc, &mut told, words, text, ending)?;
     }
