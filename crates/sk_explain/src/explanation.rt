@@ -142,6 +142,47 @@ fn tell_answer(
     }
 }
 
+// A budget that is spent: its option, how many inputs broke a choice, and whether a completion is known.
+#[derive(Drop, Clone, Copy)]
+struct Spent<'a> {
+    option: &'a [u8],
+    inputs: usize,
+    is_known: bool,
+}
+
+// The budget that is spent at an ending.
+fn spent_of(ending: &Ending) -> Option<Spent<'static>> {
+    match ending {
+        Ending::SpentRounds { pairs, best } => Some(Spent {
+            option: b"--rounds",
+            inputs: pairs.len(),
+            is_known: best.is_some(),
+        }),
+        Ending::SpentConflicts { pairs, best, .. } => Some(Spent {
+            option: b"--conflicts",
+            inputs: pairs.len(),
+            is_known: best.is_some(),
+        }),
+        _ => None,
+    }
+}
+
+// Tells of a budget that is spent, and of the completion that is known.
+fn tell_budget(
+    alloc: Global,
+    told: &mut Told,
+    words: &[String],
+    text: &[u8],
+    answer: &[u8],
+    spent: Spent<'_>,
+) -> Result<(), AllocError> {
+    tell_spent(told, spent.option, spent.inputs, spent.is_known)?;
+    if spent.is_known {
+        push_runs(alloc, told, words, text, answer)?;
+    }
+    Ok(())
+}
+
 // Tells of an ending for which a search is done.
 fn tell_search(
     alloc: Global,
@@ -160,13 +201,10 @@ fn tell_search(
             tell_none(told)?;
             push_choices(alloc, told, text)?;
         }
-        Ending::SpentRounds { pairs, best } => {
-            tell_spent(told, b"--rounds", pairs.len(), best.is_some())?
-        }
-        Ending::SpentConflicts { pairs, best, .. } => {
-            tell_spent(told, b"--conflicts", pairs.len(), best.is_some())?
-        }
         _ => {}
+    }
+    if let Some(spent) = spent_of(ending) {
+        tell_budget(alloc, told, words, text, answer, spent)?;
     }
     tell_answer(alloc, told, words, text, answer, ending)?;
     push_warnings(alloc, told, text)
