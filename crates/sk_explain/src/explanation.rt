@@ -12,6 +12,7 @@ use sk_explain_causes::{
     tell_none, tell_not_filled, tell_not_lowered, tell_not_run, tell_not_tagged, tell_size,
     tell_skipped, tell_spent, tell_text, tell_type,
 };
+use sk_explain_implements::push_implemented;
 use sk_explain_notes::{Command, Note, Told, tell_words};
 use sk_explain_places::{Spot, push_excerpt, push_place, spot_of};
 use sk_explain_runs::push_runs;
@@ -248,7 +249,10 @@ fn tell_refusal(
     match ending {
         Ending::NotALine => tell_words(alloc, told, words),
         Ending::NotText(fault) => tell_text(alloc, told, words, text, fault),
-        Ending::NotTyped(fault) => tell_type(alloc, told, words, text, fault),
+        Ending::NotTyped(fault) => {
+            tell_type(alloc, told, words, text, fault)?;
+            push_implemented(alloc, told, text, fault)
+        }
         Ending::TooLarge(reason) => tell_size(told, *reason),
         Ending::NotRun(reason) => tell_not_run(alloc, told, words, text, *reason),
         Ending::NotFilled(fault) => tell_not_filled(alloc, told, words, text, *fault),
