@@ -36,12 +36,12 @@ fn numbers_of(
     Ok(found)
 }
 
-// The numbers that are told.
-fn first_told(numbers: &[u64]) -> &[u64] {
-    if numbers.len() > MOST_TOLD {
-        &numbers[..MOST_TOLD]
+// Those of a list that are told.
+fn first_told<T>(items: &[T]) -> &[T] {
+    if items.len() > MOST_TOLD {
+        &items[..MOST_TOLD]
     } else {
-        numbers
+        items
     }
 }
 
@@ -86,8 +86,37 @@ fn push_site(
     told.notes.end()
 }
 
-// The same of each open part, in the order of the first of these numbers.
+// The open parts some of whose sites do not stand, each once.
+fn spans_of(alloc: Global, sites: &[Site], marks: &[bool]) -> Result<Vec<Span>, AllocError> {
+    let mut spans = Vec::new(alloc);
+    for (site, stands) in sites.iter().zip(marks.iter()) {
+        if !*stands && spans.len() <= MOST_TOLD && !has(spans.as_slice(), site.span) {
+            spans.push(site.span)?;
+        }
+    }
+    Ok(spans)
+}
+
+// Tells of each of some open parts which of its numbers play no part.
 fn push_sites(
+    alloc: Global,
+    told: &mut Told,
+    text: &[u8],
+    sites: &[Site],
+    marks: &[bool],
+    spans: &[Span],
+) -> Result<(), AllocError>
+    ensures { told.new.title ≡ told.old.title }
+{
+    for span in spans {
+        let numbers = numbers_of(alloc, sites, marks, *span)?;
+        push_site(told, text, numbers.as_slice(), *span)?;
+    }
+    Ok(())
+}
+
+// The same of the first 20, and that there are others.
+fn push_spans(
     alloc: Global,
     told: &mut Told,
     text: &[u8],
@@ -96,16 +125,10 @@ fn push_sites(
 ) -> Result<(), AllocError>
     ensures { told.new.title ≡ told.old.title }
 {
-    let mut spans = Vec::new(alloc);
-    for (site, stands) in sites.iter().zip(marks.iter()) {
-        if !*stands && !has(spans.as_slice(), site.span) {
-            if spans.len() == MOST_TOLD {
-                return told.note(&[b"and so do numbers of other open parts"]);
-            }
-            let numbers = numbers_of(alloc, sites, marks, site.span)?;
-            push_site(told, text, numbers.as_slice(), site.span)?;
-            spans.push(site.span)?;
-        }
+    let spans = spans_of(alloc, sites, marks)?;
+    push_sites(alloc, told, text, sites, marks, first_told(spans.as_slice()))?;
+    if spans.len() > MOST_TOLD {
+        return told.note(&[b"and so do numbers of other open parts"]);
     }
     Ok(())
 }
@@ -125,5 +148,5 @@ pub fn push_unused(
     ensures { told.new.title ≡ told.old.title }
 {
     let marks = marks_of(alloc, expanded, choice)?;
-    push_sites(alloc, told, text, expanded.sites.as_slice(), marks.as_slice())
+    push_spans(alloc, told, text, expanded.sites.as_slice(), marks.as_slice())
 }

@@ -26,6 +26,8 @@ pub struct Step<'a> {
     /// The statement.
     pub span: Span,
     pub what: What<'a>,
+    /// How many values the statement stored directly before.
+    pub stored: usize,
 }
 
 /// The first steps of an answer, and what is known of the others.
@@ -71,19 +73,36 @@ fn what_of(words: &[u8]) -> What<'_> {
     }
 }
 
-// The step that a line tells, where it tells one.
-fn step_of(line: &[u8]) -> Option<Step<'_>> {
+// How many values the statement that begins at a byte stored directly behind these steps, where so many calls are active.
+fn stored_before(steps: &[Step<'_>], active: u32, byte: u32) -> usize {
+    let mut count = 0usize;
+    for step in steps.iter().rev() {
+        if step.active == active && step.span.from == byte {
+            if let What::Store(_) = step.what {
+                count = count.saturating_add(1);
+            }
+        } else if step.active <= active {
+            return count;
+        }
+    }
+    count
+}
+
+// The step that a line tells behind others, where it tells one.
+fn step_of<'a>(before: &[Step<'_>], line: &'a [u8]) -> Option<Step<'a>> {
     let (active, behind) = cut(line)?;
     let (from, behind) = cut(behind)?;
     let (to, words) = cut(behind)?;
-    let span = Span {
-        from: number(from)?,
-        to: number(to)?,
-    };
+    let active = number(active)?;
+    let from = number(from)?;
     Some(Step {
-        active: number(active)?,
-        span,
+        active,
+        span: Span {
+            from,
+            to: number(to)?,
+        },
         what: what_of(words),
+        stored: stored_before(before, active, from),
     })
 }
 
@@ -95,7 +114,7 @@ pub fn steps_of(alloc: Global, answer: &[u8]) -> Result<Steps<'_>, AllocError> {
         more: false,
     };
     for line in answer.split(|byte| *byte == b'\n') {
-        match step_of(line) {
+        match step_of(steps.first.as_slice(), line) {
             Some(step) if steps.first.len() < MOST_TOLD => steps.first.push(step)?,
             Some(_) => steps.others = steps.others.saturating_add(1),
             None if line == b"more".as_slice() => steps.more = true,

@@ -62,21 +62,6 @@ fn push_function(
     told.note(&[b":"])
 }
 
-// How many values the statement of a step stored directly before it.
-fn stored_before(steps: &[Step<'_>], step: &Step<'_>) -> usize {
-    let mut count = 0usize;
-    for before in steps.iter().rev() {
-        if before.active == step.active && before.span.from == step.span.from {
-            if let What::Store(_) = before.what {
-                count = count.saturating_add(1);
-            }
-        } else if before.active <= step.active {
-            return count;
-        }
-    }
-    count
-}
-
 // The place to which the statement of a step stores, where it can be shown.
 fn target_of<'a>(source: Source<'a>, tokens: &[Token], number: usize) -> Option<&'a [u8]> {
     let of = target(tokens, number)?;
@@ -119,15 +104,10 @@ fn push_key(note: &mut Note, source: Source<'_>, tokens: &[Token]) -> Result<(),
 }
 
 // Appends what a step did.
-fn push_what(
-    note: &mut Note,
-    source: Source<'_>,
-    before: &[Step<'_>],
-    step: &Step<'_>,
-) -> Result<(), AllocError> {
+fn push_what(note: &mut Note, source: Source<'_>, step: &Step<'_>) -> Result<(), AllocError> {
     let tokens = tokens_in(source.tokens, step.span);
     match step.what {
-        What::Store(value) => push_store(note, source, tokens, stored_before(before, step), value),
+        What::Store(value) => push_store(note, source, tokens, step.stored, value),
         What::Go => push_go(note, source, tokens),
         What::Truth(truth) => {
             push_key(note, source, tokens)?;
@@ -141,17 +121,12 @@ fn push_what(
 }
 
 // A line for a step: its place, and what it did.
-fn push_step(
-    told: &mut Told,
-    source: Source<'_>,
-    before: &[Step<'_>],
-    step: &Step<'_>,
-) -> Result<(), AllocError>
+fn push_step(told: &mut Told, source: Source<'_>, step: &Step<'_>) -> Result<(), AllocError>
     ensures { told.new.title ≡ told.old.title }
 {
     push_place(&mut told.notes, source.text, step.span.from)?;
     told.notes.word(b" ")?;
-    push_what(&mut told.notes, source, before, step)?;
+    push_what(&mut told.notes, source, step)?;
     told.notes.end()
 }
 
@@ -164,10 +139,10 @@ fn push_first(
     ensures { told.new.title ≡ told.old.title }
 {
     let mut before = NOWHERE;
-    for (number, step) in steps.iter().enumerate() {
+    for step in steps {
         let place = place_of_step(source, step);
         push_function(told, source.text, before, place)?;
-        push_step(told, source, &steps[..number], step)?;
+        push_step(told, source, step)?;
         before = place;
     }
     Ok(())
