@@ -12,9 +12,11 @@ use sk_explain_causes::{
     tell_none, tell_not_filled, tell_not_lowered, tell_not_run, tell_not_tagged, tell_size,
     tell_skipped, tell_spent, tell_text, tell_type,
 };
+use sk_explain_implements::push_implemented;
 use sk_explain_notes::{Command, Note, Told, tell_words};
 use sk_explain_places::{Spot, push_excerpt, push_place, spot_of};
 use sk_explain_runs::push_runs;
+use sk_explain_steps::push_steps;
 use sk_lexer::LexFault;
 use sk_parser::ParseFault;
 use std::alloc::{AllocError, Global};
@@ -141,6 +143,47 @@ fn tell_answer(
     }
 }
 
+// A budget that is spent: its option, how many inputs broke a choice, and whether a completion is known.
+#[derive(Drop, Clone, Copy)]
+struct Spent<'a> {
+    option: &'a [u8],
+    inputs: usize,
+    is_known: bool,
+}
+
+// The budget that is spent at an ending.
+fn spent_of(ending: &Ending) -> Option<Spent<'static>> {
+    match ending {
+        Ending::SpentRounds { pairs, best } => Some(Spent {
+            option: b"--rounds",
+            inputs: pairs.len(),
+            is_known: best.is_some(),
+        }),
+        Ending::SpentConflicts { pairs, best, .. } => Some(Spent {
+            option: b"--conflicts",
+            inputs: pairs.len(),
+            is_known: best.is_some(),
+        }),
+        _ => None,
+    }
+}
+
+// Tells of a budget that is spent, and of the completion that is known.
+fn tell_budget(
+    alloc: Global,
+    told: &mut Told,
+    words: &[String],
+    text: &[u8],
+    answer: &[u8],
+    spent: Spent<'_>,
+) -> Result<(), AllocError> {
+    tell_spent(told, spent.option, spent.inputs, spent.is_known)?;
+    if spent.is_known {
+        push_runs(alloc, told, words, text, answer)?;
+    }
+    Ok(())
+}
+
 // Tells of an ending for which a search is done.
 fn tell_search(
     alloc: Global,
@@ -159,13 +202,10 @@ fn tell_search(
             tell_none(told)?;
             push_choices(alloc, told, text)?;
         }
-        Ending::SpentRounds { pairs, best } => {
-            tell_spent(told, b"--rounds", pairs.len(), best.is_some())?
-        }
-        Ending::SpentConflicts { pairs, best, .. } => {
-            tell_spent(told, b"--conflicts", pairs.len(), best.is_some())?
-        }
         _ => {}
+    }
+    if let Some(spent) = spent_of(ending) {
+        tell_budget(alloc, told, words, text, answer, spent)?;
     }
     tell_answer(alloc, told, words, text, answer, ending)?;
     push_warnings(alloc, told, text)
@@ -183,8 +223,8 @@ fn tell_too_long(told: &mut Told) -> Result<(), AllocError> {
     ])
 }
 
-// Tells of an ending that is no search.
-fn tell_refusal(
+// Tells of an ending of a run.
+fn tell_run(
     alloc: Global,
     told: &mut Told,
     words: &[String],
@@ -194,9 +234,25 @@ fn tell_refusal(
     match ending {
         Ending::ExecFailed { span } => tell_failed(alloc, told, words, text, *span),
         Ending::ExecSkipped { span: _ } => tell_skipped(told),
+        _ => push_passed_over(alloc, told, text),
+    }
+}
+
+// Tells of an ending that is neither a search nor a run.
+fn tell_refusal(
+    alloc: Global,
+    told: &mut Told,
+    words: &[String],
+    text: &[u8],
+    ending: &Ending,
+) -> Result<(), AllocError> {
+    match ending {
         Ending::NotALine => tell_words(alloc, told, words),
         Ending::NotText(fault) => tell_text(alloc, told, words, text, fault),
-        Ending::NotTyped(fault) => tell_type(alloc, told, words, text, fault),
+        Ending::NotTyped(fault) => {
+            tell_type(alloc, told, words, text, fault)?;
+            push_implemented(alloc, told, text, fault)
+        }
         Ending::TooLarge(reason) => tell_size(told, *reason),
         Ending::NotRun(reason) => tell_not_run(alloc, told, words, text, *reason),
         Ending::NotFilled(fault) => tell_not_filled(alloc, told, words, text, *fault),
@@ -210,8 +266,8 @@ fn tell_refusal(
         Ending::Memory => tell_memory(told),
         Ending::Rejected(reason) => tell_rejected(told, reason),
         Ending::NotCertificate(fault) => tell_not_certificate(alloc, told, *fault),
-        Ending::ExecDone => push_passed_over(alloc, told, text),
         Ending::Lowered | Ending::Pruned => push_not_written(alloc, told, text),
+        Ending::ExecDone | Ending::ExecFailed { .. } | Ending::ExecSkipped { .. } => Ok(()),
         Ending::Completed | Ending::NoCompletion | Ending::HelpShown => Ok(()),
         Ending::SpentRounds { .. } | Ending::SpentConflicts { .. } | Ending::VersionShown => Ok(()),
         Ending::Listed | Ending::Explained | Ending::Met | Ending::Accepted => Ok(()),
@@ -232,6 +288,14 @@ fn is_search(ending: &Ending) -> bool {
         Ending::NotTagged { .. } | Ending::ReadFault => false,
         Ending::Accepted | Ending::Rejected(_) | Ending::NotCertificate(_) => false,
         Ending::WriteFault | Ending::TooLong | Ending::Memory => false,
+    }
+}
+
+// Whether an ending is one of a run.
+fn is_run(ending: &Ending) -> bool {
+    match ending {
+        Ending::ExecDone | Ending::ExecFailed { .. } | Ending::ExecSkipped { .. } => true,
+        _ => false,
     }
 }
 
@@ -261,6 +325,9 @@ fn told_of(
     let mut told = Told::new(alloc);
     if is_search(ending) && !reads_nothing(words) {
         tell_search(alloc, &mut told, words, text, answer, ending)?;
+    } else if is_run(ending) {
+        tell_run(alloc, &mut told, words, text, ending)?;
+        push_steps(alloc, &mut told, words, text, answer)?;
     } else {
         tell_refusal(alloc, &mut told, words, text, ending)?;
     }

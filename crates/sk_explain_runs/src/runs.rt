@@ -74,3 +74,77 @@ pub fn costing(
     }
     Ok(None)
 }
+
+/// The greatest cost of the runs of harnesses, where all their inputs are tried.
+#[derive(Drop, Clone, Copy)]
+pub enum Dearest<'a> {
+    /// Not all are tried, or a run fails.
+    Unknown,
+    /// No run costs anything.
+    Nothing,
+    /// The first run that costs so much: of a harness, on the input with a number.
+    Of {
+        harness: Harness<'a>,
+        number: u64,
+        cost: u64,
+    },
+}
+
+impl<'a> Dearest<'a> {
+    // What is the greatest cost with a run more.
+    fn with(self, harness: Harness<'a>, number: u64, outcome: &Outcome) -> Dearest<'a> {
+        let most = match self {
+            Dearest::Unknown => return self,
+            Dearest::Nothing => 0,
+            Dearest::Of { cost, .. } => cost,
+        };
+        match outcome {
+            Outcome::Done { cost, .. } if *cost > most => Dearest::Of {
+                harness,
+                number,
+                cost: *cost,
+            },
+            Outcome::Done { .. } | Outcome::Skipped { .. } => self,
+            Outcome::Failed { .. } => Dearest::Unknown,
+        }
+    }
+}
+
+// The same with the runs of a harness on all inputs.
+fn dearest_with<'a>(
+    alloc: Global,
+    of: Completion<'_>,
+    harness: Harness<'a>,
+    before: Dearest<'a>,
+) -> Result<Dearest<'a>, AllocError>
+    requires { AreInRanges of.bounds.now }
+{
+    let params = harness.fun.params.as_slice();
+    if !are_few(of.bounds.inbits, params) {
+        return Ok(Dearest::Unknown);
+    }
+    let mut dearest = before;
+    for number in 0..count(of.bounds.inbits, params) {
+        let outcome = run(alloc, of, harness, number)?;
+        dearest = dearest.with(harness, number, &outcome);
+    }
+    Ok(dearest)
+}
+
+/// The greatest cost of the runs of some harnesses.
+pub fn dearest_of<'a>(
+    alloc: Global,
+    of: Completion<'_>,
+    harnesses: &[Harness<'a>],
+) -> Result<Dearest<'a>, AllocError>
+    requires { AreInRanges of.bounds.now }
+{
+    let mut dearest = Dearest::Nothing;
+    for harness in harnesses {
+        match dearest_with(alloc, of, *harness, dearest)? {
+            Dearest::Unknown => return Ok(Dearest::Unknown),
+            found => dearest = found,
+        }
+    }
+    Ok(dearest)
+}

@@ -5,7 +5,9 @@ ghost use Rattle.sk_explain_answers.specs.Fillings.{IsFillable, IsKnown};
 
 use crate::answer::{choice_in, value_in};
 use crate::inputs::arguments;
-use crate::runs::{Completion, Harness, costing, is_skipped};
+use crate::reached::push_unreached;
+use crate::runs::{Completion, Dearest, Harness, costing, dearest_of, is_skipped};
+use crate::unused::push_unused;
 use sk_exec_values::push_value;
 use sk_explain_notes::{Note, Told};
 use sk_front::{Expansion, SketchFault, expansion_of};
@@ -124,11 +126,12 @@ fn push_costs(
     }
 }
 
-// Tells of the runs of a completion.
+// Tells of the runs of a completion with a value.
 fn push_completion(
     alloc: Global,
     told: &mut Told,
     of: Completion<'_>,
+    text: &[u8],
     value: u64,
 ) -> Result<(), AllocError>
     requires { AreInRanges of.bounds.now }
@@ -138,10 +141,45 @@ fn push_completion(
     for harness in harnesses.as_slice() {
         push_skipped(alloc, told, of, *harness)?;
     }
+    push_unreached(alloc, told, text, of)?;
     if value == 0 {
         return Ok(());
     }
     push_costs(alloc, told, of, harnesses.as_slice(), value)
+}
+
+// Tells what a completion without a value costs, where all inputs of its harnesses are tried.
+fn push_best(alloc: Global, told: &mut Told, of: Completion<'_>) -> Result<(), AllocError>
+    requires { AreInRanges of.bounds.now }
+    ensures { told.new.title ≡ told.old.title }
+{
+    let harnesses = harnesses(alloc, of)?;
+    match dearest_of(alloc, of, harnesses.as_slice())? {
+        Dearest::Of {
+            harness,
+            number,
+            cost,
+        } => push_cost(alloc, told, of, harness, number, cost),
+        Dearest::Nothing => told.note(&[b"what is written costs 0 on each input"]),
+        Dearest::Unknown => Ok(()),
+    }
+}
+
+// Tells of the runs of what an answer has.
+fn push_answer(
+    alloc: Global,
+    told: &mut Told,
+    of: Completion<'_>,
+    text: &[u8],
+    answer: &[u8],
+) -> Result<(), AllocError>
+    requires { AreInRanges of.bounds.now }
+    ensures { told.new.title ≡ told.old.title }
+{
+    match value_in(answer) {
+        Some(value) => push_completion(alloc, told, of, text, value),
+        None => push_best(alloc, told, of),
+    }
 }
 
 // The same of the expansion of a sketch.
@@ -149,6 +187,7 @@ fn push_expansion(
     alloc: Global,
     told: &mut Told,
     expansion: &Expansion,
+    text: &[u8],
     answer: &[u8],
 ) -> Result<(), AllocError>
     requires ranges { AreInRanges expansion.now.bounds }
@@ -164,7 +203,8 @@ fn push_expansion(
                 prog: &prog,
                 bounds: &expansion.bounds,
             };
-            push_completion(alloc, told, of, value_in(answer).unwrap_or(0))
+            push_answer(alloc, told, of, text, answer)?;
+            push_unused(alloc, told, text, &expansion.expanded, &choice)
         }
         Err(FillFault::Memory) => Err(AllocError),
         Err(FillFault::WrongLength | FillFault::OutOfRange { .. }) => Ok(()),
@@ -183,7 +223,7 @@ fn push_known(
     requires { IsKnown text.now expansion.now }
     ensures { told.new.title ≡ told.old.title }
 {
-    push_expansion(alloc, told, expansion, answer)
+    push_expansion(alloc, told, expansion, text, answer)
 }
 
 // The same of the options of a line.
@@ -208,8 +248,9 @@ fn push_set(
     }
 }
 
-/// Tells of the answer of a line `synth` which harness has only runs that are skipped, and an input on which the completion costs
-/// the most. After a refusal title and notes are given up: nothing is told.
+/// Tells of the answer of a line `synth` with a completion which harness has only runs that are skipped, an input on which the completion
+/// costs the most, which assertions no input reaches, and which numbers play no part. After a refusal title and notes are given up:
+/// nothing is told.
 pub fn push_runs(
     alloc: Global,
     told: &mut Told,
