@@ -75,10 +75,7 @@ fn heading_at<'a>(tokens: &'a [Token], at: usize, name: Span) -> Option<Heading<
 }
 
 /// The headings of the functions of a text, in order.
-pub fn headings_of<'a>(
-    alloc: Global,
-    tokens: &'a [Token],
-) -> Result<Vec<Heading<'a>>, AllocError> {
+pub fn headings_of<'a>(alloc: Global, tokens: &'a [Token]) -> Result<Vec<Heading<'a>>, AllocError> {
     let mut found = Vec::new(alloc);
     let mut open = 0usize;
     for (at, two) in tokens.windows(2).enumerate() {

@@ -106,7 +106,11 @@ fn push_refs(
 
 // Appends that a struct stands where none can.
 fn push_record(note: &mut Note, text: &[u8], of: Span) -> Result<(), AllocError> {
-    note.say(&[b" is of the struct '", bytes_of(text, of), b"': references cannot be compared"])
+    note.say(&[
+        b" is of the struct '",
+        bytes_of(text, of),
+        b"': references cannot be compared",
+    ])
 }
 
 // Appends in what results and counts differ.

@@ -94,7 +94,14 @@ fn steps(
 {
     let params = fun.fun.params.as_slice();
     let args = arguments(alloc, of.bounds.inbits, params, number)?;
-    let logged = run_with_log(alloc, of.prog, fun.id, args.as_slice(), of.bounds, MOST_STEPS)?;
+    let logged = run_with_log(
+        alloc,
+        of.prog,
+        fun.id,
+        args.as_slice(),
+        of.bounds,
+        MOST_STEPS,
+    )?;
     Ok(logged.log)
 }
 
@@ -155,7 +162,8 @@ fn push_assertion(
 ) -> Result<(), AllocError>
     ensures { told.new.title ≡ told.old.title }
 {
-    told.notes.word(b"warning: no input reaches the assert at ")?;
+    told.notes
+        .word(b"warning: no input reaches the assert at ")?;
     push_place(&mut told.notes, text, byte)?;
     match function_at(tokens, byte) {
         Some(name) => told.note(&[b", in '", bytes_of(text, name), b"'"]),

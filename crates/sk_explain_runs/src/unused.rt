@@ -15,7 +15,9 @@ const MOST_TOLD: usize = 20;
 
 // Whether one of some spans is this one.
 fn has(spans: &[Span], span: Span) -> bool {
-    spans.iter().any(|it| it.from == span.from && it.to == span.to)
+    spans
+        .iter()
+        .any(|it| it.from == span.from && it.to == span.to)
 }
 
 // The numbers, from 1, of the sites of an open part that do not stand.
@@ -69,12 +71,7 @@ fn plural<'a>(numbers: &[u64], one: &'a [u8], several: &'a [u8]) -> &'a [u8] {
 }
 
 // Tells which numbers of an open part play no part.
-fn push_site(
-    told: &mut Told,
-    text: &[u8],
-    numbers: &[u64],
-    span: Span,
-) -> Result<(), AllocError>
+fn push_site(told: &mut Told, text: &[u8], numbers: &[u64], span: Span) -> Result<(), AllocError>
     ensures { told.new.title ≡ told.old.title }
 {
     told.notes.word(plural(numbers, b"number ", b"numbers "))?;
@@ -126,7 +123,14 @@ fn push_spans(
     ensures { told.new.title ≡ told.old.title }
 {
     let spans = spans_of(alloc, sites, marks)?;
-    push_sites(alloc, told, text, sites, marks, first_told(spans.as_slice()))?;
+    push_sites(
+        alloc,
+        told,
+        text,
+        sites,
+        marks,
+        first_told(spans.as_slice()),
+    )?;
     if spans.len() > MOST_TOLD {
         return told.note(&[b"and so do numbers of other open parts"]);
     }
@@ -148,5 +152,11 @@ pub fn push_unused(
     ensures { told.new.title ≡ told.old.title }
 {
     let marks = marks_of(alloc, expanded, choice)?;
-    push_spans(alloc, told, text, expanded.sites.as_slice(), marks.as_slice())
+    push_spans(
+        alloc,
+        told,
+        text,
+        expanded.sites.as_slice(),
+        marks.as_slice(),
+    )
 }

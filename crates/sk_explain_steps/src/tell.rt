@@ -131,11 +131,7 @@ fn push_step(told: &mut Told, source: Source<'_>, step: &Step<'_>) -> Result<(),
 }
 
 // The lines of steps, each behind that of its function where the step before is elsewhere.
-fn push_first(
-    told: &mut Told,
-    source: Source<'_>,
-    steps: &[Step<'_>],
-) -> Result<(), AllocError>
+fn push_first(told: &mut Told, source: Source<'_>, steps: &[Step<'_>]) -> Result<(), AllocError>
     ensures { told.new.title ≡ told.old.title }
 {
     let mut before = NOWHERE;
