@@ -2,6 +2,7 @@
 //! output.
 #![tactic(auto)]
 
+ghost use Rattle.std.specs.Prelude.{◌≡◌};
 ghost use Rattle.sk_app.specs.Ending.{status_of};
 
 use sk_app::{Ending, StdSink, StdSource, message, run, status};

@@ -2,6 +2,7 @@
 //! certificate is right.
 #![tactic(auto)]
 
+ghost use Rattle.std.specs.Prelude.{◌≡◌};
 ghost use Rattle.sk_check_app.specs.Ending.{status_of};
 
 use sk_check_app::{Ending, StdSink, StdSource, judge, message, status};
