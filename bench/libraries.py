@@ -1,12 +1,14 @@
 #!/usr/bin/env python3
-"""Libraries for checks of crates above them, where `rt ci` keeps none. For development only: no verdict rests on them.
+"""Libraries for checks of crates above them. For development only: no verdict rests on them.
 
+  libraries.py take CHECKOUT [CRATE..]       gives CHECKOUT each library that an `rt ci` on this machine kept of the same files over the same
+                                             libraries: those below these crates and these, or all
   libraries.py build CHECKOUT JOBS CRATE..   proves the libraries below these crates, and these, JOBS side by side, lowest first
   libraries.py lay CHECKOUT FROM..           links libraries that stand built in the checkouts FROM into CHECKOUT, for each crate
                                              whose files, and those of all below it, are the same in both
 
 `rt` locks all crates of a checkout, so that two `rt lib` in it wait for each other; this does not, so let no other `rt` run in
-CHECKOUT. After `lay`, `rt check` in a crate begins at that crate."""
+CHECKOUT. After `take` and `lay`, `rt check` in a crate begins at that crate."""
 import importlib.machinery
 import importlib.util
 import os
@@ -19,14 +21,21 @@ from concurrent.futures import FIRST_COMPLETED, ThreadPoolExecutor, wait
 sys.dont_write_bytecode = True
 
 
-def kit():
-    """The kit's own module on crates, with each crate's sum taken once."""
-    folder = os.path.dirname(os.path.realpath(shutil.which("rt")))
-    loader = importlib.machinery.SourceFileLoader("rtlib", f"{folder}/rtlib.py")
-    module = importlib.util.module_from_spec(importlib.util.spec_from_loader("rtlib", loader))
-    sys.modules["rtlib"] = module
+def loaded(name, path):
+    """A file of the kit as a module of this name."""
+    loader = importlib.machinery.SourceFileLoader(name, path)
+    module = importlib.util.module_from_spec(importlib.util.spec_from_loader(name, loader))
+    sys.modules[name] = module
     sys.argv = ["rt"]
     loader.exec_module(module)
+    return module
+
+
+def kit():
+    """The kit's own module on crates, with each crate's sum taken once, and its program, where that keeps what it proved."""
+    path = os.path.realpath(shutil.which("rt"))
+    program = loaded("rt_program", path)
+    module = getattr(program, "rtlib", None) or loaded("rtlib", f"{os.path.dirname(path)}/rtlib.py")
     sums, stamp = {}, module.Crate.stamp
 
     def stamp_once(crate):
@@ -38,7 +47,7 @@ def kit():
     module.Crate.cuts_libraries = True
     # (its first call sets a signal's handler, which only the main thread may)
     module.guarded()
-    return module
+    return module, program
 
 
 def lowest_first(crates):
@@ -92,6 +101,20 @@ def build(rtlib, root, jobs, names):
     return 1 if failed else 0
 
 
+def take(rtlib, program, root, names):
+    known = {it.name: it for it in rtlib.crates_below(root)}
+    crates = lowest_first([known[it] for it in names or known])
+    kept, given, lacking = program.Kept(crates), [], []
+    for crate in crates:
+        if all(it.name in kept.rlibs for it in crate.below()) and (crate.is_built() or kept.give(crate, False, kept.key(crate))):
+            with open(f"{crate.folder}/out/rlib/stamp", "w", encoding="utf-8") as it:
+                it.write(crate.stamp())
+            kept.is_built(crate)
+        (given if crate.name in kept.rlibs else lacking).append(crate.name)
+    print(f"{len(given)} libraries stand; lacking: {' '.join(lacking) or 'none'}")
+    return 0
+
+
 def lay(rtlib, root, froms):
     laid, lacking = [], []
     for crate in lowest_first(rtlib.crates_below(root)):
@@ -107,11 +130,16 @@ def lay(rtlib, root, froms):
 
 
 def main(verb="", root="", *words):
-    if verb not in ("build", "lay") or not words:
+    if verb not in ("take", "build", "lay") or not root or (verb != "take" and not words):
         print(__doc__)
         return 2
-    rtlib, root = kit(), os.path.abspath(root)
+    (rtlib, program), root = kit(), os.path.abspath(root)
     os.chdir(root)
+    if verb == "take":
+        if not hasattr(program, "Kept"):
+            print("this kit keeps nothing: use build and lay")
+            return 2
+        return take(rtlib, program, root, words)
     if verb == "build":
         return build(rtlib, root, int(words[0]), words[1:])
     return lay(rtlib, root, [os.path.abspath(it) for it in words])
