@@ -1,18 +1,21 @@
 #!/usr/bin/env python3
-"""Finds the least stack under which lines on the deepest texts end as with ample stack.
+"""Finds the least stack under which lines on the deepest texts end as with ample stack, and what programs say that start on too little.
 
-    stack.py PROGRAM [--only WORD]
+    stack.py PROGRAM [CHECKER] [--only WORD]
 
-PROGRAM is the built `sketch`. The texts nest, in eleven forms, as deep as one function's tree may, as deep as a run or an expansion may, and, for `lower`, switches in
-switches. Each line is run under stacks of other sizes (`ulimit -s`), to 32 KiB, from 8,192 KiB downwards. For each line the script prints the form that needs most, how
-it ends, the least stack in KiB, and what is left of 8,192; its status is 1 where a line ends otherwise on 8,192 KiB than on 65,536."""
+PROGRAM is the built `sketch`, and CHECKER the built `sketch_check`. First they are started under limits round the 7,168 KiB below which they end with 17 (`ulimit -s`), and without one. The texts nest, in eleven forms, as deep as one function's tree may, as deep as a run or an expansion may, and, for `lower`, switches in
+switches. Each line is run under stacks of other sizes, to 32 KiB, from 8,192 KiB downwards; as it looks at the limit when it starts, the limit is lowered once it waits for its input. For each line the script prints the
+form that needs most, how it ends, the least stack in KiB, and what is left of 8,192; its status is 1 where a line ends otherwise on 8,192 KiB than on 65,536, or a start otherwise than it has to."""
 import argparse
 import os
 import resource
 import subprocess
 import sys
+import time
 
 WHOLE, STEP, AMPLE = 8192, 32, 65536
+LEAST = 7340032
+EASY = b"harness void main(int x) { assert x + ??(1) == x; }\n"
 
 # What opens and closes a level, and what has to stand before the functions.
 FORMS = {
@@ -60,12 +63,41 @@ def switches(_, levels):
     return f"adt A {{ V {{ int n; }} }}\nvoid f(A x) {{ {'switch (x) { case V: { ' * levels}x.n = 1; {'} } ' * levels}}}\n"
 
 
+def waits(process):
+    """Whether a process sleeps, as one does that waits for its input."""
+    with open(f"/proc/{process.pid}/stat") as file:
+        return file.read().rpartition(")")[2].split()[0] in "SZ"
+
+
 def ended(program, words, text, kilobytes):
-    """The status of a run, and what it writes, on a stack of this size."""
+    """The status of a run, and what it writes, on a stack of this size, to which it is brought once it waits for its input."""
     size = kilobytes << 10
-    cap = lambda: resource.setrlimit(resource.RLIMIT_STACK, (size, size))
+    cap = lambda: resource.setrlimit(resource.RLIMIT_STACK, (AMPLE << 10, AMPLE << 10))
+    asked = subprocess.Popen([program, *words], stdin=subprocess.PIPE, stdout=subprocess.PIPE, stderr=subprocess.PIPE, preexec_fn=cap)
+    while not waits(asked):
+        time.sleep(0.001)
+    resource.prlimit(asked.pid, resource.RLIMIT_STACK, (size, size))
+    out, said = asked.communicate(text)
+    return asked.returncode, out, said
+
+
+def started(program, words, text, limit):
+    """The same, where the program starts on such a stack, of so many bytes."""
+    cap = lambda: resource.setrlimit(resource.RLIMIT_STACK, (limit, limit))
     ran = subprocess.run([program, *words], input=text, capture_output=True, preexec_fn=cap)
     return ran.returncode, ran.stdout, ran.stderr
+
+
+def starts(program, words, text):
+    """Whether starts on stacks round the least end as they have to: on less with 17 and a line, on as much as with ample stack."""
+    wanted, is_right = started(program, words, text, AMPLE << 10), True
+    for limit in (LEAST >> 5, 4096 << 10, LEAST - 1, LEAST, WHOLE << 10, resource.RLIM_INFINITY):
+        said = started(program, words, text, limit)
+        is_short = 0 <= limit < LEAST
+        is_as_wanted = said == ((17, b"", b"small stack %d %d\n" % (limit, LEAST)) if is_short else wanted)
+        is_right = is_right and is_as_wanted
+        print(f"{os.path.basename(program)} starts on {limit} bytes | status {said[0]} | {said[2].decode().strip()} | {'as it has to' if is_as_wanted else 'WRONG'}", flush=True)
+    return is_right
 
 
 def deepest(program, words, make, form):
@@ -111,9 +143,13 @@ LINES = [
 def main():
     parser = argparse.ArgumentParser()
     parser.add_argument("program")
+    parser.add_argument("checker", nargs="?")
     parser.add_argument("--only", default="")
     given = parser.parse_args()
-    program, is_enough = os.path.abspath(given.program), True
+    program = os.path.abspath(given.program)
+    is_enough = starts(program, ["synth"], EASY)
+    if given.checker:
+        is_enough = starts(os.path.abspath(given.checker), [], certified(program, EASY)) and is_enough
     for title, line, make, forms in LINES:
         if given.only not in title:
             continue

@@ -7,12 +7,15 @@ ghost use Rattle.sk_app.specs.Ending.{status_of};
 
 use sk_app::{Ending, StdSink, StdSource, message, run, status};
 use sk_explain::{KeptSink, KeptSource, explain};
+use sk_stack::{least_message, short_of_process};
 use std::env;
 use std::io::{IsTerminal, Write};
 use std::process::ExitCode;
 
 /// The status where the runtime does not give the words.
 const NO_WORDS: u8 = 24;
+/// The status where the stack may take less than a run needs: that of want of memory.
+const SMALL_STACK: u8 = 17;
 /// The first status that a line on standard error tells more of.
 const FIRST_TOLD: u8 = 10;
 
@@ -20,6 +23,16 @@ const FIRST_TOLD: u8 = 10;
 fn say(errors: &mut impl Write, line: &[u8]) {
     let _ = errors.write_all(line);
     let _ = errors.write_all(b"\n");
+}
+
+/// Says that the stack may take no more than this, and answers the status to end with, also where there is no memory for the line.
+fn small_stack(rt: &HostRuntime, limit: u64) -> u8
+    ensures { result ≡ 17 }
+{
+    if let Ok(line) = least_message(rt.alloc(), limit) {
+        say(&mut rt.stderr(), line.as_slice());
+    }
+    SMALL_STACK
 }
 
 /// Says what an ending has to say, and answers the status to end with: the ending's, also where there is no memory for the line.
@@ -62,6 +75,9 @@ fn say_more(
 }
 
 fn main(rt: HostRuntime) -> ExitCode {
+    if let Some(limit) = short_of_process(&rt) {
+        return ExitCode::from(small_stack(&rt, limit));
+    }
     let alloc = rt.alloc();
     let Ok(words) = words(&rt) else {
         say(&mut rt.stderr(), b"no words");
