@@ -16,6 +16,7 @@ use sk_loop_refuted::refuted;
 use sk_model::{Expanded, Input, Pair};
 use sk_oblig_queries::Query;
 use sk_sat::Answer;
+use sk_watch::{News, Phase, Watch};
 use std::alloc::{AllocError, Global};
 
 /// Puts copies of inputs behind others. After a refusal some of them may stand there, and the list is given up.
@@ -48,20 +49,22 @@ fn wanted(alloc: Global, kept: &[Input], others: &[Input]) -> Result<Query, Allo
 }
 
 /// Whether some choice passes the inputs kept and the others.
-fn is_passed(
+fn is_passed<W: Watch>(
     alloc: Global,
     expanded: &Expanded,
     bounds: &Bounds,
     kept: &[Input],
     others: &[Input],
+    watch: &mut W,
 ) -> Result<bool, AllocError>
     requires askable { IsAskable expanded.now bounds.now }
     ensures some { IfOk result (λ b. b ≡ true → SomePasses expanded.now bounds.now (kept.now ++ others.now)) }
     ensures none { IfOk result (λ b. b ≡ false → NonePasses expanded.now bounds.now (kept.now ++ others.now)) }
 {
+    watch.tell(News::Phase(Phase::Proving));
     let query = wanted(alloc, kept, others)?;
     let encoded = formula(alloc, expanded, bounds, &query)?;
-    match refuted(alloc, &encoded, 0)? {
+    match refuted(alloc, &encoded, 0, watch)? {
         Answer::Sat(_) => Ok(true),
         Answer::Unsat(_) => Ok(false),
         Answer::Spent(_) => unreachable!(),
@@ -69,20 +72,28 @@ fn is_passed(
 }
 
 /// Keeps the input with number i, unless no choice passes those kept and those behind it. A refusal ends the walk.
-fn keep(
+fn keep<W: Watch>(
     alloc: Global,
     expanded: &Expanded,
     bounds: &Bounds,
     kept: &mut List<Input>,
     all: &[Input],
     i: usize,
+    watch: &mut W,
 ) -> Result<(), AllocError>
     requires askable { IsAskable expanded.now bounds.now }
     requires within { i < length all.now }
     requires thinned { Thinned expanded.now bounds.now all.now kept.old i }
     ensures { OnOk result (Thinned expanded.now bounds.now all.now kept.new (i + 1)) }
 {
-    let passed = is_passed(alloc, expanded, bounds, kept.as_slice(), &all[i + 1..])?;
+    let passed = is_passed(
+        alloc,
+        expanded,
+        bounds,
+        kept.as_slice(),
+        &all[i + 1..],
+        watch,
+    )?;
     if passed {
         let input = copy_input(alloc, &all[i])?;
         kept.push(input)?;
@@ -93,11 +104,12 @@ fn keep(
 
 /// Of inputs that no choice passes, those that explain it: one after another is left out where no choice passes the others.
 #[tactic(auto, using(crate::proofs::Thinning::thinned))]
-fn thin(
+fn thin<W: Watch>(
     alloc: Global,
     expanded: &Expanded,
     bounds: &Bounds,
     all: &[Input],
+    watch: &mut W,
 ) -> Result<List<Input>, AllocError>
     requires askable { IsAskable expanded.now bounds.now }
     requires are_inputs { All (IsInput expanded.now.prog bounds.now) all.now }
@@ -107,7 +119,7 @@ fn thin(
 {
     let mut kept = List::new(alloc);
     for i in 0..all.len() {
-        keep(alloc, expanded, bounds, &mut kept, all, i)?;
+        keep(alloc, expanded, bounds, &mut kept, all, i, watch)?;
     }
     Ok(kept)
 }
@@ -132,7 +144,12 @@ fn inputs_of(alloc: Global, pairs: &[Pair]) -> Result<List<Input>, AllocError>
 ///
 /// Memory is wanting, or what a search counts as that.
 #[tactic(auto, using(crate::proofs::Answering::answering))]
-pub fn why(alloc: Global, expanded: &Expanded, bounds: &Bounds) -> Result<Why, AllocError>
+pub fn why<W: Watch>(
+    alloc: Global,
+    expanded: &Expanded,
+    bounds: &Bounds,
+    watch: &mut W,
+) -> Result<Why, AllocError>
     requires askable { IsAskable expanded.now bounds.now }
     ensures { IfOk result (IsWhy expanded.now bounds.now) }
 {
@@ -141,11 +158,11 @@ pub fn why(alloc: Global, expanded: &Expanded, bounds: &Bounds) -> Result<Why, A
         rounds: 0,
         conflicts: 0,
     };
-    match synthesise(alloc, expanded, bounds, None, &mut pairs, &budget)? {
+    match synthesise(alloc, expanded, bounds, None, &mut pairs, &budget, watch)? {
         Found::Choice(choice) => Ok(Why::Met(choice)),
         Found::Nothing => {
             let inputs = inputs_of(alloc, pairs.as_slice())?;
-            let kept = thin(alloc, expanded, bounds, inputs.as_slice())?;
+            let kept = thin(alloc, expanded, bounds, inputs.as_slice(), watch)?;
             Ok(Why::Inputs(kept))
         }
         Found::Rounds => unreachable!(),

@@ -14,6 +14,7 @@ use sk_loop_refuted::refuted;
 use sk_model::{Choice, Expanded, Input};
 use sk_oblig_queries::{Query, choice_of};
 use sk_sat::Answer;
+use sk_watch::{News, Phase, Watch};
 use std::alloc::{AllocError, Global};
 
 /// Copies of inputs.
@@ -41,21 +42,23 @@ fn wanted(alloc: Global, inputs: &[Input]) -> Result<Query, AllocError>
 
 /// A choice that passes the inputs and agrees with none that is listed where its sites stand.
 #[tactic(auto, using(crate::proofs::Proposals::proposing))]
-pub fn propose(
+pub fn propose<W: Watch>(
     alloc: Global,
     expanded: &Expanded,
     bounds: &Bounds,
     inputs: &[Input],
     listed: &[Listed],
+    watch: &mut W,
 ) -> Result<Option<Choice>, AllocError>
     requires askable { IsAskable expanded.now bounds.now }
     requires listed { All (IsListed expanded.now) listed.now }
     ensures { IfOk result (IsProposed expanded.now bounds.now inputs.now listed.now) }
 {
+    watch.tell(News::Phase(Phase::Proposing));
     let query = wanted(alloc, inputs)?;
     let mut encoded = formula(alloc, expanded, bounds, &query)?;
     exclude(alloc, expanded, bounds, &mut encoded, listed)?;
-    match refuted(alloc, &encoded, 0)? {
+    match refuted(alloc, &encoded, 0, watch)? {
         Answer::Sat(values) => {
             let choice = choice_of(alloc, expanded, &encoded, values.as_slice())?;
             Ok(Some(choice))

@@ -17,6 +17,7 @@ use sk_holes_marks::{canonical, marks_of};
 use sk_limits::too_many;
 use sk_loop_copies::copy_choice;
 use sk_model::{Choice, Expanded, Input};
+use sk_watch::{News, Watch};
 use std::alloc::{AllocError, Global};
 
 /// What follows on a round.
@@ -53,13 +54,14 @@ fn list(
 
 /// One round: a choice is proposed, and an input is kept that speaks against it, or else it is listed. A refusal ends the rounds.
 #[tactic(auto, using(crate::proofs::Lists::turning))]
-fn take_turn(
+fn take_turn<W: Watch>(
     alloc: Global,
     expanded: &Expanded,
     bounds: &Bounds,
     inputs: &mut List<Input>,
     listed: &mut Vec<Listed>,
     most: usize,
+    watch: &mut W,
 ) -> Result<Turn, AllocError>
     requires askable { IsAskable expanded.now bounds.now }
     requires are_inputs { All (IsInput expanded.now.prog bounds.now) inputs.old }
@@ -76,13 +78,17 @@ fn take_turn(
         bounds,
         inputs.as_slice(),
         listed.as_slice(),
+        watch,
     )?
     else {
         return Ok(Turn::Ended);
     };
-    match counter(alloc, expanded, bounds, &choice, None, 0)? {
+    match counter(alloc, expanded, bounds, &choice, None, 0, watch)? {
         Countered::Input(input) => {
             inputs.push(input)?;
+            watch.tell(News::Input {
+                count: inputs.len(),
+            });
             Ok(Turn::Again)
         }
         Countered::None => {
@@ -116,11 +122,12 @@ fn choices_of(alloc: Global, listed: &[Listed]) -> Result<List<Choice>, AllocErr
 ///
 /// Memory is wanting, or what a search counts as that.
 #[tactic(auto, using(crate::proofs::Lists::answering))]
-pub fn all(
+pub fn all<W: Watch>(
     alloc: Global,
     expanded: &Expanded,
     bounds: &Bounds,
     most: usize,
+    watch: &mut W,
 ) -> Result<Listing, AllocError>
     requires askable { IsAskable expanded.now bounds.now }
     requires some { 0 < most }
@@ -129,7 +136,15 @@ pub fn all(
     let mut inputs = List::new(alloc);
     let mut listed = Vec::new(alloc);
     for _round in 0..u64::MAX {
-        match take_turn(alloc, expanded, bounds, &mut inputs, &mut listed, most)? {
+        match take_turn(
+            alloc,
+            expanded,
+            bounds,
+            &mut inputs,
+            &mut listed,
+            most,
+            watch,
+        )? {
             Turn::Again => {}
             Turn::Ended => {
                 let choices = choices_of(alloc, listed.as_slice())?;

@@ -17,26 +17,34 @@ use sk_base::Bounds;
 use sk_front::{SketchFault, sized_expansion_of};
 use sk_model::Expanded;
 use sk_opts::Set;
+use sk_watch::Watch;
 use std::alloc::{AllocError, Global};
 
 /// What is told of an expansion.
-fn told(
+fn told<W: Watch>(
     alloc: Global,
     expanded: &Expanded,
     bounds: &Bounds,
     most: u32,
+    watch: &mut W,
 ) -> Result<Vec<u8>, AllocError>
     requires askable { IsAskable expanded.now bounds.now }
     requires some { 0 < most }
     ensures { IfOk result (λ out. TellsListing most out.items bounds.now expanded.now) }
 {
-    let listing = all(alloc, expanded, bounds, most as usize)?;
+    let listing = all(alloc, expanded, bounds, most as usize, watch)?;
     let out = listing_text(alloc, &listing)?;
     Ok(out)
 }
 
 /// The same as `all_text`, with the causes of what is answered alone.
-fn listed(alloc: Global, set: &Set, most: u32, text: &[u8]) -> Result<Vec<u8>, SketchFault>
+fn listed<W: Watch>(
+    alloc: Global,
+    set: &Set,
+    most: u32,
+    text: &[u8],
+    watch: &mut W,
+) -> Result<Vec<u8>, SketchFault>
     requires short { length text.now ≤ most_bytes }
     requires set { IsInRanges set.now }
     requires some { 0 < most }
@@ -48,7 +56,7 @@ fn listed(alloc: Global, set: &Set, most: u32, text: &[u8]) -> Result<Vec<u8>, S
         Ok(expansion) => expansion,
         Err(fault) => return Err(fault),
     };
-    match told(alloc, &expansion.expanded, &expansion.bounds, most) {
+    match told(alloc, &expansion.expanded, &expansion.bounds, most, watch) {
         Ok(out) => Ok(out),
         Err(_) => Err(SketchFault::Memory),
     }
@@ -60,7 +68,13 @@ fn listed(alloc: Global, set: &Set, most: u32, text: &[u8]) -> Result<Vec<u8>, S
 /// # Errors
 ///
 /// As `sized_expansion_of`: `NotText`, `NotTyped` and `TooLarge` where the text is not taken, and `Memory` where memory is wanting.
-pub fn all_text(alloc: Global, set: &Set, most: u32, text: &[u8]) -> Result<Vec<u8>, SketchFault>
+pub fn all_text<W: Watch>(
+    alloc: Global,
+    set: &Set,
+    most: u32,
+    text: &[u8],
+    watch: &mut W,
+) -> Result<Vec<u8>, SketchFault>
     requires short { length text.now ≤ most_bytes }
     requires set { IsInRanges set.now }
     requires some { 0 < most }
@@ -72,5 +86,5 @@ pub fn all_text(alloc: Global, set: &Set, most: u32, text: &[u8]) -> Result<Vec<
     ensures all { (bounds : Bounds) (e : Expanded) → IsBuilt set.now text.now bounds e → HasAtMost most bounds e → MatchResult result (λ out. TellsAll most out.items bounds e) IsMemory }
     ensures more { (bounds : Bounds) (e : Expanded) → IsBuilt set.now text.now bounds e → (HasAtMost most bounds e → ⊥) → MatchResult result (λ out. TellsMore most out.items bounds e) IsMemory }
 {
-    listed(alloc, set, most, text)
+    listed(alloc, set, most, text, watch)
 }

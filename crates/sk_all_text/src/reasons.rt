@@ -19,6 +19,7 @@ use sk_base::Bounds;
 use sk_front::{SketchFault, sized_expansion_of};
 use sk_model::Expanded;
 use sk_opts::Set;
+use sk_watch::Watch;
 use std::alloc::{AllocError, Global};
 
 /// The lines that a line `why` writes.
@@ -32,11 +33,16 @@ pub enum Reasons {
 
 /// What is told of an expansion.
 #[tactic(auto, using(crate::proofs::Answering::tells_inputs, crate::proofs::Answering::tells_meeting))]
-fn told(alloc: Global, expanded: &Expanded, bounds: &Bounds) -> Result<Reasons, AllocError>
+fn told<W: Watch>(
+    alloc: Global,
+    expanded: &Expanded,
+    bounds: &Bounds,
+    watch: &mut W,
+) -> Result<Reasons, AllocError>
     requires askable { IsAskable expanded.now bounds.now }
     ensures { IfOk result (λ reasons. TellsReasons reasons bounds.now expanded.now) }
 {
-    match why(alloc, expanded, bounds)? {
+    match why(alloc, expanded, bounds, watch)? {
         Why::Inputs(inputs) => {
             let out = inputs_text(alloc, inputs.as_slice())?;
             Ok(Reasons::Explained { out })
@@ -49,7 +55,12 @@ fn told(alloc: Global, expanded: &Expanded, bounds: &Bounds) -> Result<Reasons, 
 }
 
 /// The same as `why_text`, with the causes of what is answered alone.
-fn explained(alloc: Global, set: &Set, text: &[u8]) -> Result<Reasons, SketchFault>
+fn explained<W: Watch>(
+    alloc: Global,
+    set: &Set,
+    text: &[u8],
+    watch: &mut W,
+) -> Result<Reasons, SketchFault>
     requires short { length text.now ≤ most_bytes }
     requires set { IsInRanges set.now }
     ensures found { IfOk result (IsReasons set.now text.now) }
@@ -60,7 +71,7 @@ fn explained(alloc: Global, set: &Set, text: &[u8]) -> Result<Reasons, SketchFau
         Ok(expansion) => expansion,
         Err(fault) => return Err(fault),
     };
-    match told(alloc, &expansion.expanded, &expansion.bounds) {
+    match told(alloc, &expansion.expanded, &expansion.bounds, watch) {
         Ok(reasons) => Ok(reasons),
         Err(_) => Err(SketchFault::Memory),
     }
@@ -72,7 +83,12 @@ fn explained(alloc: Global, set: &Set, text: &[u8]) -> Result<Reasons, SketchFau
 /// # Errors
 ///
 /// As `sized_expansion_of`: `NotText`, `NotTyped` and `TooLarge` where the text is not taken, and `Memory` where memory is wanting.
-pub fn why_text(alloc: Global, set: &Set, text: &[u8]) -> Result<Reasons, SketchFault>
+pub fn why_text<W: Watch>(
+    alloc: Global,
+    set: &Set,
+    text: &[u8],
+    watch: &mut W,
+) -> Result<Reasons, SketchFault>
     requires short { length text.now ≤ most_bytes }
     requires set { IsInRanges set.now }
     ensures found { IfOk result (IsReasons set.now text.now) }
@@ -83,5 +99,5 @@ pub fn why_text(alloc: Global, set: &Set, text: &[u8]) -> Result<Reasons, Sketch
     ensures met { (bounds : Bounds) (e : Expanded) → IsBuilt set.now text.now bounds e → (c : Choice) → Meeting e bounds c → MatchResult result IsMet IsMemory }
     ensures explained { (bounds : Bounds) (e : Expanded) → IsBuilt set.now text.now bounds e → NoneMeets e bounds → MatchResult result IsExplained IsMemory }
 {
-    explained(alloc, set, text)
+    explained(alloc, set, text, watch)
 }

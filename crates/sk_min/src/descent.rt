@@ -17,10 +17,11 @@ use sk_limits::too_many;
 use sk_loop::{Found, Session};
 use sk_min_costs::is_free;
 use sk_model::{Choice, Expanded, Pair};
+use sk_watch::{News, Watch};
 use std::alloc::{AllocError, Global};
 
 // Looks for a choice that costs less than the best one, whose greatest cost is the value.
-fn lower(
+fn lower<W: Watch>(
     expanded: &Expanded,
     bounds: &Bounds,
     budget: &Budget,
@@ -28,6 +29,7 @@ fn lower(
     mut pairs: List<Pair>,
     best: Choice,
     value: u64,
+    watch: &mut W,
 ) -> Result<Turn, AllocError>
     requires askable { IsAskable expanded.now bounds.now }
     requires costly { IsCostly expanded.now }
@@ -43,7 +45,7 @@ fn lower(
             pairs,
         }));
     }
-    match session.synthesise(expanded, bounds, Some(value - 1), &mut pairs, budget)? {
+    match session.synthesise(expanded, bounds, Some(value - 1), &mut pairs, budget, watch)? {
         Found::Choice(choice) => Ok(Turn::Lower(State {
             session,
             pairs,
@@ -75,12 +77,13 @@ fn lower(
 }
 
 // The greatest cost of the best choice, and then a search below it.
-fn turn(
+fn turn<W: Watch>(
     alloc: Global,
     expanded: &Expanded,
     bounds: &Bounds,
     budget: &Budget,
     state: State,
+    watch: &mut W,
 ) -> Result<Turn, AllocError>
     requires askable { IsAskable expanded.now bounds.now }
     requires costly { IsCostly expanded.now }
@@ -93,9 +96,13 @@ fn turn(
         pairs,
         best,
     } = state;
-    match raise(alloc, expanded, bounds, budget, pairs, best)? {
+    match raise(alloc, expanded, bounds, budget, pairs, best, watch)? {
         Raised::Top { pairs, best, value } => {
-            let turn = lower(expanded, bounds, budget, session, pairs, best, value)?;
+            watch.tell(News::Better {
+                value,
+                holes: best.values.as_slice(),
+            });
+            let turn = lower(expanded, bounds, budget, session, pairs, best, value, watch)?;
             Ok(turn)
         }
         Raised::Ended(answer) => Ok(Turn::Ended(answer)),
@@ -103,12 +110,13 @@ fn turn(
 }
 
 // Turns until one ends.
-fn descend(
+fn descend<W: Watch>(
     alloc: Global,
     expanded: &Expanded,
     bounds: &Bounds,
     budget: &Budget,
     first: State,
+    watch: &mut W,
 ) -> Result<Least, AllocError>
     requires askable { IsAskable expanded.now bounds.now }
     requires costly { IsCostly expanded.now }
@@ -119,7 +127,7 @@ fn descend(
 {
     let mut state = first;
     for _turn in 0..u64::MAX {
-        match turn(alloc, expanded, bounds, budget, state)? {
+        match turn(alloc, expanded, bounds, budget, state, watch)? {
             Turn::Lower(next) => state = next,
             Turn::Ended(answer) => return Ok(answer),
         }
@@ -128,7 +136,7 @@ fn descend(
 }
 
 // The first choice that meets every obligation is the best one where nothing costs anything.
-fn from_first(
+fn from_first<W: Watch>(
     alloc: Global,
     expanded: &Expanded,
     bounds: &Bounds,
@@ -136,6 +144,7 @@ fn from_first(
     session: Session,
     pairs: List<Pair>,
     best: Choice,
+    watch: &mut W,
 ) -> Result<Least, AllocError>
     requires askable { IsAskable expanded.now bounds.now }
     requires meeting { Meeting expanded.now bounds.now best }
@@ -163,24 +172,27 @@ fn from_first(
             pairs,
             best,
         },
+        watch,
     )
 }
 
-/// Looks for a choice that meets every obligation and whose greatest cost is least.
-pub fn least(
+/// Looks for a choice that meets every obligation and whose greatest cost is least. The watcher is told of each choice whose greatest
+/// cost becomes known, where something costs.
+pub fn least<W: Watch>(
     alloc: Global,
     expanded: &Expanded,
     bounds: &Bounds,
     budget: &Budget,
+    watch: &mut W,
 ) -> Result<Least, AllocError>
     requires askable { IsAskable expanded.now bounds.now }
     ensures answer { IfOk result (IsAnswer expanded.now bounds.now budget.now) }
 {
     let mut session = Session::new(alloc, expanded, bounds)?;
     let mut pairs = List::new(alloc);
-    match session.synthesise(expanded, bounds, None, &mut pairs, budget)? {
+    match session.synthesise(expanded, bounds, None, &mut pairs, budget, watch)? {
         Found::Choice(choice) => from_first(
-            alloc, expanded, bounds, budget, session, pairs, choice,
+            alloc, expanded, bounds, budget, session, pairs, choice, watch,
         ),
         Found::Nothing => Ok(Least::Nothing { pairs }),
         Found::Rounds => Ok(Least::Rounds { pairs, best: None }),

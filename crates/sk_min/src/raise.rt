@@ -18,6 +18,7 @@ use sk_loop::oblig::cost_of;
 use sk_loop::{Countered, counter};
 use sk_loop_copies::copy_choice;
 use sk_model::{Choice, Expanded, Input, Pair};
+use sk_watch::{News, Watch};
 use std::alloc::{AllocError, Global};
 
 // The larger of two costs.
@@ -56,7 +57,7 @@ fn are_spent(budget: &Budget, pairs: &List<Pair>) -> bool
 }
 
 // Puts the choice and an input that costs it more than those of all pairs behind the pairs.
-fn append(
+fn append<W: Watch>(
     alloc: Global,
     expanded: &Expanded,
     bounds: &Bounds,
@@ -65,6 +66,7 @@ fn append(
     best: &Choice,
     input: Input,
     value: u64,
+    watch: &mut W,
 ) -> Result<Costlier, AllocError>
     requires askable { IsAskable expanded.now bounds.now }
     requires meeting { Meeting expanded.now bounds.now best.now }
@@ -77,6 +79,7 @@ fn append(
     let cost = cost_of(alloc, expanded, bounds, best, &input)?;
     let choice = copy_choice(alloc, best)?;
     pairs.push(Pair { choice, input })?;
+    watch.tell(News::Input { count: pairs.len() });
     if are_spent(budget, pairs) {
         return Ok(Costlier::Rounds);
     }
@@ -84,7 +87,7 @@ fn append(
 }
 
 // Looks for an input that costs the choice more than those of the pairs.
-fn costlier(
+fn costlier<W: Watch>(
     alloc: Global,
     expanded: &Expanded,
     bounds: &Bounds,
@@ -92,6 +95,7 @@ fn costlier(
     pairs: &mut List<Pair>,
     best: &Choice,
     value: u64,
+    watch: &mut W,
 ) -> Result<Costlier, AllocError>
     requires askable { IsAskable expanded.now bounds.now }
     requires meeting { Meeting expanded.now bounds.now best.now }
@@ -100,9 +104,17 @@ fn costlier(
     requires is { value ≡ greatest_on expanded.now bounds.now best.now (inputs_of pairs.old) }
     ensures { IfOk result (IsCostlier expanded.now bounds.now budget.now best.now value pairs.old pairs.new) }
 {
-    match counter(alloc, expanded, bounds, best, Some(value), budget.conflicts)? {
+    match counter(
+        alloc,
+        expanded,
+        bounds,
+        best,
+        Some(value),
+        budget.conflicts,
+        watch,
+    )? {
         Countered::Input(input) => append(
-            alloc, expanded, bounds, budget, pairs, best, input, value,
+            alloc, expanded, bounds, budget, pairs, best, input, value, watch,
         ),
         Countered::None => Ok(Costlier::None),
         Countered::Conflicts {
@@ -119,13 +131,14 @@ fn costlier(
 
 /// Looks for the greatest cost of a choice that meets every obligation. Each input that costs more than those before it stands
 /// behind the pairs afterwards.
-pub(crate) fn raise(
+pub(crate) fn raise<W: Watch>(
     alloc: Global,
     expanded: &Expanded,
     bounds: &Bounds,
     budget: &Budget,
     mut pairs: List<Pair>,
     best: Choice,
+    watch: &mut W,
 ) -> Result<Raised, AllocError>
     requires askable { IsAskable expanded.now bounds.now }
     requires costly { IsCostly expanded.now }
@@ -137,7 +150,9 @@ pub(crate) fn raise(
 {
     let mut value = greatest_on(alloc, expanded, bounds, &best, pairs.as_slice())?;
     for _turn in 0..u64::MAX {
-        match costlier(alloc, expanded, bounds, budget, &mut pairs, &best, value)? {
+        match costlier(
+            alloc, expanded, bounds, budget, &mut pairs, &best, value, watch,
+        )? {
             Costlier::Cost(cost) => value = cost,
             Costlier::None => return Ok(Raised::Top { pairs, best, value }),
             Costlier::Rounds => return Ok(Raised::Ended(Least::Rounds {

@@ -19,6 +19,7 @@ use sk_base::{Bounds, List, Name};
 use sk_cert::{Certificate, Proof, write};
 use sk_min_certify::{Certified, certify};
 use sk_model::{Choice, Expanded, Input, Pair};
+use sk_watch::Watch;
 use std::alloc::{AllocError, Global};
 
 // The certificate with these proofs.
@@ -52,7 +53,7 @@ fn text_of(alloc: Global, certificate: Certificate) -> Result<Vec<u8>, AllocErro
 }
 
 // The certificate of what is known: its proofs are made, and it is written.
-fn certification(
+fn certification<W: Watch>(
     alloc: Global,
     expanded: &Expanded,
     bounds: &Bounds,
@@ -62,6 +63,7 @@ fn certification(
     inputs: &[Input],
     claim: Certificate,
     conflicts: u64,
+    watch: &mut W,
 ) -> Result<Certification, AllocError>
     requires askable { IsAskable expanded.now bounds.now }
     requires honest { Honest expanded.now bounds.now pairs.now }
@@ -71,7 +73,9 @@ fn certification(
     ensures is { IfOk result (IsCertification expanded.now bounds.now (option_copied choice.entry) value pairs.now conflicts) }
     ensures lists { IfOk result (ListsPairs pairs.now) }
 {
-    match certify(alloc, expanded, bounds, choice, value, inputs, conflicts)? {
+    match certify(
+        alloc, expanded, bounds, choice, value, inputs, conflicts, watch,
+    )? {
         Certified::Proofs { upper, lower } => {
             let certificate = with_proofs(claim, upper, lower);
             let out = text_of(alloc, certificate)?;
@@ -92,12 +96,13 @@ fn certification(
 /// The text of the certificate of a best choice, with its value and the pairs of the search that found it: the completed
 /// program, the lines of the completion, and behind them the inputs of the pairs, a proof for each obligation that no input of
 /// it speaks against the choice within the value and, where the value is above 0, one that no choice passes the inputs within
-/// less. Each formula is put to a solver of its own, which may learn fewer clauses than the budget says; 0 is none.
+/// less. Each formula is put to a solver of its own, which may learn fewer clauses than the budget says; 0 is none. The watcher is told
+/// before each.
 ///
 /// # Errors
 ///
 /// Memory is wanting, or what `certify` and `listed` count as that.
-pub fn best_certification(
+pub fn best_certification<W: Watch>(
     alloc: Global,
     expanded: &Expanded,
     bounds: &Bounds,
@@ -105,6 +110,7 @@ pub fn best_certification(
     value: u64,
     pairs: &[Pair],
     conflicts: u64,
+    watch: &mut W,
 ) -> Result<Certification, AllocError>
     requires askable { IsAskable expanded.now bounds.now }
     requires few { length expanded.now.sites ≤ 4294967296 }
@@ -135,6 +141,7 @@ pub fn best_certification(
         inputs.as_slice(),
         claim,
         conflicts,
+        watch,
     )?;
     Ok(answer)
 }
@@ -145,12 +152,13 @@ pub fn best_certification(
 /// # Errors
 ///
 /// Memory is wanting, or what `certify` and `listed` count as that.
-pub fn none_certification(
+pub fn none_certification<W: Watch>(
     alloc: Global,
     expanded: &Expanded,
     bounds: &Bounds,
     pairs: &[Pair],
     conflicts: u64,
+    watch: &mut W,
 ) -> Result<Certification, AllocError>
     requires askable { IsAskable expanded.now bounds.now }
     requires honest { Honest expanded.now bounds.now pairs.now }
@@ -170,6 +178,7 @@ pub fn none_certification(
         inputs.as_slice(),
         claim,
         conflicts,
+        watch,
     )?;
     Ok(answer)
 }

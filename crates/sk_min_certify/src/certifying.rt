@@ -15,16 +15,18 @@ use crate::upper::upper_proofs;
 use sk_base::{Bounds, List};
 use sk_cert::Proof;
 use sk_model::{Choice, Expanded, Input};
+use sk_watch::Watch;
 use std::alloc::{AllocError, Global};
 
 // The upper proofs; none without a choice.
-fn upper_of(
+fn upper_of<W: Watch>(
     alloc: Global,
     expanded: &Expanded,
     bounds: &Bounds,
     choice: Option<&Choice>,
     value: u64,
     conflicts: u64,
+    watch: &mut W,
 ) -> Result<List<Proof>, Stop>
     requires askable { IsAskable expanded.now bounds.now }
     requires completes { IfSome (option_copied choice) (Completes expanded.now bounds.now (Some value)) }
@@ -34,14 +36,14 @@ fn upper_of(
     match choice {
         None => Ok(List::new(alloc)),
         Some(choice) => {
-            let upper = upper_proofs(alloc, expanded, bounds, choice, value, conflicts)?;
+            let upper = upper_proofs(alloc, expanded, bounds, choice, value, conflicts, watch)?;
             Ok(upper)
         }
     }
 }
 
 // The upper proofs and the lower one.
-fn proofs(
+fn proofs<W: Watch>(
     alloc: Global,
     expanded: &Expanded,
     bounds: &Bounds,
@@ -49,6 +51,7 @@ fn proofs(
     value: u64,
     inputs: &[Input],
     conflicts: u64,
+    watch: &mut W,
 ) -> Result<(List<Proof>, Option<Proof>), Stop>
     requires askable { IsAskable expanded.now bounds.now }
     requires completes { IfSome (option_copied choice) (Completes expanded.now bounds.now (Some value)) }
@@ -58,20 +61,23 @@ fn proofs(
     ensures lower { IfOk result (λ r. IsLower expanded.now bounds.now (option_copied choice.entry) value inputs.now r.1) }
     ensures stops { IfErr result (IsStop expanded.now bounds.now (IsPut expanded.now bounds.now (option_copied choice.entry) value inputs.now) conflicts) }
 {
-    let upper = upper_of(alloc, expanded, bounds, choice, value, conflicts)?;
-    let lower = lower_proof(alloc, expanded, bounds, choice, value, inputs, conflicts)?;
+    let upper = upper_of(alloc, expanded, bounds, choice, value, conflicts, watch)?;
+    let lower = lower_proof(
+        alloc, expanded, bounds, choice, value, inputs, conflicts, watch,
+    )?;
     Ok((upper, lower))
 }
 
 /// Makes the proofs of a certificate of a choice and its value, its greatest cost: one for each obligation that no input
 /// of it speaks against the choice within the value and, where the value is above 0, one that no choice passes the inputs
 /// within less. Without a choice, one that no choice passes the inputs, and the value does not matter. Each formula is made
-/// anew and put to a solver of its own, which may learn fewer clauses than the budget says; 0 is none.
+/// anew and put to a solver of its own, which may learn fewer clauses than the budget says; 0 is none. The watcher is told before
+/// each.
 ///
 /// # Errors
 ///
 /// Memory is wanting, or what `formula` and `refuted` count as that, or there are more obligations than 32 bits number.
-pub fn certify(
+pub fn certify<W: Watch>(
     alloc: Global,
     expanded: &Expanded,
     bounds: &Bounds,
@@ -79,6 +85,7 @@ pub fn certify(
     value: u64,
     inputs: &[Input],
     conflicts: u64,
+    watch: &mut W,
 ) -> Result<Certified, AllocError>
     requires askable { IsAskable expanded.now bounds.now }
     requires completes { IfSome (option_copied choice) (Completes expanded.now bounds.now (Some value)) }
@@ -86,7 +93,9 @@ pub fn certify(
     requires none { NonePassesBelow expanded.now bounds.now (option_copied choice) value inputs.now }
     ensures { IfOk result (IsCertified expanded.now bounds.now (option_copied choice.entry) value inputs.now conflicts) }
 {
-    match proofs(alloc, expanded, bounds, choice, value, inputs, conflicts) {
+    match proofs(
+        alloc, expanded, bounds, choice, value, inputs, conflicts, watch,
+    ) {
         Ok((upper, lower)) => Ok(Certified::Proofs { upper, lower }),
         Err(
             Stop::Spent {

@@ -15,6 +15,7 @@ use sk_cert::Proof;
 use sk_loop_copies::copy_input;
 use sk_model::{Choice, Expanded, Input};
 use sk_oblig_queries::Query;
+use sk_watch::Watch;
 use std::alloc::{AllocError, Global};
 
 // Inputs as these.
@@ -31,13 +32,14 @@ fn copy_inputs(alloc: Global, inputs: &[Input]) -> Result<List<Input>, AllocErro
 
 // A proof that no choice passes the inputs within a limit.
 #[tactic(auto, using(crate::proofs::Below::within))]
-fn none_within(
+fn none_within<W: Watch>(
     alloc: Global,
     expanded: &Expanded,
     bounds: &Bounds,
     inputs: &[Input],
     limit: Option<u64>,
     conflicts: u64,
+    watch: &mut W,
 ) -> Result<Proof, Stop>
     requires askable { IsAskable expanded.now bounds.now }
     requires none { NoneIsWanted expanded.now bounds.now inputs.now limit }
@@ -46,12 +48,12 @@ fn none_within(
 {
     let inputs = copy_inputs(alloc, inputs)?;
     let query = Query::Wanted { inputs, limit };
-    let proof = proof_of(alloc, expanded, bounds, query, conflicts)?;
+    let proof = proof_of(alloc, expanded, bounds, query, conflicts, watch)?;
     Ok(proof)
 }
 
 // The lower proof, where one is made.
-pub(crate) fn lower_proof(
+pub(crate) fn lower_proof<W: Watch>(
     alloc: Global,
     expanded: &Expanded,
     bounds: &Bounds,
@@ -59,6 +61,7 @@ pub(crate) fn lower_proof(
     value: u64,
     inputs: &[Input],
     conflicts: u64,
+    watch: &mut W,
 ) -> Result<Option<Proof>, Stop>
     requires askable { IsAskable expanded.now bounds.now }
     requires none { NonePassesBelow expanded.now bounds.now (option_copied choice) value inputs.now }
@@ -67,13 +70,21 @@ pub(crate) fn lower_proof(
 {
     match choice {
         None => {
-            let proof = none_within(alloc, expanded, bounds, inputs, None, conflicts)?;
+            let proof = none_within(alloc, expanded, bounds, inputs, None, conflicts, watch)?;
             Ok(Some(proof))
         }
         Some(_) => match value.checked_sub(1) {
             None => Ok(None),
             Some(most) => {
-                let proof = none_within(alloc, expanded, bounds, inputs, Some(most), conflicts)?;
+                let proof = none_within(
+                    alloc,
+                    expanded,
+                    bounds,
+                    inputs,
+                    Some(most),
+                    conflicts,
+                    watch,
+                )?;
                 Ok(Some(proof))
             }
         },

@@ -15,6 +15,7 @@ use sk_model::Expanded;
 use sk_oblig::formula;
 use sk_oblig_queries::Query;
 use sk_sat::Answer;
+use sk_watch::{News, Phase, Watch};
 use std::alloc::Global;
 
 // The clauses of a formula have only its variables: their list says so.
@@ -26,12 +27,13 @@ fn clauses_are_within(formula: &Encoded)
 
 // A proof that nothing is what the query asks for.
 #[tactic(auto, using(crate::proofs::Refuting::proving))]
-pub(crate) fn proof_of(
+pub(crate) fn proof_of<W: Watch>(
     alloc: Global,
     expanded: &Expanded,
     bounds: &Bounds,
     query: Query,
     conflicts: u64,
+    watch: &mut W,
 ) -> Result<Proof, Stop>
     requires askable { IsAskable expanded.now bounds.now }
     requires asked { IsAsked expanded.now query }
@@ -39,9 +41,10 @@ pub(crate) fn proof_of(
     ensures proves { IfOk result (Proves expanded.now bounds.now query) }
     ensures stops { IfErr result (IsStop expanded.now bounds.now (λ q. q ≡ query) conflicts) }
 {
+    watch.tell(News::Phase(Phase::Proving));
     let encoded = formula(alloc, expanded, bounds, &query)?;
     clauses_are_within(&encoded);
-    let answer = refuted(alloc, &encoded, conflicts)?;
+    let answer = refuted(alloc, &encoded, conflicts, watch)?;
     match answer {
         Answer::Unsat(log) => Ok(Proof {
             formula: encoded,

@@ -17,11 +17,12 @@ use sk_limits::number_of;
 use sk_loop_copies::copy_choice;
 use sk_model::{Choice, Expanded};
 use sk_oblig_queries::{Query, obligations};
+use sk_watch::Watch;
 use std::alloc::{AllocError, Global};
 
 // A proof that no input of the obligation at a place speaks against the choice.
 #[tactic(auto, using(crate::proofs::Above::above))]
-fn upper_proof(
+fn upper_proof<W: Watch>(
     alloc: Global,
     expanded: &Expanded,
     bounds: &Bounds,
@@ -29,6 +30,7 @@ fn upper_proof(
     value: u64,
     place: usize,
     conflicts: u64,
+    watch: &mut W,
 ) -> Result<Proof, Stop>
     requires askable { IsAskable expanded.now bounds.now }
     requires completes { Completes expanded.now bounds.now (Some value) choice.now }
@@ -43,19 +45,20 @@ fn upper_proof(
         obligation,
         limit: value,
     };
-    let proof = proof_of(alloc, expanded, bounds, query, conflicts)?;
+    let proof = proof_of(alloc, expanded, bounds, query, conflicts, watch)?;
     Ok(proof)
 }
 
 // A proof for each obligation, in order.
 #[tactic(auto, using(crate::proofs::Above::firsts))]
-pub(crate) fn upper_proofs(
+pub(crate) fn upper_proofs<W: Watch>(
     alloc: Global,
     expanded: &Expanded,
     bounds: &Bounds,
     choice: &Choice,
     value: u64,
     conflicts: u64,
+    watch: &mut W,
 ) -> Result<List<Proof>, Stop>
     requires askable { IsAskable expanded.now bounds.now }
     requires completes { Completes expanded.now bounds.now (Some value) choice.now }
@@ -65,7 +68,9 @@ pub(crate) fn upper_proofs(
     let count = obligations(alloc, &expanded.prog)?.len();
     let mut upper = List::new(alloc);
     for place in 0..count {
-        let proof = upper_proof(alloc, expanded, bounds, choice, value, place, conflicts)?;
+        let proof = upper_proof(
+            alloc, expanded, bounds, choice, value, place, conflicts, watch,
+        )?;
         upper.push(proof)?;
     }
     Ok(upper)

@@ -3,4 +3,4 @@ use Rattle.sk_all.proofs.reasons.thin.Given as goal
 
 -- those kept explain it so far
 abbrev pub invariant-loop-i : goal.invariant-loop-i
-invariant-loop-i l = Thinned l.expanded l.bounds l.all l.kept l.i
+invariant-loop-i g l = Thinned l.expanded l.bounds l.all l.kept l.i

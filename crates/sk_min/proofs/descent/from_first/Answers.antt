@@ -7,7 +7,7 @@ use Rattle.sk_min_costs.proofs.Runs.{free_is_best}
 use Rattle.sk_min.proofs.descent.from_first.Goals as goal
 
 pub returns-then-is_free-clause-answer : goal.returns-then-is_free-clause-answer
-returns-then-is_free-clause-answer c =
+returns-then-is_free-clause-answer g c =
     let free : IsTrue (is_free c.args.expanded.now.prog) = sym c.if-is_free.ensures in
     let met = c.requires.askable.met c.args.best c.requires.meeting.range in (
       c.requires.honest,
@@ -18,7 +18,7 @@ returns-then-is_free-clause-answer c =
     )
 
 pub returns-then-is_free-clause-behind : goal.returns-then-is_free-clause-behind
-returns-then-is_free-clause-behind c = nothing_behind c.args.pairs
+returns-then-is_free-clause-behind g c = nothing_behind c.args.pairs
 
 pub descend-requires-clause-state : goal.descend-requires-clause-state
-descend-requires-clause-state c = state_first c.args.expanded.now c.args.bounds.now c.args.session c.args.pairs c.args.best c.requires.honest c.requires.meeting c.requires.cheapest c.requires.stands
+descend-requires-clause-state g c = state_first c.args.expanded.now c.args.bounds.now c.args.session c.args.pairs c.args.best c.requires.honest c.requires.meeting c.requires.cheapest c.requires.stands

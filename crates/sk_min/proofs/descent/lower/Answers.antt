@@ -13,7 +13,7 @@ use Rattle.sk_min.proofs.Lowers.{limited_below, short_of_grown, state_lower, sti
 use Rattle.sk_min.proofs.descent.lower.Goals as goal
 
 pub returns-then-value-eq0 : goal.returns-then-value-eq0
-returns-then-value-eq0 c =
+returns-then-value-eq0 g c =
     let zero : c.args.value ≡ 0 = c.if-value-eq0.true in (
       (
         c.requires.top.honest,
@@ -26,7 +26,7 @@ returns-then-value-eq0 c =
     )
 
 pub returns-in-Choice : goal.returns-in-Choice
-returns-in-Choice c =
+returns-in-Choice g c =
     let found = subst (λ (x : Found). IsFound c.args.expanded.now c.args.bounds.now (Some (c.args.value - 1)) c.args.budget.now c.synthesise.new.pairs x) c.in-Choice.is c.in_ok-choice.ensures.found in
     let some : 0 < c.args.value = omega (arith, c.if-value-eq0.false) in
     let same = still c.args.expanded.now c.args.bounds.now c.args.pairs c.synthesise.new.pairs c.args.best c.args.value (Some (c.args.value - 1)) c.requires.askable c.requires.top c.in_ok-choice.ensures.grown c.in_ok-choice.ensures.honest in
@@ -40,7 +40,7 @@ returns-in-Choice c =
     )
 
 pub returns-in-Nothing : goal.returns-in-Nothing
-returns-in-Nothing c =
+returns-in-Nothing g c =
     let found = subst (λ (x : Found). IsFound c.args.expanded.now c.args.bounds.now (Some (c.args.value - 1)) c.args.budget.now c.synthesise.new.pairs x) c.in-Nothing.is c.in_ok-choice.ensures.found in
     let some : 0 < c.args.value = omega (arith, c.if-value-eq0.false) in (
       (
@@ -54,7 +54,7 @@ returns-in-Nothing c =
     )
 
 pub returns-in-Rounds : goal.returns-in-Rounds
-returns-in-Rounds c =
+returns-in-Rounds g c =
     let found = subst (λ (x : Found). IsFound c.args.expanded.now c.args.bounds.now (Some (c.args.value - 1)) c.args.budget.now c.synthesise.new.pairs x) c.in-Rounds.is c.in_ok-choice.ensures.found in
     let some : 0 < c.args.value = omega (arith, c.if-value-eq0.false) in
     let same = still c.args.expanded.now c.args.bounds.now c.args.pairs c.synthesise.new.pairs c.args.best c.args.value (Some (c.args.value - 1)) c.requires.askable c.requires.top c.in_ok-choice.ensures.grown c.in_ok-choice.ensures.honest in
@@ -69,7 +69,7 @@ returns-in-Rounds c =
     )
 
 pub returns-in-Conflicts : goal.returns-in-Conflicts
-returns-in-Conflicts c =
+returns-in-Conflicts g c =
     let found = subst (λ (x : Found). IsFound c.args.expanded.now c.args.bounds.now (Some (c.args.value - 1)) c.args.budget.now c.synthesise.new.pairs x) c.in-Conflicts.is c.in_ok-choice.ensures.found in
     let some : 0 < c.args.value = omega (arith, c.if-value-eq0.false) in
     let same = still c.args.expanded.now c.args.bounds.now c.args.pairs c.synthesise.new.pairs c.args.best c.args.value (Some (c.args.value - 1)) c.requires.askable c.requires.top c.in_ok-choice.ensures.grown c.in_ok-choice.ensures.honest in

@@ -14,12 +14,12 @@ use Rattle.sk_loop_laws.proofs.Pairs.{honest_are_inputs}
 use Rattle.sk_min.proofs.raise.raise.Goals as goal
 
 pub greatest_on-requires-clause-inputs : goal.greatest_on-requires-clause-inputs
-greatest_on-requires-clause-inputs c =
+greatest_on-requires-clause-inputs g c =
     let same : c.as_slice.result.now ≡ c.args.pairs = cc in
     subst (λ (ps : List Pair). All (IsInput c.args.expanded.now.prog c.args.bounds.now) (inputs_of ps)) (sym same) (honest_are_inputs c.args.expanded.now c.args.bounds.now c.args.pairs c.requires.honest)
 
 pub loop-turn-preserved : goal.loop-turn-preserved
-loop-turn-preserved c =
+loop-turn-preserved g c =
     let r = subst (λ (x : Costlier). IsCostlier c.args.expanded.now c.args.bounds.now c.args.budget.now c.args.best c.loop-turn.value c.loop-turn.pairs c.costlier.new.pairs x) c.in-Cost.is c.in_ok-cost.ensures in
     record {
       honest = r.0.honest;
@@ -30,7 +30,7 @@ loop-turn-preserved c =
     }
 
 pub returns-in-None : goal.returns-in-None
-returns-in-None c =
+returns-in-None g c =
     let none = subst (λ (x : Costlier). IsCostlier c.args.expanded.now c.args.bounds.now c.args.budget.now c.args.best c.loop-turn.value c.loop-turn.pairs c.costlier.new.pairs x) c.in-None.is c.in_ok-cost.ensures in
     let top = top_of c.args.expanded.now c.args.bounds.now c.loop-turn.pairs c.args.best c.loop-turn.value c.requires.askable c.loop-turn.invariant.honest c.loop-turn.invariant.is none.1 c.loop-turn.invariant.cheapest in (
       refl,
@@ -40,7 +40,7 @@ returns-in-None c =
     )
 
 pub returns-in-Rounds : goal.returns-in-Rounds
-returns-in-Rounds c =
+returns-in-Rounds g c =
     let r = subst (λ (x : Costlier). IsCostlier c.args.expanded.now c.args.bounds.now c.args.budget.now c.args.best c.loop-turn.value c.loop-turn.pairs c.costlier.new.pairs x) c.in-Rounds.is c.in_ok-cost.ensures in
     let cheapest = cheapest_raised c.args.expanded.now c.args.bounds.now c.loop-turn.pairs c.costlier.new.pairs c.args.best r.0 c.loop-turn.invariant.cheapest r.1 in
     let least = costs_least c.args.expanded.now c.args.bounds.now c.costlier.new.pairs c.args.best r.1.honest cheapest in (
@@ -49,7 +49,7 @@ returns-in-Rounds c =
     )
 
 pub returns-in-Conflicts : goal.returns-in-Conflicts
-returns-in-Conflicts c =
+returns-in-Conflicts g c =
     let r = subst (λ (x : Costlier). IsCostlier c.args.expanded.now c.args.bounds.now c.args.budget.now c.args.best c.loop-turn.value c.loop-turn.pairs c.costlier.new.pairs x) c.in-Conflicts.is c.in_ok-cost.ensures in
     let least = costs_least c.args.expanded.now c.args.bounds.now c.loop-turn.pairs c.args.best c.loop-turn.invariant.honest c.loop-turn.invariant.cheapest in
     subst (λ (ps : List Pair). IsAnswer c.args.expanded.now c.args.bounds.now c.args.budget.now (answer.Conflicts ps c.in-Conflicts.query c.in-Conflicts.formula c.in-Conflicts.log (Some c.args.best)) × IsBehind c.args.pairs ps) (sym r.0)

@@ -6,7 +6,7 @@ use Rattle.sk_min.specs.Search.{IsBehind, IsCheapest}
 use Rattle.sk_min.proofs.raise.raise.Given as goal
 
 abbrev pub invariant-loop-turn : goal.invariant-loop-turn
-invariant-loop-turn l = record {
+invariant-loop-turn g l = record {
   honest : Honest l.expanded l.bounds l.pairs;
   is : l.value ≡ greatest_on l.expanded l.bounds l.best (inputs_of l.pairs);
   behind : IsBehind l.initial.pairs l.pairs;
