@@ -1,15 +1,16 @@
 -- What words write, one after another.
-use Rattle.std.proofs.Common.{◌≡◌, ◌∙◌, ◌∷◌, ◌++◌, ◌+◌, ◌<◌, ◌≤◌, ℕ, Bool, true, false, List, [], length, take, drop, get_or, map, cond, eqb, ltb, refl, sym, ap, arith, append_assoc}
+use Rattle.std.proofs.Common.{◌≡◌, ◌∙◌, ◌∷◌, ◌++◌, ◌+◌, ◌<◌, ◌≤◌, ◌&&◌, ℕ, suc, Bool, true, false, List, [], length, take, drop, cond, eqb, ltb, refl, sym, ap, arith, append_assoc}
 use Rattle.std.specs.Prelude.{Option, Some, None}
-use Rattle.std.specs.Borrow.{Bor}
-use Rattle.std.proofs.lemmas.List.{append-nil, map-append}
+use Rattle.std.proofs.lemmas.List.{append-nil}
 use Rattle.std.specs.List.{position, position_or_len, slice_split}
 use Rattle.std.proofs.lemmas.Bool.{ltb-true, lt-ltb}
 use Rattle.std.proofs.lemmas.List.Quantifiers.{position-Some}
 use Rattle.std.proofs.lemmas.List.Splits.{slice_split_first, slice_split_none}
 use Rattle.std.proofs.lemmas.List.Sums.{fails_before_first}
 use Rattle.std.proofs.lemmas.List.Elements.{All-from_get_or}
-use Rattle.sk_cert.specs.Words.{both}
+use Rattle.std.specs.Str.{bytes_eq}
+use Rattle.std.specs.Prelude.{codes}
+use Rattle.sk_cert.specs.Words.{both, behind}
 use Rattle.sk_cert.proofs.Numbers.{cond_some}
 
 -- these in front of those that are found, if some are
@@ -47,30 +48,38 @@ piece_last mark rest h =
     no_place true e h = absurd (cc)
     no_place false e h = Rattle.std.proofs.lemmas.Bool.ltb-false (position_or_len (λ b. eqb b mark) rest) (length rest) e
 
-pub ruleset pieces = (piece_more, piece_last, append_assoc, Rattle.std.proofs.lemmas.List.map-append)
+pub ruleset pieces = (piece_more, piece_last)
 
 pub place_within : (mark at : ℕ) (text : List ℕ) → position (λ b. eqb b mark) text ≡ Some at → at < length text
 place_within mark at text h = (position-Some (λ b. eqb b mark) text at 0 h).0
 
 pub ruleset places = (place_within)
 
-abbrev shown : Bor (List ℕ) → List ℕ
-shown x = x.now
-
-pub piece_pushed : (mark at : ℕ) (pieces pushed : List (Bor (List ℕ))) (piece : Bor (List ℕ)) (rest next text : List ℕ) → pushed ≡ pieces ++ piece ∷ [] → piece.now ≡ take at rest → next ≡ drop (at + 1) rest → Some at ≡ position (λ b. eqb b mark) rest → map (λ x. x.now) pieces ++ slice_split (λ b. eqb b mark) rest ≡ slice_split (λ b. eqb b mark) text → map (λ x. x.now) pushed ++ slice_split (λ b. eqb b mark) next ≡ slice_split (λ b. eqb b mark) text
-piece_pushed mark at pieces pushed piece rest next text p q r s h =
+-- a text is its first piece and those of what is left
+pub piece_first : (mark at : ℕ) (piece rest text : List ℕ) → piece ≡ take at text → rest ≡ drop (at + 1) text → Some at ≡ position (λ b. eqb b mark) text → slice_split (λ b. eqb b mark) text ≡ piece ∷ slice_split (λ b. eqb b mark) rest
+piece_first mark at piece rest text q r s =
     let split : List ℕ → List (List ℕ) = λ bs. slice_split (λ b. eqb b mark) bs in
-    ap (λ ps. map shown ps ++ split next) p
-    ∙ ap (λ t. t ++ split next) (map-append shown pieces (piece ∷ []))
-    ∙ append_assoc (map shown pieces) (piece.now ∷ []) (split next)
-    ∙ ap (λ t. map shown pieces ++ t ∷ split next) q
-    ∙ ap (λ t. map shown pieces ++ take at rest ∷ split t) r
-    ∙ ap (λ t. map shown pieces ++ t) (sym (piece_more mark at rest (sym s)))
-    ∙ h
+    piece_more mark at text (sym s)
+    ∙ ap (λ t. t ∷ split (drop (at + 1) text)) (sym q)
+    ∙ ap (λ t. piece ∷ split t) (sym r)
 
-pub pieces_done : (mark : ℕ) (pieces pushed : List (Bor (List ℕ))) (piece : Bor (List ℕ)) (text : List ℕ) → pushed ≡ pieces ++ piece ∷ [] → None ≡ position (λ b. eqb b mark) piece.now → map (λ x. x.now) pieces ++ slice_split (λ b. eqb b mark) piece.now ≡ slice_split (λ b. eqb b mark) text → map (λ x. x.now) pushed ≡ slice_split (λ b. eqb b mark) text
-pieces_done mark pieces pushed piece text p s h =
-    ap (map shown) p
-    ∙ map-append shown pieces (piece ∷ [])
-    ∙ ap (λ t. map shown pieces ++ t) (sym (piece_last mark piece.now (sym s)))
-    ∙ h
+-- how far it is to the end of what is left
+abbrev pub left_of : Option (List ℕ) → ℕ
+left_of None = 0
+left_of (Some text) = suc (length text)
+
+-- the words of a line of this kind behind its first two, and none of a line that is not of this kind
+pub behind_both : (kind first second text : List ℕ) (left : List (List ℕ)) → slice_split (λ b. eqb b 32) text ≡ second ∷ left → cond (bytes_eq first (codes "//@") && bytes_eq second kind) (Some left) None ≡ behind kind (first ∷ slice_split (λ b. eqb b 32) text)
+unfolding behind
+behind_both kind first second text left h = ap (λ ws. behind kind (first ∷ ws)) (sym h)
+
+pub behind_yes : (kind first second text : List ℕ) (left : List (List ℕ)) → slice_split (λ b. eqb b 32) text ≡ second ∷ left → (bytes_eq first (codes "//@") && bytes_eq second kind) ≡ true → Some left ≡ behind kind (first ∷ slice_split (λ b. eqb b 32) text)
+behind_yes kind first second text left h e = sym (ap (λ b. cond b (Some left) None) e) ∙ behind_both kind first second text left h
+
+pub behind_no : (kind first second text : List ℕ) (left : List (List ℕ)) → slice_split (λ b. eqb b 32) text ≡ second ∷ left → (bytes_eq first (codes "//@") && bytes_eq second kind) ≡ false → None ≡ behind kind (first ∷ slice_split (λ b. eqb b 32) text)
+behind_no kind first second text left h e = sym (ap (λ b. cond b (Some left) None) e) ∙ behind_both kind first second text left h
+
+-- nor of a line of one word
+pub behind_short : (kind line : List ℕ) → None ≡ position (λ b. eqb b 32) line → None ≡ behind kind (slice_split (λ b. eqb b 32) line)
+unfolding behind
+behind_short kind line h = sym (ap (λ ws. behind kind ws) (piece_last 32 line (sym h)))

@@ -73,6 +73,11 @@ argument_of word = all_of scalar_of (slice_split (λ b. b == 44) word)
 
 -- Lines
 
+-- the pieces between these bytes of what is left of a text, or none where nothing is left
+abbrev pub pieces : ℕ → Option (List ℕ) → List (List ℕ)
+pieces mark None = []
+pieces mark (Some text) = slice_split (λ b. b == mark) text
+
 abbrev pub words : List ℕ → List (List ℕ)
 words line = slice_split (λ b. b == 32) line
 

@@ -1,9 +1,9 @@
 // What the words of a line write.
-ghost use Rattle.std.specs.Prelude.{◌≡◌, ◌==◌, ◌+◌, ◌<◌, length, take, drop, map, IfOk, IfSome};
+ghost use Rattle.std.specs.Prelude.{◌≡◌, ◌==◌, ◌&&◌, codes, ◌∷◌, [], ◌+◌, ◌<◌, length, take, drop, map, IfOk, IfSome};
 ghost use Rattle.std.specs.List.{position, slice_split};
 ghost use Rattle.std.specs.Option.{option_map};
-ghost use Rattle.std.specs.Str.{all_ascii_digits};
-ghost use Rattle.sk_cert.specs.Words.{all_of, below_limit, is_numeral, number_from, number_of, variable_of, literal_of, positive, negative, scalar_of, argument_of, behind, numbers_in, only, number_in, version_in, input_from, input_in, sizes_from, sizes_behind, sizes_in, names_in, clause_in};
+ghost use Rattle.std.specs.Str.{all_ascii_digits, bytes_eq};
+ghost use Rattle.sk_cert.specs.Words.{all_of, below_limit, is_numeral, number_from, number_of, variable_of, literal_of, positive, negative, scalar_of, argument_of, behind, numbers_in, only, number_in, version_in, pieces, words, input_from, input_in, sizes_from, sizes_behind, sizes_in, names_in, clause_in};
 
 use crate::certificate::CertInput;
 use crate::lines::Sizes;
@@ -166,34 +166,55 @@ pub fn after(text: &[u8], at: usize) -> &[u8]
     &text[at + 1..]
 }
 
-// The pieces of a text between these bytes.
-#[tactic(auto, using(crate::proofs::Gathered::pieces))]
-fn pieces_of<'a>(alloc: Global, mark: u8, text: &'a [u8]) -> Result<Vec<&'a [u8]>, AllocError>
-    ensures { IfOk result (λ v. map (λ x. x.now) v.items ≡ slice_split (λ b. b == mark) text.now) }
-{
-    let mut pieces = Vec::new(alloc);
-    let mut rest = text;
-    while let Some(at) = place_of(mark, rest) {
-        pieces.push(before(rest, at))?;
-        rest = after(rest, at);
+// How many pieces a text has between these bytes.
+fn count_of(mark: u8, text: &[u8]) -> usize {
+    let mut count: usize = 1;
+    for b in text {
+        if *b == mark {
+            count = count.saturating_add(1);
+        }
     }
-    pieces.push(rest)?;
-    Ok(pieces)
+    count
 }
 
-// The scalars that pieces write, if each writes one.
-#[tactic(auto, using(crate::proofs::Gathered::steps))]
-fn scalars_of(alloc: Global, pieces: &[&[u8]]) -> Result<Option<List<i64>>, AllocError>
-    ensures { IfOk result (λ o. o ≡ all_of scalar_of (map (λ x. x.now) pieces.now)) }
+// An empty list, with room for a thing for each piece that is left.
+fn room_for<T>(alloc: Global, mark: u8, left: Option<&[u8]>) -> Result<List<T>, AllocError>
+    ensures { IfOk result (λ list. list ≡ []) }
 {
-    let mut scalars = List::new(alloc);
-    let mut rest = pieces;
-    while let [piece, after @ ..] = rest {
-        let Some(scalar) = scalar_of(piece) else {
+    let count = match left {
+        Some(text) => count_of(mark, text),
+        None => 0,
+    };
+    let room = Vec::with_capacity(alloc, count)?;
+    Ok(List::from_vec(room))
+}
+
+// The first piece of a text between these bytes, and the text that is left behind it, if one is.
+#[tactic(auto, using(crate::proofs::Gathered::pieces))]
+fn first_piece(mark: u8, text: &[u8]) -> (&[u8], Option<&[u8]>)
+    ensures pieces { slice_split (λ b. b == mark) text.now ≡ result.0.now ∷ pieces mark (option_map (λ x. x.now) result.1) }
+    ensures less { IfSome result.1 (λ rest. length rest.now < length text.now) }
+{
+    match place_of(mark, text) {
+        Some(at) => (before(text, at), Some(after(text, at))),
+        None => (text, None),
+    }
+}
+
+// The scalars that the pieces between commas write, if each writes one.
+#[tactic(auto, using(crate::proofs::Gathered::steps))]
+fn scalars_of(alloc: Global, left: Option<&[u8]>) -> Result<Option<List<i64>>, AllocError>
+    ensures { IfOk result (λ o. o ≡ all_of scalar_of (pieces 44 (option_map (λ x. x.now) left.entry))) }
+{
+    let mut scalars = room_for(alloc, b',', left)?;
+    let mut rest = left;
+    while let Some(text) = rest {
+        let (piece, more) = first_piece(b',', text);
+        let Some(found) = scalar_of(piece) else {
             return Ok(None);
         };
-        scalars.push(scalar)?;
-        rest = after;
+        scalars.push(found)?;
+        rest = more;
     }
     Ok(Some(scalars))
 }
@@ -203,41 +224,42 @@ fn scalars_of(alloc: Global, pieces: &[&[u8]]) -> Result<Option<List<i64>>, Allo
 fn argument_of(alloc: Global, word: &[u8]) -> Result<Option<List<i64>>, AllocError>
     ensures { IfOk result (λ o. o ≡ argument_of word.now) }
 {
-    let pieces = pieces_of(alloc, b',', word)?;
-    let scalars = scalars_of(alloc, &pieces)?;
+    let scalars = scalars_of(alloc, Some(word))?;
     Ok(scalars)
 }
 
 // The arguments that words write, if each writes one.
 #[tactic(auto, using(crate::proofs::Gathered::steps))]
-fn arguments_of(alloc: Global, words: &[&[u8]]) -> Result<Option<List<List<i64>>>, AllocError>
-    ensures { IfOk result (λ o. o ≡ all_of argument_of (map (λ x. x.now) words.now)) }
+fn arguments_of(alloc: Global, left: Option<&[u8]>) -> Result<Option<List<List<i64>>>, AllocError>
+    ensures { IfOk result (λ o. o ≡ all_of argument_of (pieces 32 (option_map (λ x. x.now) left.entry))) }
 {
-    let mut args = List::new(alloc);
-    let mut rest = words;
-    while let [word, after @ ..] = rest {
-        let Some(argument) = argument_of(alloc, word)? else {
+    let mut args = room_for(alloc, b' ', left)?;
+    let mut rest = left;
+    while let Some(text) = rest {
+        let (piece, more) = first_piece(b' ', text);
+        let Some(found) = argument_of(alloc, piece)? else {
             return Ok(None);
         };
-        args.push(argument)?;
-        rest = after;
+        args.push(found)?;
+        rest = more;
     }
     Ok(Some(args))
 }
 
 // The numbers that words write, if each writes one.
 #[tactic(auto, using(crate::proofs::Gathered::steps))]
-fn numbers_of(alloc: Global, words: &[&[u8]]) -> Result<Option<List<u64>>, AllocError>
-    ensures { IfOk result (λ o. o ≡ all_of number_of (map (λ x. x.now) words.now)) }
+fn numbers_of(alloc: Global, left: Option<&[u8]>) -> Result<Option<List<u64>>, AllocError>
+    ensures { IfOk result (λ o. o ≡ all_of number_of (pieces 32 (option_map (λ x. x.now) left.entry))) }
 {
-    let mut numbers = List::new(alloc);
-    let mut rest = words;
-    while let [word, after @ ..] = rest {
-        let Some(number) = number_of(word) else {
+    let mut numbers = room_for(alloc, b' ', left)?;
+    let mut rest = left;
+    while let Some(text) = rest {
+        let (piece, more) = first_piece(b' ', text);
+        let Some(found) = number_of(piece) else {
             return Ok(None);
         };
-        numbers.push(number)?;
-        rest = after;
+        numbers.push(found)?;
+        rest = more;
     }
     Ok(Some(numbers))
 }
@@ -247,54 +269,71 @@ fn numbers_of(alloc: Global, words: &[&[u8]]) -> Result<Option<List<u64>>, Alloc
 fn variables_of(
     alloc: Global,
     vars: u64,
-    words: &[&[u8]],
+    left: Option<&[u8]>,
 ) -> Result<Option<List<usize>>, AllocError>
-    ensures { IfOk result (λ o. o ≡ all_of (variable_of vars) (map (λ x. x.now) words.now)) }
+    ensures { IfOk result (λ o. o ≡ all_of (variable_of vars) (pieces 32 (option_map (λ x. x.now) left.entry))) }
 {
-    let mut names = List::new(alloc);
-    let mut rest = words;
-    while let [word, after @ ..] = rest {
-        let Some(name) = variable_of(vars, word) else {
+    let mut names = room_for(alloc, b' ', left)?;
+    let mut rest = left;
+    while let Some(text) = rest {
+        let (piece, more) = first_piece(b' ', text);
+        let Some(found) = variable_of(vars, piece) else {
             return Ok(None);
         };
-        names.push(name)?;
-        rest = after;
+        names.push(found)?;
+        rest = more;
     }
     Ok(Some(names))
 }
 
 // The literals that words write, if each writes one.
 #[tactic(auto, using(crate::proofs::Gathered::steps))]
-fn literals_of(alloc: Global, vars: u64, words: &[&[u8]]) -> Result<Option<List<Lit>>, AllocError>
-    ensures { IfOk result (λ o. o ≡ all_of (literal_of vars) (map (λ x. x.now) words.now)) }
+fn literals_of(
+    alloc: Global,
+    vars: u64,
+    left: Option<&[u8]>,
+) -> Result<Option<List<Lit>>, AllocError>
+    ensures { IfOk result (λ o. o ≡ all_of (literal_of vars) (pieces 32 (option_map (λ x. x.now) left.entry))) }
 {
-    let mut lits = List::new(alloc);
-    let mut rest = words;
-    while let [word, after @ ..] = rest {
-        let Some(lit) = literal_of(vars, word) else {
+    let mut lits = room_for(alloc, b' ', left)?;
+    let mut rest = left;
+    while let Some(text) = rest {
+        let (piece, more) = first_piece(b' ', text);
+        let Some(found) = literal_of(vars, piece) else {
             return Ok(None);
         };
-        lits.push(lit)?;
-        rest = after;
+        lits.push(found)?;
+        rest = more;
     }
     Ok(Some(lits))
 }
 
-// The words behind the kind, in those of a line of this kind.
-#[tactic(auto, unfolding(crate::specs::Words::behind))]
-fn behind<'a, 'b>(kind: &[u8], words: &'a [&'b [u8]]) -> Option<&'a [&'b [u8]]>
-    ensures { option_map (λ ws. map (λ x. x.now) ws.now) result ≡ behind kind.now (map (λ x. x.now) words.now) }
+// Whether two words begin a line of this kind.
+fn are_mark(first: &[u8], second: &[u8], kind: &[u8]) -> bool
+    ensures { result ≡ (bytes_eq first.now (codes "//@") && bytes_eq second.now kind.now) }
 {
-    match words {
-        [] => None,
-        [_] => None,
-        [first, second, rest @ ..] => {
-            if *first == b"//@".as_slice() && *second == kind {
-                Some(rest)
-            } else {
-                None
-            }
-        }
+    first == b"//@".as_slice() && second == kind
+}
+
+// The words behind the first of a line and the kind, where this one begins what is left behind the first.
+fn behind_first<'a>(kind: &[u8], first: &[u8], rest: &'a [u8]) -> Option<Option<&'a [u8]>>
+    ensures { option_map (λ left. pieces 32 (option_map (λ x. x.now) left)) result ≡ behind kind.now (first.now ∷ slice_split (λ b. b == 32) rest.now) }
+{
+    let (second, left) = first_piece(b' ', rest);
+    if are_mark(first, second, kind) {
+        Some(left)
+    } else {
+        None
+    }
+}
+
+// The words behind the kind, in a line of this kind: what is left of the line, or nothing.
+fn behind<'a>(kind: &[u8], line: &'a [u8]) -> Option<Option<&'a [u8]>>
+    ensures { option_map (λ left. pieces 32 (option_map (λ x. x.now) left)) result ≡ behind kind.now (words line.now) }
+{
+    match place_of(b' ', line) {
+        None => None,
+        Some(at) => behind_first(kind, before(line, at), after(line, at)),
     }
 }
 
@@ -303,11 +342,10 @@ fn behind<'a, 'b>(kind: &[u8], words: &'a [&'b [u8]]) -> Option<&'a [&'b [u8]]>
 pub fn numbers_in(alloc: Global, kind: &[u8], line: &[u8]) -> Result<Option<List<u64>>, AllocError>
     ensures { IfOk result (λ o. o ≡ numbers_in kind.now line.now) }
 {
-    let words = pieces_of(alloc, b' ', line)?;
-    let Some(rest) = behind(kind, &words) else {
+    let Some(left) = behind(kind, line) else {
         return Ok(None);
     };
-    let numbers = numbers_of(alloc, rest)?;
+    let numbers = numbers_of(alloc, left)?;
     Ok(numbers)
 }
 
@@ -346,16 +384,17 @@ pub fn version_in(alloc: Global, line: &[u8]) -> Result<Option<u32>, AllocError>
 }
 
 // The input that the words behind its kind write.
-fn input_from(alloc: Global, words: &[&[u8]]) -> Result<Option<CertInput>, AllocError>
-    ensures { IfOk result (λ o. o ≡ input_from (map (λ x. x.now) words.now)) }
+fn input_from(alloc: Global, left: Option<&[u8]>) -> Result<Option<CertInput>, AllocError>
+    ensures { IfOk result (λ o. o ≡ input_from (pieces 32 (option_map (λ x. x.now) left.entry))) }
 {
-    let [first, rest @ ..] = words else {
+    let Some(text) = left else {
         return Ok(None);
     };
+    let (first, more) = first_piece(b' ', text);
     let Some(obligation) = number_of(first) else {
         return Ok(None);
     };
-    let Some(args) = arguments_of(alloc, rest)? else {
+    let Some(args) = arguments_of(alloc, more)? else {
         return Ok(None);
     };
     Ok(Some(CertInput { obligation, args }))
@@ -366,11 +405,10 @@ fn input_from(alloc: Global, words: &[&[u8]]) -> Result<Option<CertInput>, Alloc
 pub fn input_in(alloc: Global, line: &[u8]) -> Result<Option<CertInput>, AllocError>
     ensures { IfOk result (λ o. o ≡ input_in line.now) }
 {
-    let words = pieces_of(alloc, b' ', line)?;
-    let Some(rest) = behind(b"input", &words) else {
+    let Some(left) = behind(b"input", line) else {
         return Ok(None);
     };
-    let input = input_from(alloc, rest)?;
+    let input = input_from(alloc, left)?;
     Ok(input)
 }
 
@@ -429,11 +467,10 @@ pub fn sizes_in(
 pub fn names_in(alloc: Global, vars: u64, line: &[u8]) -> Result<Option<List<usize>>, AllocError>
     ensures { IfOk result (λ o. o ≡ names_in vars line.now) }
 {
-    let words = pieces_of(alloc, b' ', line)?;
-    let Some(rest) = behind(b"names", &words) else {
+    let Some(left) = behind(b"names", line) else {
         return Ok(None);
     };
-    let names = variables_of(alloc, vars, rest)?;
+    let names = variables_of(alloc, vars, left)?;
     Ok(names)
 }
 
@@ -447,10 +484,9 @@ pub fn clause_in(
 ) -> Result<Option<List<Lit>>, AllocError>
     ensures { IfOk result (λ o. o ≡ clause_in kind.now vars line.now) }
 {
-    let words = pieces_of(alloc, b' ', line)?;
-    let Some(rest) = behind(kind, &words) else {
+    let Some(left) = behind(kind, line) else {
         return Ok(None);
     };
-    let lits = literals_of(alloc, vars, rest)?;
+    let lits = literals_of(alloc, vars, left)?;
     Ok(lits)
 }

@@ -1,11 +1,12 @@
-use Rattle.std.proofs.Common.{◌≡◌, length, map}
-use Rattle.sk_cert.specs.Words.{all_of, variable_of}
-use Rattle.sk_cert.proofs.Gathered.{gathered}
+use Rattle.std.proofs.Common.{◌≡◌}
+use Rattle.std.specs.Option.{option_map}
+use Rattle.sk_cert.specs.Words.{all_of, variable_of, pieces}
+use Rattle.sk_cert.proofs.Gathered.{gathered, left_of}
 use Rattle.sk_cert.proofs.parse.variables_of.Given as goal
 
--- those so far, and those of the words to come
+-- those so far, and those of the pieces to come
 abbrev pub invariant-loop-rest : goal.invariant-loop-rest
-invariant-loop-rest l = all_of (variable_of l.vars) (map (λ x. x.now) l.words) ≡ gathered l.names (all_of (variable_of l.vars) (map (λ x. x.now) l.rest))
+invariant-loop-rest l = all_of (variable_of l.vars) (pieces 32 (option_map (λ x. x.now) l.left)) ≡ gathered l.names (all_of (variable_of l.vars) (pieces 32 (option_map (λ x. x.now) l.rest)))
 
 abbrev pub decreases-loop-rest : goal.decreases-loop-rest
-decreases-loop-rest l = length l.rest
+decreases-loop-rest l = left_of (option_map (λ x. x.now) l.rest)
