@@ -34,3 +34,7 @@ returns-in_ok-inputs-in-Spent-clause-proposed g c =
 pub returns-in_ok-inputs-in-Spent-clause-stands : goal.returns-in_ok-inputs-in-Spent-clause-stands
 returns-in_ok-inputs-in-Spent-clause-stands g c =
     stands_solved c.args.self.now c.solve.new.self c.args.expanded.now c.args.bounds.now (inputs_of c.args.pairs.now) c.args.limit c.requires.stands c.in_ok-values.ensures.solves
+
+pub returns-in-Never-clause-stands : goal.returns-in-Never-clause-stands
+returns-in-Never-clause-stands g c =
+    stands_solved c.args.self.now c.solve.new.self c.args.expanded.now c.args.bounds.now (inputs_of c.args.pairs.now) c.args.limit c.requires.stands c.in_ok-values.ensures.solves
