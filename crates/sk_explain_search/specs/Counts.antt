@@ -1,5 +1,5 @@
 -- What is counted of a search.
-use Rattle.std.specs.Prelude.{ℕ, ◌+◌, ◌-◌, ◌^◌, min, nat_lt, Option, Some, None, if◌then◌else◌}
+use Rattle.std.specs.Prelude.{ℕ, ◌+◌, ◌-◌, ◌^◌, min, nat_lt, Some, None, if◌then◌else◌}
 use Rattle.sk_watch.specs.declared.Phase.{Phase}
 use Rattle.sk_watch.specs.declared.Phase.TheVariants as phase
 use Rattle.sk_watch.specs.declared.News.{News}

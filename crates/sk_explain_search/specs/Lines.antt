@@ -10,7 +10,7 @@ abbrev pub word : List ℕ → List ℕ
 word bytes = map plain bytes
 
 -- a number, and a word behind it
-abbrev pub counted_text : ℕ → List ℕ → List ℕ
+unfoldable pub counted_text : ℕ → List ℕ → List ℕ
 counted_text count behind = decimal count ++ word behind
 
 -- the value of the last completion, where one was found with a value
@@ -18,16 +18,16 @@ abbrev pub best_text : Option ℕ → List ℕ
 best_text None = []
 best_text (Some value) = word (codes "best value ") ++ counted_text value (codes ", ")
 
-abbrev pub sizes_text : Statistics → List ℕ
-sizes_text s = counted_text s.conflicts (codes " conflicts, ") ++ counted_text s.formula.clauses (codes " clauses, ")
+-- two of them
+abbrev pub both_text : ℕ → List ℕ → ℕ → List ℕ → List ℕ
+both_text first after second behind = counted_text first after ++ counted_text second behind
 
 -- The line that shows that a search goes on, after so many seconds, and how much of it is written
 
 abbrev pub progress_text : Statistics → ℕ → List ℕ
 progress_text s seconds =
-    counted_text s.rounds (codes " rounds, ")
-    ++ counted_text s.inputs (codes " inputs, ")
-    ++ sizes_text s
+    both_text s.rounds (codes " rounds, ") s.inputs (codes " inputs, ")
+    ++ both_text s.conflicts (codes " conflicts, ") s.formula.clauses (codes " clauses, ")
     ++ best_text s.best
     ++ counted_text seconds (codes " s")
 
@@ -61,7 +61,7 @@ count_lines s =
 abbrev pub seconds_text : ℕ → List ℕ
 seconds_text time = decimal (time / 1000) ++ word (codes ".") ++ decimal (time / 100 % 10) ++ decimal (time / 10 % 10) ++ decimal (time % 10)
 
-abbrev pub seconds_line : List ℕ → ℕ → List ℕ
+unfoldable pub seconds_line : List ℕ → ℕ → List ℕ
 seconds_line name time = word (codes "seconds ") ++ word name ++ word (codes ": ") ++ seconds_text time ++ 10 ∷ []
 
 abbrev pub time_lines : Times → List ℕ

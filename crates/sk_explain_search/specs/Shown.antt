@@ -1,6 +1,5 @@
 -- When people are shown that a search goes on.
 use Rattle.std.specs.Prelude.{ℕ, ◌-◌, ◌%◌, ◌==◌, nat_le, Bool, true, Option, Some, None}
-use Rattle.sk_watch.specs.declared.Phase.{Phase}
 use Rattle.sk_watch.specs.declared.News.{News}
 use Rattle.sk_watch.specs.declared.News.TheVariants as news
 

@@ -1,7 +1,7 @@
 //! The lines that tell people of a search.
 ghost use Rattle.std.specs.Prelude.{◌≡◌, ◌++◌, take, IfOk, OnOk};
 ghost use Rattle.std.specs.List.{flat_map};
-ghost use Rattle.sk_explain_search.specs.Lines.{behind_blank, best_text, better_text, count_lines, counted_text, finding_lines, number_line, progress_text, seconds_line, seconds_text, sizes_text, time_lines, width};
+ghost use Rattle.sk_explain_search.specs.Lines.{behind_blank, best_text, better_text, both_text, count_lines, counted_text, finding_lines, number_line, progress_text, seconds_line, seconds_text, time_lines, width};
 
 use crate::statistics::Statistics;
 use crate::times::Times;
@@ -12,6 +12,7 @@ use std::alloc::{AllocError, Global};
 const WIDTH: usize = 79;
 
 // Appends a number, and a word behind it.
+#[tactic(auto, unfolding(crate::specs::Lines::counted_text))]
 fn push_count(note: &mut Note, count: u64, word: &[u8]) -> Result<(), AllocError>
     ensures { OnOk result (note.new.bytes.items ≡ note.old.bytes.items ++ counted_text count word.now) }
 {
@@ -34,12 +35,18 @@ fn push_best(note: &mut Note, best: Option<u64>) -> Result<(), AllocError>
     }
 }
 
-// Appends what was counted of the solver.
-fn push_sizes(note: &mut Note, statistics: &Statistics) -> Result<(), AllocError>
-    ensures { OnOk result (note.new.bytes.items ≡ note.old.bytes.items ++ sizes_text statistics.now) }
+// Appends two numbers, each with a word behind it.
+fn push_both(
+    note: &mut Note,
+    first: u64,
+    after: &[u8],
+    second: u64,
+    behind: &[u8],
+) -> Result<(), AllocError>
+    ensures { OnOk result (note.new.bytes.items ≡ note.old.bytes.items ++ both_text first after.now second behind.now) }
 {
-    push_count(note, statistics.conflicts, b" conflicts, ")?;
-    push_count(note, statistics.formula.clauses, b" clauses, ")?;
+    push_count(note, first, after)?;
+    push_count(note, second, behind)?;
     Ok(())
 }
 
@@ -52,23 +59,43 @@ pub fn progress_line(
     ensures { IfOk result (λ note. note.bytes.items ≡ progress_text statistics.now seconds) }
 {
     let mut note = Note::new(alloc);
-    push_count(&mut note, statistics.rounds, b" rounds, ")?;
-    push_count(&mut note, statistics.inputs, b" inputs, ")?;
-    push_sizes(&mut note, statistics)?;
+    let Statistics {
+        rounds,
+        inputs,
+        conflicts,
+        formula,
+        ..
+    } = *statistics;
+    push_both(&mut note, rounds, b" rounds, ", inputs, b" inputs, ")?;
+    let clauses = formula.clauses;
+    push_both(
+        &mut note,
+        conflicts,
+        b" conflicts, ",
+        clauses,
+        b" clauses, ",
+    )?;
     push_best(&mut note, statistics.best)?;
     push_count(&mut note, seconds, b" s")?;
     Ok(note)
+}
+
+// The front of some bytes: so many, or all where there are fewer.
+fn front(bytes: &[u8], count: usize) -> &[u8]
+    ensures { result.now ≡ take count bytes.now }
+{
+    if count < bytes.len() {
+        &bytes[..count]
+    } else {
+        bytes
+    }
 }
 
 /// What of such a line is written: its front, where it is long.
 pub fn fitted(line: &[u8]) -> &[u8]
     ensures { result.now ≡ take width line.now }
 {
-    if line.len() > WIDTH {
-        &line[..WIDTH]
-    } else {
-        line
-    }
+    front(line, WIDTH)
 }
 
 // Appends each number behind a blank.
@@ -140,6 +167,7 @@ fn push_seconds(note: &mut Note, time: u64) -> Result<(), AllocError>
 }
 
 // Appends the line of a time with a name.
+#[tactic(auto, unfolding(crate::specs::Lines::seconds_line))]
 fn push_time(note: &mut Note, name: &[u8], time: u64) -> Result<(), AllocError>
     ensures { OnOk result (note.new.bytes.items ≡ note.old.bytes.items ++ seconds_line name.now time) }
 {
