@@ -10,6 +10,7 @@ use std::test::Fail;
 use std::time::Duration;
 
 /// A clock that moves on by so many milliseconds where it is looked at.
+#[derive(Drop)]
 struct Moving {
     now: Cell<u64>,
     step: u64,
@@ -27,7 +28,7 @@ impl Clock for Moving {
     }
 }
 
-fn moving(step: u64) -> Moving {
+fn clock_of(step: u64) -> Moving {
     Moving {
         now: Cell::new(0),
         step,
@@ -65,7 +66,7 @@ fn seen(alloc: Global, clock: &Moving, wanted: Wanted) -> Result<Vec<u8>, AllocE
 
 #[test]
 fn a_slow_search_is_shown(rt: HostRuntime) -> Result<(), Fail> {
-    let out = seen(rt.alloc(), &moving(500), BOTH)?;
+    let out = seen(rt.alloc(), &clock_of(500), BOTH)?;
     let wanted: &[u8] = b"\r1 rounds, 0 inputs, 0 conflicts, 70 clauses, 1 s\x1b[K\
 \r1 rounds, 0 inputs, 3 conflicts, 70 clauses, 1 s\x1b[K\
 \r1 rounds, 1 inputs, 3 conflicts, 70 clauses, 2 s\x1b[K\
@@ -81,7 +82,7 @@ seconds of proofs: 0.000\nseconds in all: 3.000\n";
 
 #[test]
 fn a_fast_search_is_not(rt: HostRuntime) -> Result<(), Fail> {
-    let out = seen(rt.alloc(), &moving(1), BOTH)?;
+    let out = seen(rt.alloc(), &clock_of(1), BOTH)?;
     assert!(rt;
         out.as_slice()
             .starts_with(b"best so far: value 12, holes 3 0 1\nrounds: 1\n")
@@ -95,7 +96,7 @@ fn what_is_not_wanted_is_not_shown(rt: HostRuntime) -> Result<(), Fail> {
         progress: false,
         better: false,
     };
-    let out = seen(rt.alloc(), &moving(5000), none)?;
+    let out = seen(rt.alloc(), &clock_of(5000), none)?;
     assert!(rt; out.as_slice().starts_with(b"rounds: 1\n"));
     Ok(())
 }
