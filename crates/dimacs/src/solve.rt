@@ -4,6 +4,7 @@ ghost use Rattle.dimacs.specs.Verdict.{IsVerdict};
 
 use sk_clause::{Assignment, Clauses, Log};
 use sk_sat::{Answer, Solver};
+use sk_watch::Silent;
 use std::alloc::{AllocError, Global};
 
 /// Whether clauses can be met.
@@ -40,7 +41,7 @@ pub fn solve(alloc: Global, clauses: &Clauses) -> Result<Found, AllocError>
     ensures { IfOk result (λ f. IsVerdict clauses.now f.verdict f.learnt) }
 {
     let mut solver = solver_of(alloc, clauses)?;
-    let answer = solver.solve(0)?;
+    let answer = solver.solve(0, &mut Silent)?;
     let learnt = solver.learnt_len();
     match answer {
         Answer::Sat(values) => Ok(Found {

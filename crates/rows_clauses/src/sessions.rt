@@ -5,6 +5,7 @@ use crate::solving::{Told, is_as_wanted, put, solver_of, tell_answer};
 use row_tables::{Fault, Report, expect};
 use sk_clause::{ClauseList, Lit};
 use sk_sat::Solver;
+use sk_watch::Silent;
 use std::alloc::{AllocError, Global};
 
 const HOLES: usize = 6;
@@ -108,7 +109,7 @@ fn add(
 }
 
 fn is_answered(solver: &mut Solver, list: &ClauseList, wanted: Told) -> Result<(), Fault> {
-    let answer = solver.solve(0)?;
+    let answer = solver.solve(0, &mut Silent)?;
     expect(is_as_wanted(tell_answer(list, &answer), wanted))
 }
 

@@ -4,6 +4,7 @@ use crate::numbers::{SQUARE, list_of};
 use row_tables::{Fault, Report, expect};
 use sk_clause::{ClauseList, Lit};
 use sk_sat::{Answer, Solver};
+use sk_watch::Silent;
 use std::alloc::{AllocError, Global};
 
 /// Adds a clause, without its literals of variables that are not there.
@@ -86,7 +87,7 @@ pub fn tell_answer(list: &ClauseList, answer: &Answer) -> Told {
 fn solved(alloc: Global, vars: usize, numbers: &[i32], budget: u64) -> Result<Told, AllocError> {
     let list = list_of(alloc, numbers)?;
     let mut solver = solver_of(alloc, vars, &list)?;
-    let answer = solver.solve(budget)?;
+    let answer = solver.solve(budget, &mut Silent)?;
     Ok(tell_answer(&list, &answer))
 }
 
@@ -150,7 +151,7 @@ fn expect_told(
     budget: u64,
     wanted: Told,
 ) -> Result<(), Fault> {
-    let answer = solver.solve(budget)?;
+    let answer = solver.solve(budget, &mut Silent)?;
     expect(tell_answer(list, &answer) == wanted)
 }
 

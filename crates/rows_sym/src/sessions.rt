@@ -11,6 +11,7 @@ use sk_clause::Clauses;
 use sk_loop::{Found, Session, synthesise};
 use sk_loop_copies::copy_clauses;
 use sk_model::{Choice, Expanded, Pair};
+use sk_watch::Silent;
 use std::alloc::{AllocError, Global};
 
 /// What two calls of one session do, with the same pairs, no limit and no budget.
@@ -82,7 +83,7 @@ fn call(
     ensures ready { OnOk result (IsReady session.new expanded.now bounds.now (inputs_of pairs.new) None) }
     ensures honest { OnOk result (Honest expanded.now bounds.now pairs.new) }
 {
-    let found = session.synthesise(expanded, bounds, None, pairs, &unbounded())?;
+    let found = session.synthesise(expanded, bounds, None, pairs, &unbounded(), &mut Silent)?;
     Ok(is_found(&found, wanted))
 }
 
@@ -136,7 +137,15 @@ fn find_alone(
     requires askable { IsAskable expanded.now bounds.now }
 {
     let mut pairs = List::new(alloc);
-    let found = synthesise(alloc, expanded, bounds, None, &mut pairs, &unbounded())?;
+    let found = synthesise(
+        alloc,
+        expanded,
+        bounds,
+        None,
+        &mut pairs,
+        &unbounded(),
+        &mut Silent,
+    )?;
     Ok(is_found(&found, wanted))
 }
 

@@ -16,6 +16,7 @@ use sk_loop_guesses::guess;
 use sk_model::{Choice, Expanded, Input as InputOf};
 use sk_oblig_queries::Query;
 use sk_sat::Solver;
+use sk_watch::{News, Phase, Watch};
 use std::alloc::{AllocError, Global};
 
 /// What a search for an input found.
@@ -35,24 +36,30 @@ pub enum Countered {
 
 // Asks a solver of its own.
 #[tactic(auto, using(crate::proofs::Loading::starts_loaded))]
-fn solved(alloc: Global, encoded: &Encoded, budget: u64) -> Result<Answered, AllocError>
+fn solved<W: Watch>(
+    alloc: Global,
+    encoded: &Encoded,
+    budget: u64,
+    watch: &mut W,
+) -> Result<Answered, AllocError>
     ensures { IfOk result (IsAnswered encoded.now budget) }
 {
     let mut solver = Solver::new(alloc);
     load(&mut solver, &encoded.clauses, 0)?;
-    let answered = answer(alloc, &mut solver, encoded, budget)?;
+    let answered = answer(alloc, &mut solver, encoded, budget, watch)?;
     Ok(answered)
 }
 
 // Looks for an input that speaks against a choice within a limit, by a formula.
 #[tactic(auto, using(crate::proofs::Countering::countering))]
-fn asked(
+fn asked<W: Watch>(
     alloc: Global,
     expanded: &Expanded,
     bounds: &Bounds,
     choice: &Choice,
     limit: Option<u64>,
     budget: u64,
+    watch: &mut W,
 ) -> Result<Countered, AllocError>
     requires askable { IsAskable expanded.now bounds.now }
     requires range { InRange expanded.now choice.now }
@@ -64,7 +71,7 @@ fn asked(
         limit,
     };
     let encoded = formula(alloc, expanded, bounds, &query)?;
-    match solved(alloc, &encoded, budget)? {
+    match solved(alloc, &encoded, budget, watch)? {
         Answered::Met(values) => {
             let input = input_of(alloc, expanded, bounds, &query, &encoded, values.as_slice())?;
             Ok(Countered::Input(input))
@@ -78,23 +85,26 @@ fn asked(
     }
 }
 
-/// Looks for an input that speaks against a choice within a limit: first among the guesses, then by a formula.
-pub fn counter(
+/// Looks for an input that speaks against a choice within a limit: first among the guesses, then by a formula. The watcher is told
+/// when it begins, and of the formula.
+pub fn counter<W: Watch>(
     alloc: Global,
     expanded: &Expanded,
     bounds: &Bounds,
     choice: &Choice,
     limit: Option<u64>,
     budget: u64,
+    watch: &mut W,
 ) -> Result<Countered, AllocError>
     requires askable { IsAskable expanded.now bounds.now }
     requires range { InRange expanded.now choice.now }
     ensures { IfOk result (IsCountered expanded.now bounds.now choice.now limit budget) }
 {
+    watch.tell(News::Phase(Phase::Countering));
     match guess(alloc, expanded, bounds, choice, limit)? {
         Some(guessed) => Ok(Countered::Input(guessed)),
         None => {
-            let countered = asked(alloc, expanded, bounds, choice, limit, budget)?;
+            let countered = asked(alloc, expanded, bounds, choice, limit, budget, watch)?;
             Ok(countered)
         }
     }

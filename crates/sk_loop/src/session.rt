@@ -26,6 +26,7 @@ use sk_loop_guesses::asking::Asking;
 use sk_model::{Choice, Expanded, Pair};
 use sk_oblig_queries::{Query, choice_of};
 use sk_sat::Solver;
+use sk_watch::{News, Phase, Watch};
 use std::alloc::{AllocError, Global};
 
 /// A search for choices of one program under its bounds, which keeps its formula and what the solver learnt from call to call.
@@ -79,7 +80,7 @@ impl Session {
 
     // Asks the solver, once it has all clauses.
     #[tactic(auto, using(crate::proofs::Standing::solves_made))]
-    fn solve(&mut self, budget: u64) -> Result<Answered, AllocError>
+    fn solve<W: Watch>(&mut self, budget: u64, watch: &mut W) -> Result<Answered, AllocError>
         requires loaded { IsLoaded self.old.solver self.old.loaded self.old.asking.growing.encoded.clauses }
         ensures answered { IfOk result (IsAnswered self.old.asking.growing.encoded budget) }
         ensures call { IfOk result (IsOfCall budget (gained self.old.solver self.new.solver)) }
@@ -89,19 +90,20 @@ impl Session {
         let encoded = self.asking.encoded();
         load(&mut self.solver, &encoded.clauses, self.loaded)?;
         self.loaded = encoded.clauses.len();
-        let answered = answer(self.alloc, &mut self.solver, encoded, budget)?;
+        let answered = answer(self.alloc, &mut self.solver, encoded, budget, watch)?;
         Ok(answered)
     }
 
     // What the solver proposes for the pairs, for whose inputs the session stands.
     #[tactic(auto, using(crate::proofs::Proposing::proposing))]
-    fn propose(
+    fn propose<W: Watch>(
         &mut self,
         expanded: &Expanded,
         bounds: &Bounds,
         limit: Option<u64>,
         pairs: &List<Pair>,
         budget: &Budget,
+        watch: &mut W,
     ) -> Result<Proposed, AllocError>
         requires askable { IsAskable expanded.now bounds.now }
         requires stands { StandsFor self.old expanded.now bounds.now (inputs_of pairs.now) limit }
@@ -111,7 +113,8 @@ impl Session {
         ensures stands { OnOk result (StandsFor self.new expanded.now bounds.now (inputs_of pairs.now) limit) }
         ensures asking { self.new.asking ≡ self.old.asking }
     {
-        match self.solve(budget.conflicts)? {
+        watch.tell(News::Phase(Phase::Proposing));
+        match self.solve(budget.conflicts, watch)? {
             Answered::Met(values) => {
                 let encoded = self.asking.encoded();
                 let choice = choice_of(self.alloc, expanded, encoded, values.as_slice())?;
@@ -164,7 +167,7 @@ impl Session {
 
     // Looks for an input that speaks against a choice which passes those of the pairs.
     #[tactic(auto, using(crate::proofs::Judging::judging))]
-    fn judge(
+    fn judge<W: Watch>(
         &mut self,
         expanded: &Expanded,
         bounds: &Bounds,
@@ -172,6 +175,7 @@ impl Session {
         pairs: &mut List<Pair>,
         budget: &Budget,
         choice: Choice,
+        watch: &mut W,
     ) -> Result<Turn, AllocError>
         requires askable { IsAskable expanded.now bounds.now }
         requires stands { StandsFor self.old expanded.now bounds.now (inputs_of pairs.old) limit }
@@ -190,6 +194,7 @@ impl Session {
             &choice,
             limit,
             budget.conflicts,
+            watch,
         )? {
             Countered::None => Ok(Turn::Ended(Found::Choice(choice))),
             Countered::Conflicts {
@@ -203,6 +208,7 @@ impl Session {
             })),
             Countered::Input(input) => {
                 self.note(expanded, bounds, limit, pairs, Pair { choice, input })?;
+                watch.tell(News::Input { count: pairs.len() });
                 Ok(turn_after(expanded, bounds, limit, budget, pairs))
             }
         }
@@ -210,13 +216,14 @@ impl Session {
 
     // One round.
     #[tactic(auto, using(crate::proofs::Judging::turning))]
-    fn round(
+    fn round<W: Watch>(
         &mut self,
         expanded: &Expanded,
         bounds: &Bounds,
         limit: Option<u64>,
         pairs: &mut List<Pair>,
         budget: &Budget,
+        watch: &mut W,
     ) -> Result<Turn, AllocError>
         requires askable { IsAskable expanded.now bounds.now }
         requires stands { StandsFor self.old expanded.now bounds.now (inputs_of pairs.old) limit }
@@ -227,10 +234,10 @@ impl Session {
         ensures formula { KeepsClauses self.old.asking.growing.encoded self.new.asking.growing.encoded }
         ensures keeps { Keeps pairs.old pairs.new }
     {
-        match self.propose(expanded, bounds, limit, pairs, budget)? {
+        match self.propose(expanded, bounds, limit, pairs, budget, watch)? {
             Proposed::Ended(found) => Ok(Turn::Ended(found)),
             Proposed::Choice(choice) => {
-                let turn = self.judge(expanded, bounds, limit, pairs, budget, choice)?;
+                let turn = self.judge(expanded, bounds, limit, pairs, budget, choice, watch)?;
                 Ok(turn)
             }
         }
@@ -238,13 +245,14 @@ impl Session {
 
     // Rounds until the search ends. More of them than can be counted would count as want of memory.
     #[tactic(auto, using(crate::proofs::Turns::turns))]
-    fn rounds(
+    fn rounds<W: Watch>(
         &mut self,
         expanded: &Expanded,
         bounds: &Bounds,
         limit: Option<u64>,
         pairs: &mut List<Pair>,
         budget: &Budget,
+        watch: &mut W,
     ) -> Result<Found, AllocError>
         requires askable { IsAskable expanded.now bounds.now }
         requires stands { StandsFor self.old expanded.now bounds.now (inputs_of pairs.old) limit }
@@ -256,7 +264,7 @@ impl Session {
         ensures keeps { Keeps pairs.old pairs.new }
     {
         for _turn in 0..u64::MAX {
-            match self.round(expanded, bounds, limit, pairs, budget)? {
+            match self.round(expanded, bounds, limit, pairs, budget, watch)? {
                 Turn::Ended(found) => return Ok(found),
                 Turn::Again => {}
             }
@@ -294,13 +302,14 @@ impl Session {
 
     // The search, after whose refusal further pairs may stand behind the old ones.
     #[tactic(auto, using(crate::proofs::Turns::joined))]
-    fn search(
+    fn search<W: Watch>(
         &mut self,
         expanded: &Expanded,
         bounds: &Bounds,
         limit: Option<u64>,
         pairs: &mut List<Pair>,
         budget: &Budget,
+        watch: &mut W,
     ) -> Result<Found, AllocError>
         requires askable { IsAskable expanded.now bounds.now }
         requires ready { IsReady self.old expanded.now bounds.now (inputs_of pairs.old) limit }
@@ -312,23 +321,25 @@ impl Session {
         ensures keeps { Keeps pairs.old pairs.new }
     {
         self.stand(expanded, bounds, limit, pairs)?;
-        let found = self.rounds(expanded, bounds, limit, pairs, budget)?;
+        let found = self.rounds(expanded, bounds, limit, pairs, budget, watch)?;
         Ok(found)
     }
 
     /// Looks for a choice that meets every obligation and costs at most the limit on every input. Each input that is found on
-    /// the way stands behind the pairs, with the choice against which it speaks.
+    /// the way stands behind the pairs, with the choice against which it speaks. The watcher is told of each, of what begins, of
+    /// the formulas and of the conflicts.
     ///
     /// Afterwards the session stands for the inputs of all pairs and this limit. Its names stay and its clauses begin with those it
     /// had, also after a refusal; it may then ask for inputs that were being added too, and stands for no query.
     #[tactic(auto, using(crate::proofs::Turns::ending))]
-    pub fn synthesise(
+    pub fn synthesise<W: Watch>(
         &mut self,
         expanded: &Expanded,
         bounds: &Bounds,
         limit: Option<u64>,
         pairs: &mut List<Pair>,
         budget: &Budget,
+        watch: &mut W,
     ) -> Result<Found, AllocError>
         requires askable { IsAskable expanded.now bounds.now }
         requires ready { IsReady self.old expanded.now bounds.now (inputs_of pairs.old) limit }
@@ -343,7 +354,7 @@ impl Session {
         ensures refused { OnErr result (pairs.new ≡ pairs.old) }
     {
         let before = pairs.len();
-        match self.search(expanded, bounds, limit, pairs, budget) {
+        match self.search(expanded, bounds, limit, pairs, budget, watch) {
             Ok(found) => Ok(found),
             Err(error) => {
                 cut(pairs, before);
@@ -362,13 +373,14 @@ impl Session {
 
 /// Looks for a choice that meets every obligation and costs at most the limit on every input, in a session of its own.
 #[tactic(auto, using(crate::proofs::Standing::ready_begins))]
-pub fn synthesise(
+pub fn synthesise<W: Watch>(
     alloc: Global,
     expanded: &Expanded,
     bounds: &Bounds,
     limit: Option<u64>,
     pairs: &mut List<Pair>,
     budget: &Budget,
+    watch: &mut W,
 ) -> Result<Found, AllocError>
     requires askable { IsAskable expanded.now bounds.now }
     requires honest { Honest expanded.now bounds.now pairs.old }
@@ -379,5 +391,5 @@ pub fn synthesise(
     ensures refused { OnErr result (pairs.new ≡ pairs.old) }
 {
     let mut session = Session::new(alloc, expanded, bounds)?;
-    session.synthesise(expanded, bounds, limit, pairs, budget)
+    session.synthesise(expanded, bounds, limit, pairs, budget, watch)
 }

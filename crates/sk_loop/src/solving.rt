@@ -10,6 +10,7 @@ use sk_clause::{Assignment, Clauses, Log};
 use sk_cnf::Encoded;
 use sk_loop_copies::copy_encoded;
 use sk_sat::{Answer, Solver};
+use sk_watch::{News, Watch};
 use std::alloc::{AllocError, Global};
 
 /// What the solver answers of a formula.
@@ -70,13 +71,14 @@ fn with_learnt(
     Ok(formula)
 }
 
-/// Asks the solver, which has the clauses of the formula.
+/// Asks the solver, which has the clauses of the formula. The watcher is told of the formula, and of the conflicts.
 #[tactic(auto, using(crate::proofs::Answering::answering))]
-pub fn answer(
+pub fn answer<W: Watch>(
     alloc: Global,
     solver: &mut Solver,
     encoded: &Encoded,
     budget: u64,
+    watch: &mut W,
 ) -> Result<Answered, AllocError>
     requires vars { solver.old.vars ≡ encoded.now.clauses.vars }
     requires added { solver.old.added ≡ encoded.now.clauses.clauses }
@@ -85,8 +87,12 @@ pub fn answer(
     ensures vars { solver.new.vars ≡ solver.old.vars }
     ensures added { solver.new.added ≡ solver.old.added }
 {
+    watch.tell(News::Formula {
+        variables: encoded.clauses.vars(),
+        clauses: encoded.clauses.len(),
+    });
     let before = solver.learnt_len();
-    let found = solver.solve(budget)?;
+    let found = solver.solve(budget, watch)?;
     match found {
         Answer::Sat(values) => Ok(Answered::Met(values)),
         Answer::Unsat(_) => Ok(Answered::Never),

@@ -15,6 +15,7 @@ use crate::settle::back_to;
 use crate::trail::Trail;
 use crate::watches::Watches;
 use sk_clause::ClauseList;
+use sk_watch::Watch;
 use std::alloc::{AllocError, Global};
 
 /// The clauses that a search knows, what is true at level 0, and what earlier searches have found out.
@@ -129,8 +130,13 @@ impl Engine {
     }
 
     /// Searches for values with which the known clauses are true, and adds each clause that it learns to them and to
-    /// the list. With budget 0 it ends only with an answer.
-    pub fn search(&mut self, fresh: &mut ClauseList, budget: u64) -> Result<Outcome, AllocError>
+    /// the list, of which the watcher is told. With budget 0 it ends only with an answer.
+    pub fn search<W: Watch>(
+        &mut self,
+        fresh: &mut ClauseList,
+        budget: u64,
+        watch: &mut W,
+    ) -> Result<Outcome, AllocError>
         requires ready { IsReady self.old }
         requires fresh { fresh.old ≡ [] }
         ensures ready { OnOk result (IsReady self.new) }
@@ -152,6 +158,7 @@ impl Engine {
             &mut self.activity,
             &mut self.eliminated,
             budget,
+            watch,
         )?;
         back_to(&mut self.trail, &self.known, &mut self.activity, 0);
         self.watches.go_back(self.trail.lits.len());

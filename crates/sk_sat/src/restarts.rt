@@ -38,6 +38,8 @@ const AIM: u64 = 1000;
 pub struct Restarts {
     /// How many may still come.
     pub left: u64,
+    /// How many have come. No clause speaks of it: a watcher is told.
+    pub done: u64,
     /// The conflicts so far, and since the last restart.
     conflicts: u64,
     passed: u64,
@@ -70,6 +72,7 @@ impl Restarts {
     pub fn new() -> Restarts {
         Restarts {
             left: TOTAL,
+            done: 0,
             conflicts: 0,
             passed: 0,
             place: 1,
@@ -141,6 +144,7 @@ impl Restarts {
             return false;
         }
         self.advance();
+        self.done = self.done.saturating_add(1);
         self.left -= 1;
         true
     }

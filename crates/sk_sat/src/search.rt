@@ -19,6 +19,7 @@ use crate::settle::back_to;
 use crate::trail::Trail;
 use crate::watches::Watches;
 use sk_clause::ClauseList;
+use sk_watch::{News, Watch};
 use std::alloc::{AllocError, Global};
 
 /// What a search came to.
@@ -97,9 +98,9 @@ fn reduce(
 }
 
 /// Searches on from a trail for values with which the known clauses are true, and adds each clause that it learns to
-/// both lists. With budget 0 it ends only with an answer.
+/// both lists, of which the watcher is told. With budget 0 it ends only with an answer.
 #[tactic(auto, using(crate::proofs::SearchLemmas::searches))]
-pub fn search(
+pub fn search<W: Watch>(
     alloc: Global,
     trail: &mut Trail,
     known: &mut Known,
@@ -109,6 +110,7 @@ pub fn search(
     activity: &mut Activity,
     eliminated: &mut Eliminated,
     budget: u64,
+    watch: &mut W,
 ) -> Result<Outcome, AllocError>
     requires trail { IsTrail known.old trail.old }
     requires within { AreWithin (length trail.old.values.items) known.old }
@@ -131,6 +133,9 @@ pub fn search(
             Round::Full => return Ok(Outcome::Sat(bits(alloc, &trail.values)?)),
             Round::Moved => continue,
             Round::Learnt => {
+                watch.tell(News::Conflict {
+                    restarts: restarts.done,
+                });
                 let glue = learn_last(watches, activity, known, &trail.level)?;
                 if left == 1 {
                     return Ok(Outcome::Spent);

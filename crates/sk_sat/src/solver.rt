@@ -11,6 +11,7 @@ use crate::engine::{Engine, current};
 use crate::search::Outcome;
 use sk_base::List;
 use sk_clause::{Assignment, ClauseList, Lit, Log};
+use sk_watch::Watch;
 use std::alloc::{AllocError, Global};
 use std::marker::Model;
 
@@ -93,8 +94,8 @@ impl Solver {
     /// Looks for values that meet each added clause, or for a refutation. With a budget other than 0 it also gives up,
     /// just when it has learnt so many clauses. Budget 0 is none, and then resolvents of clauses may be learnt too. Every
     /// call ends. What was learnt stays, also where memory is wanting, which a clause with a variable from 2^31 on
-    /// counts as.
-    pub fn solve(&mut self, budget: u64) -> Result<Answer, AllocError>
+    /// counts as. The watcher is told of each conflict that teaches a clause.
+    pub fn solve<W: Watch>(&mut self, budget: u64, watch: &mut W) -> Result<Answer, AllocError>
         ensures answer { IfOk result (IsAnswer self.old self.new budget) }
         ensures gains { Gains self.old self.new }
     {
@@ -106,6 +107,7 @@ impl Solver {
             &mut self.learnt,
             held,
             budget,
+            watch,
         )?;
         self.engine = engine;
         Ok(answer)
@@ -153,13 +155,14 @@ fn closed(alloc: Global, clauses: &ClauseList) -> Result<Log, AllocError>
 
 // The answer, and what to keep for the next call. What was learnt is put behind what is there.
 #[tactic(auto, using(crate::proofs::SolverLemmas::parts))]
-fn solve_parts(
+fn solve_parts<W: Watch>(
     alloc: Global,
     vars: usize,
     added: &ClauseList,
     learnt: &mut ClauseList,
     held: Option<Engine>,
     budget: u64,
+    watch: &mut W,
 ) -> Result<(Answer, Option<Engine>), AllocError>
     requires sound { IsSound vars added.now learnt.old }
     requires held { IfSome held (Serves vars added.now learnt.old) }
@@ -169,7 +172,7 @@ fn solve_parts(
 {
     let mut engine = current(alloc, vars, added, learnt, held)?;
     let mut fresh = ClauseList::new(alloc);
-    let outcome = engine.search(&mut fresh, budget)?;
+    let outcome = engine.search(&mut fresh, budget, watch)?;
     extend(learnt, &fresh)?;
     match outcome {
         Outcome::Sat(bits) => Ok((Answer::Sat(List::from_vec(bits)), Some(engine))),

@@ -4,7 +4,7 @@ use Rattle.sk_loop_refuted.proofs.Answering.{answered}
 use Rattle.sk_loop_refuted.proofs.solving.refuted.Goals as goal
 
 pub returns : goal.returns
-returns c =
+returns g c =
     answered c.args.encoded.now c.load.new.solver c.solve.new.self c.args.budget c.in_ok-answer.answer
     (record {
       vars = c.in_ok-load.ensures.vars;

@@ -4,7 +4,7 @@ use Rattle.sk_sat.proofs.SolverLemmas.{Searched, gained_is, grows_part, grows_wh
 use Rattle.sk_sat.proofs.solver.solve_parts.Goals as goal
 
 pub returns-in_err-extend-clause-grows : goal.returns-in_err-extend-clause-grows
-returns-in_err-extend-clause-grows c =
+returns-in_err-extend-clause-grows g c =
     let s : Searched c.args.vars c.args.added.now c.args.learnt.now c.in_ok-engine.engine c.search.new.self c.search.new.fresh = record {
       sound = c.requires.sound;
       current = c.in_ok-engine.ensures;
@@ -18,7 +18,7 @@ returns-in_err-extend-clause-grows c =
     grows_part c.args.vars c.args.added.now c.args.learnt.now c.in_ok-engine.engine c.search.new.self c.search.new.fresh s c.extend.new.list c.extend.ensures.part.0 c.extend.ensures.part.1
 
 pub returns-in_err-log-in-Unsat-clause-grows : goal.returns-in_err-log-in-Unsat-clause-grows
-returns-in_err-log-in-Unsat-clause-grows c =
+returns-in_err-log-in-Unsat-clause-grows g c =
     let s : Searched c.args.vars c.args.added.now c.args.learnt.now c.in_ok-engine.engine c.search.new.self c.search.new.fresh = record {
       sound = c.requires.sound;
       current = c.in_ok-engine.ensures;
@@ -32,7 +32,7 @@ returns-in_err-log-in-Unsat-clause-grows c =
     grows_whole c.args.vars c.args.added.now c.args.learnt.now c.in_ok-engine.engine c.search.new.self c.search.new.fresh s c.extend.new.list c.in_ok-extend.ensures.whole
 
 pub returns-in_ok-log-in-Unsat-clause-grows : goal.returns-in_ok-log-in-Unsat-clause-grows
-returns-in_ok-log-in-Unsat-clause-grows c =
+returns-in_ok-log-in-Unsat-clause-grows g c =
     let s : Searched c.args.vars c.args.added.now c.args.learnt.now c.in_ok-engine.engine c.search.new.self c.search.new.fresh = record {
       sound = c.requires.sound;
       current = c.in_ok-engine.ensures;
@@ -46,7 +46,7 @@ returns-in_ok-log-in-Unsat-clause-grows c =
     grows_whole c.args.vars c.args.added.now c.args.learnt.now c.in_ok-engine.engine c.search.new.self c.search.new.fresh s c.extend.new.list c.in_ok-extend.ensures.whole
 
 pub returns-in-Sat-clause-grows : goal.returns-in-Sat-clause-grows
-returns-in-Sat-clause-grows c =
+returns-in-Sat-clause-grows g c =
     let s : Searched c.args.vars c.args.added.now c.args.learnt.now c.in_ok-engine.engine c.search.new.self c.search.new.fresh = record {
       sound = c.requires.sound;
       current = c.in_ok-engine.ensures;
@@ -60,7 +60,7 @@ returns-in-Sat-clause-grows c =
     grows_whole c.args.vars c.args.added.now c.args.learnt.now c.in_ok-engine.engine c.search.new.self c.search.new.fresh s c.extend.new.list c.in_ok-extend.ensures.whole
 
 pub returns-in-Spent-clause-grows : goal.returns-in-Spent-clause-grows
-returns-in-Spent-clause-grows c =
+returns-in-Spent-clause-grows g c =
     let s : Searched c.args.vars c.args.added.now c.args.learnt.now c.in_ok-engine.engine c.search.new.self c.search.new.fresh = record {
       sound = c.requires.sound;
       current = c.in_ok-engine.ensures;
@@ -74,7 +74,7 @@ returns-in-Spent-clause-grows c =
     grows_whole c.args.vars c.args.added.now c.args.learnt.now c.in_ok-engine.engine c.search.new.self c.search.new.fresh s c.extend.new.list c.in_ok-extend.ensures.whole
 
 pub returns-in-Sat-clause-engine : goal.returns-in-Sat-clause-engine
-returns-in-Sat-clause-engine c =
+returns-in-Sat-clause-engine g c =
     let s : Searched c.args.vars c.args.added.now c.args.learnt.now c.in_ok-engine.engine c.search.new.self c.search.new.fresh = record {
       sound = c.requires.sound;
       current = c.in_ok-engine.ensures;
@@ -88,7 +88,7 @@ returns-in-Sat-clause-engine c =
     serves_after c.args.vars c.args.added.now c.args.learnt.now c.in_ok-engine.engine c.search.new.self c.search.new.fresh s c.extend.new.list c.in_ok-extend.ensures.whole
 
 pub returns-in-Spent-clause-engine : goal.returns-in-Spent-clause-engine
-returns-in-Spent-clause-engine c =
+returns-in-Spent-clause-engine g c =
     let s : Searched c.args.vars c.args.added.now c.args.learnt.now c.in_ok-engine.engine c.search.new.self c.search.new.fresh = record {
       sound = c.requires.sound;
       current = c.in_ok-engine.ensures;
@@ -102,7 +102,7 @@ returns-in-Spent-clause-engine c =
     serves_after c.args.vars c.args.added.now c.args.learnt.now c.in_ok-engine.engine c.search.new.self c.search.new.fresh s c.extend.new.list c.in_ok-extend.ensures.whole
 
 pub returns-in-Sat-clause-answer : goal.returns-in-Sat-clause-answer
-returns-in-Sat-clause-answer c =
+returns-in-Sat-clause-answer g c =
     let s : Searched c.args.vars c.args.added.now c.args.learnt.now c.in_ok-engine.engine c.search.new.self c.search.new.fresh = record {
       sound = c.requires.sound;
       current = c.in_ok-engine.ensures;
@@ -117,7 +117,7 @@ returns-in-Sat-clause-answer c =
     rw c.from_vec.ensures (answer_sat c.args.vars c.args.added.now c.args.learnt.now c.in_ok-engine.engine c.search.new.self c.search.new.fresh s c.extend.new.list c.args.budget c.in-Sat.bits.items c.in_ok-extend.ensures.whole o.0 o.1 o.2)
 
 pub returns-in_ok-log-in-Unsat-clause-answer : goal.returns-in_ok-log-in-Unsat-clause-answer
-returns-in_ok-log-in-Unsat-clause-answer c =
+returns-in_ok-log-in-Unsat-clause-answer g c =
     let s : Searched c.args.vars c.args.added.now c.args.learnt.now c.in_ok-engine.engine c.search.new.self c.search.new.fresh = record {
       sound = c.requires.sound;
       current = c.in_ok-engine.ensures;
@@ -136,7 +136,7 @@ returns-in_ok-log-in-Unsat-clause-answer c =
     )
 
 pub returns-in-Spent-clause-answer : goal.returns-in-Spent-clause-answer
-returns-in-Spent-clause-answer c =
+returns-in-Spent-clause-answer g c =
     let s : Searched c.args.vars c.args.added.now c.args.learnt.now c.in_ok-engine.engine c.search.new.self c.search.new.fresh = record {
       sound = c.requires.sound;
       current = c.in_ok-engine.ensures;

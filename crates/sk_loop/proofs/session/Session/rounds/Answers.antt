@@ -7,7 +7,7 @@ use Rattle.sk_loop.proofs.Turns.{honest_steps}
 use Rattle.sk_loop.proofs.session.Session.rounds.Goals as goal
 
 pub loop-turn-init : goal.loop-turn-init
-loop-turn-init c = (
+loop-turn-init g c = (
   steps_same c.args.self.now c.args.expanded.now c.args.bounds.now c.args.limit c.args.pairs.now c.requires.stands,
   c.requires.honest,
   c.requires.room,
@@ -16,11 +16,11 @@ loop-turn-init c = (
 )
 
 pub returns-in-Ended-clause-steps : goal.returns-in-Ended-clause-steps
-returns-in-Ended-clause-steps c =
+returns-in-Ended-clause-steps g c =
     steps_on c.loop-turn.self c.round.new.self c.args.expanded.now c.args.bounds.now c.args.limit c.args.pairs.now c.loop-turn.pairs c.round.new.pairs c.loop-turn.invariant.0 c.in_ok-found.ensures.steps
 
 pub loop-turn-preserved : goal.loop-turn-preserved
-loop-turn-preserved c = (
+loop-turn-preserved g c = (
   steps_on c.loop-turn.self c.round.new.self c.args.expanded.now c.args.bounds.now c.args.limit c.args.pairs.now c.loop-turn.pairs c.round.new.pairs c.loop-turn.invariant.0 c.in_ok-found.ensures.steps,
   honest_steps c.round.new.self c.args.expanded.now c.args.bounds.now c.args.limit c.loop-turn.pairs c.round.new.pairs c.loop-turn.invariant.1 c.in_ok-found.ensures.steps,
   subst (IsTurn c.args.expanded.now c.args.bounds.now c.args.limit c.args.budget.now c.round.new.pairs) c.in-Again.is c.in_ok-found.ensures.turn,

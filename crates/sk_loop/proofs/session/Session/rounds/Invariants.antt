@@ -6,7 +6,7 @@ use Rattle.sk_loop.proofs.session.Session.rounds.Given as goal
 
 -- what the rounds so far left, with room for a further one
 abbrev pub invariant-loop-turn : goal.invariant-loop-turn
-invariant-loop-turn l =
+invariant-loop-turn g l =
     Steps l.expanded l.bounds l.limit l.initial.pairs l.pairs l.self
     × Honest l.expanded l.bounds l.pairs
     × HasRoom l.budget l.pairs
