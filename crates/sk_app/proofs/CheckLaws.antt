@@ -150,7 +150,7 @@ module _ (set : Set) (r : Ending) (f : Effect) where
   told_is_of_check input (ending.NotLowered reason) h = absurd h
   told_is_of_check input (ending.NotTagged span) h = absurd h
   told_is_of_check input ending.Completed h = absurd h
-  told_is_of_check input ending.NoCompletion h = absurd h
+  told_is_of_check input (ending.NoCompletion pairs) h = absurd h
   told_is_of_check input (ending.SpentRounds pairs best) h = absurd h
   told_is_of_check input (ending.SpentConflicts pairs q g log best) h = absurd h
   told_is_of_check input ending.HelpShown h = absurd h

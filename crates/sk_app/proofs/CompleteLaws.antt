@@ -141,20 +141,20 @@ module _ (set : Set) where
 
     -- pairs of the search show it
     shown_by : (budget : Budget) (pairs : List Pair) (Shown : List Input → Type 0) → Honest e bounds pairs → HasRoom budget pairs → Shown (inputs_of pairs) → IsShownWithin e bounds budget Shown
-    shown_by budget pairs Shown honest room shown = record { pairs = pairs; honest = honest; room = room; shown = shown }
+    shown_by budget pairs Shown honest room shown = record { pairs = pairs; by = record { honest = honest; room = room; shown = shown } }
 
     pub best_found : (budget : Budget) (pairs : List Pair) (choice : Choice) (value : ℕ) (out : List ℕ) → Honest e bounds pairs → HasRoom budget pairs → NoneBelow e bounds (inputs_of pairs) value → IsBest e bounds choice value → out ≡ completed_text (record { choice = choice; filled = fill e choice; value = value }) → IsCompletion set budget false text out
     best_found budget pairs choice value out honest room below best is =
         let c : Completion = record { choice = choice; filled = fill e choice; value = value } in
         completion_of budget false c out (least_of bounds e c refl best) (shown_by budget pairs (λ inputs. NoneBelow e bounds inputs value) honest room below) is
 
-    pub none_found : (budget : Budget) (pairs : List Pair) (out : List ℕ) → Honest e bounds pairs → HasRoom budget pairs → least.IsNone e bounds (inputs_of pairs) → out ≡ none_text → IsNone set budget false text out
+    pub none_found : (budget : Budget) (pairs : List Pair) (out : List ℕ) → Honest e bounds pairs → HasRoom budget pairs → least.IsNone e bounds (inputs_of pairs) → out ≡ none_text → IsNone set budget false text pairs out
     none_found budget pairs out honest room none is = record {
       bounds = bounds;
       e = e;
       only = ready.only;
       none = λ b range meets. none.meets b (record { range = range; meets = meets });
-      within = shown_by budget pairs (IsNoChoice e bounds) honest room none.passes;
+      within = record { honest = honest; room = room; shown = none.passes };
       is = is;
     }
 
@@ -169,12 +169,12 @@ module _ (set : Set) where
         let c : Completion = record { choice = choice; filled = fill e choice; value = value } in
         completion_of budget true c out (least_of bounds e c refl best) (shown_by budget pairs (λ inputs. NoneBelow e bounds inputs value) honest room below) (record { shows = shows; is = behind (Some choice) value (completed_text c) out shows.certificate shows.is (begins_so e bounds choice value shows.certificate shows.its_choice shows.its_value shows.certifies.layout) })
 
-    pub none_certified : (budget : Budget) (pairs : List Pair) (out : List ℕ) → Honest e bounds pairs → HasRoom budget pairs → IsNoChoice e bounds (inputs_of pairs) → IsCertified e bounds None 0 out → IsNone set budget true text out
+    pub none_certified : (budget : Budget) (pairs : List Pair) (out : List ℕ) → Honest e bounds pairs → HasRoom budget pairs → IsNoChoice e bounds (inputs_of pairs) → IsCertified e bounds None 0 out → IsNone set budget true text pairs out
     none_certified budget pairs out honest room none shows = record {
       bounds = bounds;
       e = e;
       only = ready.only;
-      within = shown_by budget pairs (IsNoChoice e bounds) honest room none;
+      within = record { honest = honest; room = room; shown = none };
       none = λ b range meets. subst (λ x. is_right e bounds x shows.certificate.value) shows.its_choice shows.right b (record { range = range; meets = meets });
       is = record { shows = shows; is = behind None 0 none_text out shows.certificate shows.is (begins_none e bounds shows.certificate shows.its_choice shows.its_value shows.certifies.layout) };
     }

@@ -113,7 +113,7 @@ is_of_text _ = false
 -- whether this is the ending of a line `synth` alone
 abbrev is_synth_alone : Ending → Bool
 is_synth_alone ending.Completed = true
-is_synth_alone ending.NoCompletion = true
+is_synth_alone (ending.NoCompletion pairs) = true
 is_synth_alone (ending.SpentRounds pairs best) = true
 is_synth_alone (ending.SpentConflicts pairs q f log best) = true
 is_synth_alone _ = false
@@ -217,7 +217,7 @@ module _ (words : List (List ℕ)) (r : Ending) (f : Effect) where
 
   synth_alone_not_exec : (x : Ending) → is_synth_alone x ≡ true → by_exec.is_of_exec x ≡ false
   synth_alone_not_exec ending.Completed a = refl
-  synth_alone_not_exec ending.NoCompletion a = refl
+  synth_alone_not_exec (ending.NoCompletion pairs) a = refl
   synth_alone_not_exec (ending.SpentRounds pairs best) a = refl
   synth_alone_not_exec (ending.SpentConflicts pairs q g log best) a = refl
   synth_alone_not_exec ending.HelpShown a = refl
@@ -248,7 +248,7 @@ module _ (words : List (List ℕ)) (r : Ending) (f : Effect) where
 
   synth_alone_not_lower : (x : Ending) → is_synth_alone x ≡ true → by_lower.is_of_lower x ≡ false
   synth_alone_not_lower ending.Completed a = refl
-  synth_alone_not_lower ending.NoCompletion a = refl
+  synth_alone_not_lower (ending.NoCompletion pairs) a = refl
   synth_alone_not_lower (ending.SpentRounds pairs best) a = refl
   synth_alone_not_lower (ending.SpentConflicts pairs q g log best) a = refl
   synth_alone_not_lower ending.HelpShown a = absurd (false≢true a)
@@ -284,7 +284,7 @@ module _ (words : List (List ℕ)) (r : Ending) (f : Effect) where
   exec_alone_not_lower (ending.NotRun reason) a = absurd (false≢true a)
   exec_alone_not_lower (ending.NotFilled reason) a = refl
   exec_alone_not_lower ending.Completed a = absurd (false≢true a)
-  exec_alone_not_lower ending.NoCompletion a = absurd (false≢true a)
+  exec_alone_not_lower (ending.NoCompletion pairs) a = absurd (false≢true a)
   exec_alone_not_lower (ending.SpentRounds pairs best) a = absurd (false≢true a)
   exec_alone_not_lower (ending.SpentConflicts pairs q g log best) a = absurd (false≢true a)
   exec_alone_not_lower ending.HelpShown a = absurd (false≢true a)
@@ -310,7 +310,7 @@ module _ (words : List (List ℕ)) (r : Ending) (f : Effect) where
 
   synth_alone_not_prune : (x : Ending) → is_synth_alone x ≡ true → by_prune.is_of_prune x ≡ false
   synth_alone_not_prune ending.Completed a = refl
-  synth_alone_not_prune ending.NoCompletion a = refl
+  synth_alone_not_prune (ending.NoCompletion pairs) a = refl
   synth_alone_not_prune (ending.SpentRounds pairs best) a = refl
   synth_alone_not_prune (ending.SpentConflicts pairs q g log best) a = refl
   synth_alone_not_prune ending.HelpShown a = absurd (false≢true a)
@@ -341,7 +341,7 @@ module _ (words : List (List ℕ)) (r : Ending) (f : Effect) where
 
   exec_alone_not_prune : (x : Ending) → is_exec_alone x ≡ true → by_prune.is_of_prune x ≡ false
   exec_alone_not_prune ending.Completed a = absurd (false≢true a)
-  exec_alone_not_prune ending.NoCompletion a = absurd (false≢true a)
+  exec_alone_not_prune (ending.NoCompletion pairs) a = absurd (false≢true a)
   exec_alone_not_prune (ending.SpentRounds pairs best) a = absurd (false≢true a)
   exec_alone_not_prune (ending.SpentConflicts pairs q g log best) a = absurd (false≢true a)
   exec_alone_not_prune ending.HelpShown a = absurd (false≢true a)
@@ -372,7 +372,7 @@ module _ (words : List (List ℕ)) (r : Ending) (f : Effect) where
 
   lower_alone_not_prune : (x : Ending) → is_lower_alone x ≡ true → by_prune.is_of_prune x ≡ false
   lower_alone_not_prune ending.Completed a = absurd (false≢true a)
-  lower_alone_not_prune ending.NoCompletion a = absurd (false≢true a)
+  lower_alone_not_prune (ending.NoCompletion pairs) a = absurd (false≢true a)
   lower_alone_not_prune (ending.SpentRounds pairs best) a = absurd (false≢true a)
   lower_alone_not_prune (ending.SpentConflicts pairs q g log best) a = absurd (false≢true a)
   lower_alone_not_prune ending.HelpShown a = absurd (false≢true a)
@@ -403,7 +403,7 @@ module _ (words : List (List ℕ)) (r : Ending) (f : Effect) where
 
   reply_not_prune : (x : Ending) → by_asking.is_reply x ≡ true → by_prune.is_of_prune x ≡ false
   reply_not_prune ending.Completed a = absurd (false≢true a)
-  reply_not_prune ending.NoCompletion a = absurd (false≢true a)
+  reply_not_prune (ending.NoCompletion pairs) a = absurd (false≢true a)
   reply_not_prune (ending.SpentRounds pairs best) a = absurd (false≢true a)
   reply_not_prune (ending.SpentConflicts pairs q g log best) a = absurd (false≢true a)
   reply_not_prune ending.HelpShown a = absurd (false≢true a)
@@ -913,7 +913,7 @@ module _ (words : List (List ℕ)) (r : Ending) (f : Effect) where
 
   check_alone_not_prune : (x : Ending) → is_check_alone x ≡ true → by_prune.is_of_prune x ≡ false
   check_alone_not_prune ending.Completed a = absurd (false≢true a)
-  check_alone_not_prune ending.NoCompletion a = absurd (false≢true a)
+  check_alone_not_prune (ending.NoCompletion pairs) a = absurd (false≢true a)
   check_alone_not_prune (ending.SpentRounds pairs best) a = absurd (false≢true a)
   check_alone_not_prune (ending.SpentConflicts pairs q g log best) a = absurd (false≢true a)
   check_alone_not_prune ending.HelpShown a = absurd (false≢true a)
@@ -974,8 +974,8 @@ module _ {words : List (List ℕ)} {r : Ending} {f : Effect} (a : Answers words 
   pub prefix_self : (n : ℕ) → IsLine words (line.Itself n) → r ≡ ending.WriteFault → WritesPart (IsSummary n) f.held_old f.held_new
   prefix_self = for_self words r f (λ n. r ≡ ending.WriteFault → WritesPart (IsSummary n) f.held_old f.held_new) (λ n s e. self_cut words r f n s e) (λ n m e. let q = sym m ∙ e in cc) the
 
-  pub none : r ≡ ending.NoCompletion → ForSearch words (λ set budget cert. IfSome f.left_old (λ text. Writes (IsNone set budget cert text) f.held_old f.held_new))
-  none e = let s = synth_of words r f ending.NoCompletion refl refl refl (λ q. cc) the e in record { set = s.set; budget = s.budget; cert = s.cert; is = s.is; holds = (s.holds).none e }
+  pub none : (pairs : List Pair) → r ≡ ending.NoCompletion pairs → ForSearch words (λ set budget cert. IfSome f.left_old (λ text. Writes (IsNone set budget cert text pairs) f.held_old f.held_new))
+  none pairs e = let s = synth_of words r f (ending.NoCompletion pairs) refl refl refl (λ q. cc) the e in record { set = s.set; budget = s.budget; cert = s.cert; is = s.is; holds = (s.holds).none pairs e }
 
   pub spent_rounds : (pairs : List Pair) (best : Option Choice) → r ≡ ending.SpentRounds pairs best → ForSearch words (λ set budget cert. AreSpent budget.rounds pairs × IfSome f.left_old (λ text. Writes (IsSpentRounds set budget text pairs best) f.held_old f.held_new))
   spent_rounds pairs best e = let s = synth_of words r f (ending.SpentRounds pairs best) refl refl refl (λ q. cc) the e in record { set = s.set; budget = s.budget; cert = s.cert; is = s.is; holds = (s.holds).rounds pairs best e }
@@ -1237,7 +1237,7 @@ module _ {words : List (List ℕ)} {r : Ending} {f : Effect} (a : Answers words 
   allowed set budget cert s (ending.SpentRounds pairs best) e = (s.rounds pairs best e).0.some
   allowed set budget cert s (ending.SpentConflicts pairs q formula log best) e = (s.conflicts pairs q formula log best e).0.some
   allowed set budget cert s ending.Completed e = tt
-  allowed set budget cert s ending.NoCompletion e = tt
+  allowed set budget cert s (ending.NoCompletion pairs) e = tt
   allowed set budget cert s ending.HelpShown e = tt
   allowed set budget cert s ending.Accepted e = tt
   allowed set budget cert s (ending.Rejected why) e = tt

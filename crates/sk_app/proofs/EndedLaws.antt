@@ -22,7 +22,7 @@ use Rattle.sk_app.specs.Effects.{is_of_synth}
 module _ (budget : Budget) where
   is_synth : (x : Ending) → HasResult budget x → IsTrue (is_of_synth x)
   is_synth ending.Completed h = refl
-  is_synth ending.NoCompletion h = refl
+  is_synth (ending.NoCompletion pairs) h = refl
   is_synth (ending.SpentRounds pairs best) h = refl
   is_synth (ending.SpentConflicts pairs q f log best) h = refl
   is_synth ending.HelpShown h = absurd h
@@ -53,7 +53,7 @@ module _ (budget : Budget) where
 
   writes : (x : Ending) → HasResult budget x → writes_nothing x ≡ false
   writes ending.Completed h = refl
-  writes ending.NoCompletion h = refl
+  writes (ending.NoCompletion pairs) h = refl
   writes (ending.SpentRounds pairs best) h = refl
   writes (ending.SpentConflicts pairs q f log best) h = refl
   writes ending.HelpShown h = absurd h
@@ -86,7 +86,7 @@ module _ (budget : Budget) where
   module _ (set : Set) (cert : Bool) (text out : List ℕ) (a b c d : ℕ) where
     taken : (x : Ending) → IsResultOf set budget cert text x out → IsTaken set text
     taken ending.Completed h = record { bounds = h.bounds; e = h.e; built = h.only.built }
-    taken ending.NoCompletion h = record { bounds = h.bounds; e = h.e; built = h.only.built }
+    taken (ending.NoCompletion pairs) h = record { bounds = h.bounds; e = h.e; built = h.only.built }
     taken (ending.SpentRounds pairs best) h = record { bounds = h.bounds; e = h.e; built = h.only.built }
     taken (ending.SpentConflicts pairs q f log best) h = record { bounds = h.bounds; e = h.e; built = h.only.built }
     taken ending.HelpShown h = absurd h
@@ -117,7 +117,7 @@ module _ (budget : Budget) where
 
     tells : (x : Ending) → HasResult budget x → IsTaken set text → IsToldOf set text x a b c d
     tells ending.Completed h t = t
-    tells ending.NoCompletion h t = t
+    tells (ending.NoCompletion pairs) h t = t
     tells (ending.SpentRounds pairs best) h t = t
     tells (ending.SpentConflicts pairs q f log best) h t = t
     tells ending.HelpShown h t = absurd h

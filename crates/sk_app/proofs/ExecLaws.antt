@@ -47,7 +47,7 @@ is_run _ = false
 -- the endings of a line that runs a function
 abbrev pub is_of_exec : Ending → Bool
 is_of_exec ending.Completed = false
-is_of_exec ending.NoCompletion = false
+is_of_exec (ending.NoCompletion pairs) = false
 is_of_exec (ending.SpentRounds pairs best) = false
 is_of_exec (ending.SpentConflicts pairs q f log best) = false
 is_of_exec ending.NotALine = false

@@ -7,6 +7,7 @@ use Rattle.sk_opts.specs.declared.line.Set.{Set}
 use Rattle.sk_base.specs.declared.bounds.Bounds.{Bounds}
 use Rattle.sk_model.specs.declared.expanded.Choice.{Choice}
 use Rattle.sk_model.specs.declared.expanded.Expanded.{Expanded}
+use Rattle.sk_model.specs.declared.expanded.Pair.{Pair}
 use Rattle.sk_model.specs.Fill.{fill}
 use Rattle.sk_model.specs.Meets.{Meets, IsGreatestCost}
 use Rattle.sk_print.specs.Layout.{layout}
@@ -49,12 +50,12 @@ text_above (Parse parse.Memory) = lit< tt
 
 data Sort (x : Ending) : Type 0 where
   at_zero : x ≡ ending.Completed → Sort x
-  at_one : x ≡ ending.NoCompletion → Sort x
+  at_one : (pairs : List Pair) → x ≡ ending.NoCompletion pairs → Sort x
   above : 1 < status_of x → Sort x
 
 sort : (x : Ending) → IsTrue (is_of_synth x) → Sort x
 sort ending.Completed b = at_zero refl
-sort ending.NoCompletion b = at_one refl
+sort (ending.NoCompletion pairs) b = at_one pairs refl
 sort (ending.SpentRounds pairs None) b = above (lit< tt)
 sort (ending.SpentRounds pairs (Some best)) b = above (lit< tt)
 sort (ending.SpentConflicts pairs q f log None) b = above (lit< tt)
@@ -92,14 +93,18 @@ sort (ending.NotTagged span) b = absurd (false≢true b)
 of_zero : (x : Ending) → IsTrue (is_of_synth x) → status_of x ≡ 0 → x ≡ ending.Completed
 of_zero x b e = elim (sort x b) [
   | at_zero q ↦ q
-  | at_one q ↦ (let z : 1 ≡ 0 = sym (ap status_of q) ∙ e in absurd (omega (arith, z)))
+  | at_one pairs q ↦ (let z : 1 ≡ 0 = sym (ap status_of q) ∙ e in absurd (omega (arith, z)))
   | above l ↦ absurd (omega (arith, l, e))
 ]
 
-of_one : (x : Ending) → IsTrue (is_of_synth x) → status_of x ≡ 1 → x ≡ ending.NoCompletion
+record IsOne (x : Ending) : Type 0 where
+  pairs : List Pair
+  is : x ≡ ending.NoCompletion pairs
+
+of_one : (x : Ending) → IsTrue (is_of_synth x) → status_of x ≡ 1 → IsOne x
 of_one x b e = elim (sort x b) [
   | at_zero q ↦ (let z : 0 ≡ 1 = sym (ap status_of q) ∙ e in absurd (omega (arith, z)))
-  | at_one q ↦ q
+  | at_one pairs q ↦ record { pairs = pairs; is = q }
   | above l ↦ absurd (omega (arith, l, e))
 ]
 
@@ -128,8 +133,8 @@ solution set budget cert text out w =
       };
     }
 
-has_none : (set : Set) (budget : Budget) (cert : Bool) (text out : List ℕ) → IsNone set budget cert text out → ForSketch set (HasNone cert) text out
-has_none set budget cert text out w = record { bounds = w.bounds; e = w.e; only = w.only; holds = (w.is, w.none) }
+has_none : (set : Set) (budget : Budget) (cert : Bool) (text : List ℕ) (pairs : List Pair) (out : List ℕ) → IsNone set budget cert text pairs out → ForSketch set (HasNone cert) text out
+has_none set budget cert text pairs out w = record { bounds = w.bounds; e = w.e; only = w.only; holds = (w.is, w.none) }
 
 module _ {words : List (List ℕ)} {r : Ending} {f : Effect} (a : Answers words r f) where
   abbrev c : Call
@@ -146,7 +151,7 @@ module _ {words : List (List ℕ)} {r : Ending} {f : Effect} (a : Answers words 
 
   one : (set : Set) (budget : Budget) (cert : Bool) → IsSearch words set budget cert → status_of r ≡ 1 → IfSome f.left_old (Got (λ s. ForSketch s (HasNone cert)) set)
   one set budget cert h e = elim (of_search a set budget cert h) [
-    | inl s ↦ mapped f.left_old (Got (λ s. IsNone s budget cert) set) (Got (λ s. ForSketch s (HasNone cert)) set) (λ text w. record { out = w.out; is = has_none set budget cert text w.out w.is; appends = w.appends }) (s.none (of_one r s.ends e))
+    | inl s ↦ (let o = of_one r s.ends e in mapped f.left_old (Got (λ s t. IsNone s budget cert t o.pairs) set) (Got (λ s. ForSketch s (HasNone cert)) set) (λ text w. record { out = w.out; is = has_none set budget cert text o.pairs w.out w.is; appends = w.appends }) (s.none o.pairs o.is))
     | inr m ↦ (let z : 17 ≡ 1 = sym (ap status_of m) ∙ e in absurd (omega (arith, z)))
   ]
 
@@ -155,7 +160,7 @@ module _ {words : List (List ℕ)} {r : Ending} {f : Effect} (a : Answers words 
 
   by_ending : (set : Set) (budget : Budget) (cert : Bool) (x : Ending) → r ≡ x → Synthesises set budget cert r f → Sorted set budget
   by_ending set budget cert ending.Completed e s = inl (ap status_of e)
-  by_ending set budget cert ending.NoCompletion e s = inr (inl (ap status_of e))
+  by_ending set budget cert (ending.NoCompletion pairs) e s = inr (inl (ap status_of e))
   by_ending set budget cert (ending.SpentRounds pairs best) e s = inr (inr (why.spent (subst (IsSpent budget) (sym e) (s.rounds pairs best e).0)))
   by_ending set budget cert (ending.SpentConflicts pairs q g log best) e s = inr (inr (why.spent (subst (IsSpent budget) (sym e) (s.conflicts pairs q g log best e).0)))
   by_ending set budget cert (ending.NotText told) e s = inr (inr (why.refused (fault.NotText told) e (told_as words r f set budget cert s (ending.NotText told) (IsTextFault told) (λ text h. h.1) e)))

@@ -100,7 +100,7 @@ module _ (set : Set) (r : Ending) (f : Effect) where
   told_is_of_lower text ending.TooLong h = refl
   told_is_of_lower text ending.Memory h = refl
   told_is_of_lower text ending.Completed h = absurd h
-  told_is_of_lower text ending.NoCompletion h = absurd h
+  told_is_of_lower text (ending.NoCompletion pairs) h = absurd h
   told_is_of_lower text (ending.SpentRounds pairs best) h = absurd h
   told_is_of_lower text (ending.SpentConflicts pairs q g log best) h = absurd h
   told_is_of_lower text ending.HelpShown h = absurd h

@@ -109,7 +109,7 @@ module _ (set : Set) (r : Ending) (f : Effect) where
   told_is_of_prune text (ending.NotLowered reason) h = absurd h
   told_is_of_prune text (ending.NotTagged span) h = absurd h
   told_is_of_prune text ending.Completed h = absurd h
-  told_is_of_prune text ending.NoCompletion h = absurd h
+  told_is_of_prune text (ending.NoCompletion pairs) h = absurd h
   told_is_of_prune text (ending.SpentRounds pairs best) h = absurd h
   told_is_of_prune text (ending.SpentConflicts pairs q g log best) h = absurd h
   told_is_of_prune text ending.HelpShown h = absurd h

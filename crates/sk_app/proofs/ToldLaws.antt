@@ -51,7 +51,7 @@ module _ (set : Set) (text : List ℕ) where
   module _ (a b c d : ℕ) where
     pub ends_built : (budget : Budget) (r : Ending) → IsAllowed budget r → IsToldOf set text r a b c d → (bounds : Bounds) (e : Expanded) → IsBuilt set text bounds e → EndsBuilt budget r a b c d
     ends_built budget ending.Completed some h bounds e is = tt
-    ends_built budget ending.NoCompletion some h bounds e is = tt
+    ends_built budget (ending.NoCompletion pairs) some h bounds e is = tt
     ends_built budget (ending.SpentRounds pairs best) some h bounds e is = some
     ends_built budget (ending.SpentConflicts pairs q formula log best) some h bounds e is = some
     ends_built budget ending.Memory some h bounds e is = tt
@@ -82,7 +82,7 @@ module _ (set : Set) (text : List ℕ) where
 
     pub ends_faulty : (r : Ending) → IsToldOf set text r a b c d → length text ≤ most_bytes → (f : TextFault) → IsTextFault f text → EndsFaulty f r a b
     ends_faulty ending.Completed h short f is = taken_or_cause (fault.NotText f) h is
-    ends_faulty ending.NoCompletion h short f is = taken_or_cause (fault.NotText f) h is
+    ends_faulty (ending.NoCompletion pairs) h short f is = taken_or_cause (fault.NotText f) h is
     ends_faulty (ending.SpentRounds pairs best) h short f is = taken_or_cause (fault.NotText f) h is
     ends_faulty (ending.SpentConflicts pairs q formula log best) h short f is = taken_or_cause (fault.NotText f) h is
     ends_faulty ending.Memory h short f is = tt
@@ -113,7 +113,7 @@ module _ (set : Set) (text : List ℕ) where
 
     pub ends_untyped : (r : Ending) → IsToldOf set text r a b c d → length text ≤ most_bytes → IsUntyped set text → EndsUntyped r a b
     ends_untyped ending.Completed h short n = taken_or_cause (fault.NotTyped some_fault) h n
-    ends_untyped ending.NoCompletion h short n = taken_or_cause (fault.NotTyped some_fault) h n
+    ends_untyped (ending.NoCompletion pairs) h short n = taken_or_cause (fault.NotTyped some_fault) h n
     ends_untyped (ending.SpentRounds pairs best) h short n = taken_or_cause (fault.NotTyped some_fault) h n
     ends_untyped (ending.SpentConflicts pairs q formula log best) h short n = taken_or_cause (fault.NotTyped some_fault) h n
     ends_untyped ending.Memory h short n = tt
@@ -144,7 +144,7 @@ module _ (set : Set) (text : List ℕ) where
 
     pub ends_large : (r : Ending) → IsToldOf set text r a b c d → (s : SizeFault) → IsTooLarge set text s → EndsLarge s r a b
     ends_large ending.Completed h s is = taken_or_cause (fault.TooLarge s) h is
-    ends_large ending.NoCompletion h s is = taken_or_cause (fault.TooLarge s) h is
+    ends_large (ending.NoCompletion pairs) h s is = taken_or_cause (fault.TooLarge s) h is
     ends_large (ending.SpentRounds pairs best) h s is = taken_or_cause (fault.TooLarge s) h is
     ends_large (ending.SpentConflicts pairs q formula log best) h s is = taken_or_cause (fault.TooLarge s) h is
     ends_large ending.Memory h s is = tt
@@ -175,7 +175,7 @@ module _ (set : Set) (text : List ℕ) where
 
     pub ends_long : (r : Ending) → IsToldOf set text r a b c d → most_bytes < length text → EndsLong r a b
     ends_long ending.Completed h long = too_long (short_of h) long
-    ends_long ending.NoCompletion h long = too_long (short_of h) long
+    ends_long (ending.NoCompletion pairs) h long = too_long (short_of h) long
     ends_long (ending.SpentRounds pairs best) h long = too_long (short_of h) long
     ends_long (ending.SpentConflicts pairs q formula log best) h long = too_long (short_of h) long
     ends_long ending.Memory h long = tt

@@ -92,9 +92,10 @@ VersionEnds c = IsLine c.words line.Version → Ends (λ e. e ≡ VersionShown) 
 abbrev pub TellsCompletion : Call → Type 0
 TellsCompletion c = c.ending ≡ Completed → ForSearch c.words (λ set budget cert. OfText c (λ text. Gets c (IsCompletion set budget cert text))) ⊎ ForSelf c.words (λ n. Gets c (IsSummary n))
 
--- No filling meets them. The sink got a line that says so, with a certificate where the line asks for one.
+-- No filling meets them, and none passes even the inputs of the ending's pairs. The sink got a line that says so, with a certificate
+-- where the line asks for one.
 abbrev pub TellsNone : Call → Type 0
-TellsNone c = c.ending ≡ NoCompletion → ForSearch c.words (λ set budget cert. OfText c (λ text. Gets c (IsNone set budget cert text)))
+TellsNone c = (pairs : List Pair) → c.ending ≡ NoCompletion pairs → ForSearch c.words (λ set budget cert. OfText c (λ text. Gets c (IsNone set budget cert text pairs)))
 
 -- The line's budget of rounds is spent, which is not 0: the pairs are as many. The sink got them, and a choice whose filling
 -- meets its obligations, where one is known.

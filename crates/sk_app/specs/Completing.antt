@@ -24,12 +24,16 @@ pub record IsCompletion (bounds : Bounds) (e : Expanded) (c : Completion) : Type
 abbrev pub IsNoChoice : Expanded → Bounds → List Input → Type 0
 IsNoChoice e bounds inputs = (choice : Choice) → IsWanted e bounds inputs None choice → ⊥
 
--- Honest pairs show this by their inputs, and the budget of rounds, if there is one, has room for a further pair.
-pub record IsShownWithin (e : Expanded) (bounds : Bounds) (budget : Budget) (Shown : List Input → Type 0) : Type 0 where
-  pub pairs : List Pair
+-- These pairs are honest, and show this by their inputs; the budget of rounds, if there is one, has room for a further pair.
+pub record IsShownBy (e : Expanded) (bounds : Bounds) (budget : Budget) (Shown : List Input → Type 0) (pairs : List Pair) : Type 0 where
   pub honest : Honest e bounds pairs
   pub room : HasRoom budget pairs
   pub shown : Shown (inputs_of pairs)
+
+-- Some pairs show it.
+pub record IsShownWithin (e : Expanded) (bounds : Bounds) (budget : Budget) (Shown : List Input → Type 0) : Type 0 where
+  pub pairs : List Pair
+  pub by : IsShownBy e bounds budget Shown pairs
 
 -- A completion, and none costs less.
 pub record IsLeast (bounds : Bounds) (e : Expanded) (c : Completion) : Type 0 where

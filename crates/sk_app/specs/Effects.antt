@@ -105,7 +105,7 @@ TellsSpan result left = (fault : TypeFault) → result ≡ NotTyped fault → If
 pub record Synthesises (set : Set) (budget : Budget) (cert : Bool) (result : Ending) (f : Effect) : Type 0 where
   pub ends : IsTrue (is_of_synth result)
   pub completed : result ≡ Completed → IfSome f.left_old (λ text. Writes (IsCompletion set budget cert text) f.held_old f.held_new)
-  pub none : result ≡ NoCompletion → IfSome f.left_old (λ text. Writes (IsNone set budget cert text) f.held_old f.held_new)
+  pub none : (pairs : List Pair) → result ≡ NoCompletion pairs → IfSome f.left_old (λ text. Writes (IsNone set budget cert text pairs) f.held_old f.held_new)
   pub rounds : (pairs : List Pair) (best : Option Choice) → result ≡ SpentRounds pairs best → AreSpent budget.rounds pairs × IfSome f.left_old (λ text. Writes (IsSpentRounds set budget text pairs best) f.held_old f.held_new)
   pub conflicts : (pairs : List Pair) (q : Query) (formula : Encoded) (log : List (List Lit)) (best : Option Choice) → result ≡ SpentConflicts pairs q formula log best → AreLearnt budget.conflicts log × IfSome f.left_old (λ text. Writes (IsSpentConflicts set budget cert text pairs q formula log best) f.held_old f.held_new)
   pub told : IfSome f.left_old (λ text. IsToldOf set text result f.read_faults_old f.read_faults_new f.write_faults_old f.write_faults_new)

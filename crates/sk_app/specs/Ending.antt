@@ -106,7 +106,7 @@ spent_status (Some best) = 3
 
 abbrev pub status_of : Ending → ℕ
 status_of Completed = 0
-status_of NoCompletion = 1
+status_of (NoCompletion pairs) = 1
 status_of (SpentRounds pairs best) = spent_status best
 status_of (SpentConflicts pairs q f log best) = spent_status best
 status_of HelpShown = 0
@@ -137,7 +137,7 @@ status_of Memory = 17
 
 abbrev pub message_of : Ending → List ℕ
 message_of Completed = []
-message_of NoCompletion = []
+message_of (NoCompletion pairs) = []
 message_of (SpentRounds pairs best) = []
 message_of (SpentConflicts pairs q f log best) = []
 message_of HelpShown = []

@@ -36,7 +36,7 @@ pub record WritesPart (P : List ℕ → Type 0) (old new : Option (List ℕ)) : 
 -- whether an ending writes nothing: those with a status from 10 on, but for a write fault
 abbrev pub writes_nothing : Ending → Bool
 writes_nothing Completed = false
-writes_nothing NoCompletion = false
+writes_nothing (NoCompletion pairs) = false
 writes_nothing (SpentRounds pairs best) = false
 writes_nothing (SpentConflicts pairs q f log best) = false
 writes_nothing HelpShown = false
@@ -73,7 +73,7 @@ pub data IsDelivered (result done : Ending) (out : List ℕ) (faults_old faults_
 -- that the source or the sink failed.
 abbrev pub IsToldOf : Set → List ℕ → Ending → ℕ → ℕ → ℕ → ℕ → Type 0
 IsToldOf set text Completed source_old source_new sink_old sink_new = IsTaken set text
-IsToldOf set text NoCompletion source_old source_new sink_old sink_new = IsTaken set text
+IsToldOf set text (NoCompletion pairs) source_old source_new sink_old sink_new = IsTaken set text
 IsToldOf set text (SpentRounds pairs best) source_old source_new sink_old sink_new = IsTaken set text
 IsToldOf set text (SpentConflicts pairs q f log best) source_old source_new sink_old sink_new = IsTaken set text
 IsToldOf set text Listed source_old source_new sink_old sink_new = IsTaken set text
@@ -98,7 +98,7 @@ Ends So source sink ending = So ending
 -- For a text that is taken: it is completed, or has no completion, or a budget that is not 0 is spent.
 abbrev pub IsOfBuilt : Budget → Ending → Type 0
 IsOfBuilt budget Completed = Unit {0}
-IsOfBuilt budget NoCompletion = Unit {0}
+IsOfBuilt budget (NoCompletion pairs) = Unit {0}
 IsOfBuilt budget (SpentRounds pairs best) = 0 < budget.rounds
 IsOfBuilt budget (SpentConflicts pairs q f log best) = 0 < budget.conflicts
 IsOfBuilt budget _ = ⊥

@@ -60,6 +60,8 @@ statuses_text =
     ++ codes "\n"
     ++ codes "SKETCH_EXPLAIN=1 writes more lines for people to standard error behind the message, =0 none;\n"
     ++ codes "else they are written where standard error is a terminal.\n"
+    ++ codes "SKETCH_PROGRESS=1 shows there that a search goes on, =0 does not, else a terminal shows it;\n"
+    ++ codes "SKETCH_STATS=1 writes there at the end what was counted.\n"
 
 abbrev pub help_text : List ℕ
 help_text = usage_text ++ statuses_text

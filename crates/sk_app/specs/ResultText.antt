@@ -5,6 +5,7 @@ use Rattle.sk_base.specs.declared.bounds.Bounds.{Bounds}
 use Rattle.sk_base.specs.declared.bounds.Budget.{Budget}
 use Rattle.sk_model.specs.declared.expanded.Choice.{Choice}
 use Rattle.sk_model.specs.declared.expanded.Expanded.{Expanded}
+use Rattle.sk_model.specs.declared.expanded.Pair.{Pair}
 use Rattle.sk_model.specs.Fill.{InRange, fill}
 use Rattle.sk_model.specs.Meets.{Meets}
 use Rattle.sk_print.specs.Layout.{layout}
@@ -15,7 +16,7 @@ use Rattle.sk_min_certificate.specs.Certifications.{IsCertified}
 use Rattle.sk_opts.specs.declared.line.Set.{Set}
 use Rattle.sk_app.specs.declared.completion.Completion.{Completion}
 use Rattle.sk_all_text.specs.Built.{IsOnly}
-use Rattle.sk_app.specs.Completing.{IsLeast, IsNoChoice, IsShownWithin}
+use Rattle.sk_app.specs.Completing.{IsLeast, IsNoChoice, IsShownBy, IsShownWithin}
 
 -- each number with a space before it
 abbrev pub spaced : List ℕ → List ℕ
@@ -59,12 +60,12 @@ pub record IsCompletion (set : Set) (budget : Budget) (cert : Bool) (text out : 
   pub shows : Shows (layout c.filled) bounds c.filled
   pub is : IsWithCertificate cert e bounds (Some c.choice) c.value (completed_text c) out
 
--- The result text says that there is no completion, and no filling in range meets its obligations, which pairs within the budget of
--- rounds show. A certificate stands behind it where one is asked for.
-pub record IsNone (set : Set) (budget : Budget) (cert : Bool) (text out : List ℕ) : Type 0 where
+-- The result text says that there is no completion, and no filling in range meets its obligations, which these pairs within the
+-- budget of rounds show: no choice in range passes even their inputs. A certificate stands behind it where one is asked for.
+pub record IsNone (set : Set) (budget : Budget) (cert : Bool) (text : List ℕ) (pairs : List Pair) (out : List ℕ) : Type 0 where
   pub bounds : Bounds
   pub e : Expanded
   pub only : IsOnly set text bounds e
   pub none : (b : Choice) → InRange e b → Meets (fill e b) bounds → ⊥
-  pub within : IsShownWithin e bounds budget (IsNoChoice e bounds)
+  pub within : IsShownBy e bounds budget (IsNoChoice e bounds) pairs
   pub is : IsWithCertificate cert e bounds None 0 none_text out

@@ -11,7 +11,7 @@ use Rattle.sk_app.specs.Spent.{AreLearnt, IsSpentRounds, IsSpentConflicts}
 -- the result text of an ending, with these options and budgets, and with a certificate or without
 abbrev pub IsResultOf : Set → Budget → Bool → List ℕ → Ending → List ℕ → Type 0
 IsResultOf set budget cert text Completed out = IsCompletion set budget cert text out
-IsResultOf set budget cert text NoCompletion out = IsNone set budget cert text out
+IsResultOf set budget cert text (NoCompletion pairs) out = IsNone set budget cert text pairs out
 IsResultOf set budget cert text (SpentRounds pairs best) out = IsSpentRounds set budget text pairs best out
 IsResultOf set budget cert text (SpentConflicts pairs q f log best) out = IsSpentConflicts set budget cert text pairs q f log best out
 IsResultOf set budget cert text _ out = ⊥
@@ -25,7 +25,7 @@ IsSpent budget _ = ⊥
 -- Whatever the text is, an ending has a result text only where no budget is spent, or where one is that is not 0.
 abbrev pub HasResult : Budget → Ending → Type 0
 HasResult budget Completed = Unit {0}
-HasResult budget NoCompletion = Unit {0}
+HasResult budget (NoCompletion pairs) = Unit {0}
 HasResult budget ending = IsSpent budget ending
 
 -- a text that a line `synth` writes

@@ -35,6 +35,7 @@ use crate::prepare::{Found, Prepared, prepare};
 use crate::prune::prune_source;
 use sk_base::{Budget, Sink, Source};
 use sk_opts::{Line, Set, Usage, options};
+use sk_watch::Watch;
 use std::alloc::Global;
 
 /// Writes the help.
@@ -49,18 +50,19 @@ fn show_help<K: Sink>(alloc: Global, sink: &mut K) -> Ending
 
 /// Completes the text of the source with the options and budgets of a line, and writes the result to the sink, with
 /// a certificate where one is asked for.
-fn synth<S: Source, K: Sink>(
+fn synth<S: Source, K: Sink, W: Watch>(
     alloc: Global,
     set: &Set,
     budget: &Budget,
     cert: bool,
     source: &mut S,
     sink: &mut K,
+    watch: &mut W,
 ) -> Ending
     requires { IsInRanges set.now }
     ensures ends { IsTrue (is_of_synth result) }
     ensures completed { result ≡ Ending.Completed → IfSome (S.left source.old) (λ text. Writes (IsCompletion set.now budget.now cert text) (K.held sink.old) (K.held sink.new)) }
-    ensures none { result ≡ Ending.NoCompletion → IfSome (S.left source.old) (λ text. Writes (IsNone set.now budget.now cert text) (K.held sink.old) (K.held sink.new)) }
+    ensures none { (pairs : List Pair) → result ≡ Ending.NoCompletion pairs → IfSome (S.left source.old) (λ text. Writes (IsNone set.now budget.now cert text pairs) (K.held sink.old) (K.held sink.new)) }
     ensures rounds { (pairs : List Pair) (best : Option Choice) → result ≡ Ending.SpentRounds pairs best → AreSpent budget.now.rounds pairs × IfSome (S.left source.old) (λ text. Writes (IsSpentRounds set.now budget.now text pairs best) (K.held sink.old) (K.held sink.new)) }
     ensures conflicts { (pairs : List Pair) (q : Query) (formula : Encoded) (log : List (List Lit)) (best : Option Choice) → result ≡ Ending.SpentConflicts pairs q formula log best → AreLearnt budget.now.conflicts log × IfSome (S.left source.old) (λ text. Writes (IsSpentConflicts set.now budget.now cert text pairs q formula log best) (K.held sink.old) (K.held sink.new)) }
     ensures told { IfSome (S.left source.old) (λ text. IsToldOf set.now text result (S.faults source.old) (S.faults source.new) (K.faults sink.old) (K.faults sink.new)) }
@@ -71,7 +73,7 @@ fn synth<S: Source, K: Sink>(
     ensures kept { IsTrue (writes_nothing result) → K.held sink.new ≡ K.held sink.old }
     ensures few { TakesFew most_bytes (S.left source.old) (S.left source.new) }
 {
-    match prepare(alloc, set, budget, cert, source) {
+    match prepare(alloc, set, budget, cert, source, watch) {
         Err(_) => Ending::Memory,
         Ok(Prepared::ReadFault) => Ending::ReadFault,
         Ok(Prepared::TooLong) => Ending::TooLong,
@@ -83,27 +85,36 @@ fn synth<S: Source, K: Sink>(
 }
 
 /// Does what a line `synth` asks for.
-fn serve_synth<S: Source, K: Sink>(
+fn serve_synth<S: Source, K: Sink, W: Watch>(
     alloc: Global,
     set: Set,
     budget: Budget,
     cert: bool,
     source: &mut S,
     sink: &mut K,
+    watch: &mut W,
 ) -> Ending
     requires { IsInRanges set }
     ensures { Serves (line.Synth set budget cert) result (effect S.Source K.Sink source sink) }
 {
-    synth(alloc, &set, &budget, cert, source, sink)
+    synth(alloc, &set, &budget, cert, source, sink, watch)
 }
 
 /// Does what a line asks for.
-fn serve<S: Source, K: Sink>(alloc: Global, line: Line, source: &mut S, sink: &mut K) -> Ending
+fn serve<S: Source, K: Sink, W: Watch>(
+    alloc: Global,
+    line: Line,
+    source: &mut S,
+    sink: &mut K,
+    watch: &mut W,
+) -> Ending
     requires { LineIsInRanges line }
     ensures { Serves line result (effect S.Source K.Sink source sink) }
 {
     match line {
-        Line::Synth { set, budget, cert } => serve_synth(alloc, set, budget, cert, source, sink),
+        Line::Synth { set, budget, cert } => {
+            serve_synth(alloc, set, budget, cert, source, sink, watch)
+        }
         Line::Exec { set, name, values } => {
             let way = Way::Exec;
             run_source(alloc, &set, &Job { name, values, way }, source, sink)
@@ -121,27 +132,28 @@ fn serve<S: Source, K: Sink>(alloc: Global, line: Line, source: &mut S, sink: &m
         Line::Prune { set } => prune_source(alloc, &set, source, sink),
         Line::All { set, most } => {
             let question = Question::Which { most };
-            ask_source(alloc, &set, question, source, sink)
+            ask_source(alloc, &set, question, source, sink, watch)
         }
-        Line::Why { set } => ask_source(alloc, &set, Question::Why, source, sink),
+        Line::Why { set } => ask_source(alloc, &set, Question::Why, source, sink, watch),
         Line::Check { set } => check_source(alloc, &set, source, sink),
-        Line::Itself { n } => summarise(alloc, n, sink),
+        Line::Itself { n } => summarise(alloc, n, sink, watch),
         Line::Help => show_help(alloc, sink),
         Line::Version => deliver(sink, version(), Ending::VersionShown),
     }
 }
 
 /// Does what the words ask for.
-fn answer<S: Source, K: Sink>(
+fn answer<S: Source, K: Sink, W: Watch>(
     alloc: Global,
     words: &[String],
     source: &mut S,
     sink: &mut K,
+    watch: &mut W,
 ) -> Ending
     ensures { Answers (map string_bytes words.now) result (effect S.Source K.Sink source sink) }
 {
     match options(alloc, words) {
-        Ok(line) => serve(alloc, line, source, sink),
+        Ok(line) => serve(alloc, line, source, sink, watch),
         Err(Usage::NotALine) => Ending::NotALine,
         Err(Usage::Memory) => Ending::Memory,
     }
@@ -156,16 +168,18 @@ fn answer<S: Source, K: Sink>(
 /// program makes itself, and writes a summary.
 ///
 /// What is said of the text holds where the source tells what is left, and what is said of what the sink
-/// holds where the sink tells it. Want of memory may come at any step.
+/// holds where the sink tells it. Want of memory may come at any step. The watcher is told of a search while it goes on: no
+/// clause speaks of it, and each holds whatever it does.
 ///
 /// Each clause is one word of the call: `specs/Headline.antt` and `specs/Listings.antt` say the first two, `specs/Clauses.antt` the
 /// others. They stand in
 /// pairs: an ending comes only where it has its cause, and (`ends_..`) where there is the cause, it comes.
-pub fn run<S: Source, K: Sink>(
+pub fn run<S: Source, K: Sink, W: Watch>(
     alloc: Global,
     words: &[String],
     source: &mut S,
     sink: &mut K,
+    watch: &mut W,
 ) -> Ending
     ensures headline { Headline (call S.Source K.Sink words.now result source sink) }
     ensures listings { Listings (call S.Source K.Sink words.now result source sink) }
@@ -255,6 +269,6 @@ pub fn run<S: Source, K: Sink>(
     ensures few { ReadsFew (call S.Source K.Sink words.now result source sink) }
     ensures unread { LeavesSource (call S.Source K.Sink words.now result source sink) }
 {
-    let ending = answer(alloc, words, source, sink);
+    let ending = answer(alloc, words, source, sink, watch);
     ending
 }

@@ -24,6 +24,7 @@ use sk_min_certificate::{Certification, best_certification, none_certification};
 use sk_model::{Choice, Expanded, Pair};
 use sk_opts::Set;
 use sk_types_laws::TypeFault;
+use sk_watch::Watch;
 use std::alloc::{AllocError, Global};
 
 /// What is built of a text.
@@ -59,7 +60,7 @@ fn built(alloc: Global, set: &Set, text: &[u8]) -> Result<Building, AllocError>
 }
 
 /// What is written of a choice that costs least, with a certificate. A proof may spend the budget of conflicts.
-fn certified_best(
+fn certified_best<W: Watch>(
     alloc: Global,
     expanded: &Expanded,
     bounds: &Bounds,
@@ -67,6 +68,7 @@ fn certified_best(
     choice: Choice,
     value: u64,
     pairs: List<Pair>,
+    watch: &mut W,
 ) -> Result<Found, AllocError>
     requires askable { IsAskable expanded.now bounds.now }
     requires few { length expanded.now.sites ≤ 4294967296 }
@@ -87,6 +89,7 @@ fn certified_best(
         value,
         pairs.as_slice(),
         most,
+        watch,
     )? {
         Certification::Text { out } => {
             let ending = Ending::Completed;
@@ -112,12 +115,13 @@ fn certified_best(
 }
 
 /// What is written where there is no completion, with a certificate. A proof may spend the budget of conflicts.
-fn certified_none(
+fn certified_none<W: Watch>(
     alloc: Global,
     expanded: &Expanded,
     bounds: &Bounds,
     budget: &Budget,
     pairs: List<Pair>,
+    watch: &mut W,
 ) -> Result<Found, AllocError>
     requires askable { IsAskable expanded.now bounds.now }
     requires few { length expanded.now.sites ≤ 4294967296 }
@@ -128,9 +132,9 @@ fn certified_none(
     ensures possible { IfOk result (IsPossible budget.now) }
 {
     let most = budget.conflicts;
-    match none_certification(alloc, expanded, bounds, pairs.as_slice(), most)? {
+    match none_certification(alloc, expanded, bounds, pairs.as_slice(), most, watch)? {
         Certification::Text { out } => {
-            let ending = Ending::NoCompletion;
+            let ending = Ending::NoCompletion { pairs };
             Ok(Found::Ended { out, ending })
         }
         Certification::Spent {
@@ -153,12 +157,13 @@ fn certified_none(
 }
 
 /// Searches for a completion that costs least, and makes the result text.
-fn search(
+fn search<W: Watch>(
     alloc: Global,
     expanded: &Expanded,
     bounds: &Bounds,
     budget: &Budget,
     cert: bool,
+    watch: &mut W,
 ) -> Result<Found, AllocError>
     requires askable { IsAskable expanded.now bounds.now }
     requires few { length expanded.now.sites ≤ 4294967296 }
@@ -166,14 +171,16 @@ fn search(
     ensures found { (set : Set) (text : List ℕ) → IsReady set text bounds.now expanded.now → IfOk result (λ found. IsFound set budget.now cert found text) }
     ensures possible { IfOk result (IsPossible budget.now) }
 {
-    match least(alloc, expanded, bounds, budget)? {
+    match least(alloc, expanded, bounds, budget, watch)? {
         Least::Best {
             choice,
             value,
             pairs,
         } => {
             if cert {
-                let found = certified_best(alloc, expanded, bounds, budget, choice, value, pairs)?;
+                let found = certified_best(
+                    alloc, expanded, bounds, budget, choice, value, pairs, watch,
+                )?;
                 return Ok(found);
             }
             let out = completed(alloc, expanded, choice, value)?;
@@ -182,11 +189,11 @@ fn search(
         }
         Least::Nothing { pairs } => {
             if cert {
-                let found = certified_none(alloc, expanded, bounds, budget, pairs)?;
+                let found = certified_none(alloc, expanded, bounds, budget, pairs, watch)?;
                 return Ok(found);
             }
             let out = Vec::from_slice(alloc, b"//@ none\n")?;
-            let ending = Ending::NoCompletion;
+            let ending = Ending::NoCompletion { pairs };
             Ok(Found::Ended { out, ending })
         }
         Least::Rounds { pairs, best } => {
@@ -215,12 +222,13 @@ fn search(
 }
 
 /// Completes a text with the options and budgets of a line, with a certificate or without.
-pub fn complete(
+pub fn complete<W: Watch>(
     alloc: Global,
     set: &Set,
     budget: &Budget,
     cert: bool,
     text: &[u8],
+    watch: &mut W,
 ) -> Result<Found, AllocError>
     requires short { length text.now ≤ most_bytes }
     requires set { IsInRanges set.now }
@@ -232,7 +240,7 @@ pub fn complete(
         Building::NotTyped(fault) => Ok(Found::NotTyped(fault)),
         Building::TooLarge(fault) => Ok(Found::TooLarge(fault)),
         Building::Whole { bounds, expanded } => {
-            let found = search(alloc, &expanded, &bounds, budget, cert)?;
+            let found = search(alloc, &expanded, &bounds, budget, cert, watch)?;
             Ok(found)
         }
     }

@@ -28,8 +28,11 @@ use std::alloc::{AllocError, Global};
 pub enum Ending {
     /// The sink got the completed sketch; for a line `self` the summary of its sketch.
     Completed,
-    /// No filling meets the harness on every input in range. The sink got a line that says so.
-    NoCompletion,
+    /// No filling meets the harness on every input in range: none passes even the inputs of these pairs, each of a choice and an
+    /// input that speaks against it. The sink got a line that says so.
+    NoCompletion {
+        pairs: List<Pair>,
+    },
     /// As many pairs of a choice and an input that speaks against it were found as the line's budget says, and the last
     /// choice that is known to meet every obligation. The sink got a text that says so.
     SpentRounds {
@@ -117,7 +120,7 @@ pub fn status(ending: &Ending) -> u8
         Ending::NotCertificate(fault) => cert_status(*fault),
         Ending::ExecFailed { span: _ } => 4,
         Ending::ExecSkipped { span: _ } => 5,
-        Ending::NoCompletion => 1,
+        Ending::NoCompletion { pairs: _ } => 1,
         Ending::SpentRounds { pairs: _, best } => spent_status(best),
         Ending::SpentConflicts {
             pairs: _,
@@ -146,9 +149,8 @@ pub fn message(alloc: Global, ending: &Ending) -> Result<Name, AllocError>
     ensures { IfOk result (λ name. name ≡ message_of ending.now) }
 {
     match ending {
-        Ending::Completed | Ending::NoCompletion | Ending::HelpShown | Ending::VersionShown => {
-            said(alloc, b"")
-        }
+        Ending::Completed | Ending::HelpShown | Ending::VersionShown => said(alloc, b""),
+        Ending::NoCompletion { pairs: _ } => said(alloc, b""),
         Ending::ExecDone | Ending::ExecFailed { span: _ } | Ending::ExecSkipped { span: _ } => {
             said(alloc, b"")
         }

@@ -68,6 +68,8 @@ It ends with one of these, and from 10 on says more on standard error.
 
 SKETCH_EXPLAIN=1 writes more lines for people to standard error behind the message, =0 none;
 else they are written where standard error is a terminal.
+SKETCH_PROGRESS=1 shows there that a search goes on, =0 does not, else a terminal shows it;
+SKETCH_STATS=1 writes there at the end what was counted.
 "
 }
 

@@ -15,6 +15,7 @@ use sk_expand_sizes::SizeFault;
 use sk_front::TextFault;
 use sk_opts::Set;
 use sk_types_laws::TypeFault;
+use sk_watch::Watch;
 use std::alloc::{AllocError, Global};
 
 /// What a text comes to.
@@ -39,12 +40,13 @@ pub enum Prepared {
 }
 
 /// Reads the text, and completes it with the options and budgets of a line, with a certificate or without.
-pub fn prepare<S: Source>(
+pub fn prepare<S: Source, W: Watch>(
     alloc: Global,
     set: &Set,
     budget: &Budget,
     cert: bool,
     source: &mut S,
+    watch: &mut W,
 ) -> Result<Prepared, AllocError>
     requires { IsInRanges set.now }
     ensures cause { IfOk result (λ prepared. IsPrepared set.now budget.now cert prepared (S.faults source.old) (S.faults source.new) (S.left source.old)) }
@@ -54,7 +56,7 @@ pub fn prepare<S: Source>(
         Reading::Failed => Ok(Prepared::ReadFault),
         Reading::Long => Ok(Prepared::TooLong),
         Reading::Whole(text) => {
-            let found = complete(alloc, set, budget, cert, text.as_slice())?;
+            let found = complete(alloc, set, budget, cert, text.as_slice(), watch)?;
             Ok(Prepared::Found(found))
         }
     }

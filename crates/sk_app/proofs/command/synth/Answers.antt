@@ -36,10 +36,10 @@ returns-in-Ok-Found-Ended-clause-completed g c e =
     written_by c.args.budget.now c.deliver.result m.ending c.as_slice.result.now _ _ _ _ (p.0) c.deliver.ensures c.args.set.now c.args.cert m.out c.as_slice.ensures.value (g.S.Source.left c.args.source.now) (p.1) ending.Completed (λ q. cc) (λ q. cc) e
 
 pub returns-in-Ok-Found-Ended-clause-none : goal.returns-in-Ok-Found-Ended-clause-none
-returns-in-Ok-Found-Ended-clause-none g c e =
+returns-in-Ok-Found-Ended-clause-none g c pairs e =
     let m = c.in-Ok-Found-Ended in
     let p = found_of c.args.set.now c.args.budget.now c.args.cert _ _ m.field-0 m.field-0-0 _ (g.S.Source.left c.args.source.now) m.field-0-is m.field-0-0-is m.ensures.cause in
-    written_by c.args.budget.now c.deliver.result m.ending c.as_slice.result.now _ _ _ _ (p.0) c.deliver.ensures c.args.set.now c.args.cert m.out c.as_slice.ensures.value (g.S.Source.left c.args.source.now) (p.1) ending.NoCompletion (λ q. cc) (λ q. cc) e
+    written_by c.args.budget.now c.deliver.result m.ending c.as_slice.result.now _ _ _ _ (p.0) c.deliver.ensures c.args.set.now c.args.cert m.out c.as_slice.ensures.value (g.S.Source.left c.args.source.now) (p.1) (ending.NoCompletion pairs) (λ q. cc) (λ q. cc) e
 
 pub returns-in-Ok-Found-Ended-clause-rounds : goal.returns-in-Ok-Found-Ended-clause-rounds
 returns-in-Ok-Found-Ended-clause-rounds g c pairs best e =

@@ -5,10 +5,10 @@ use Rattle.sk_app.specs.Summary.{no_set}
 use Rattle.sk_app.proofs.itself.summary_of_text.Goals as goal
 
 pub summary_of-requires : goal.summary_of-requires
-summary_of-requires c = record { askable = askable c.no_set.result c.args.text.now c.in-Ok.found.bounds c.in-Ok.found.expanded (ready_of c.no_set.result c.args.text.now c.in-Ok.found c.in-Ok.ensures.found) }
+summary_of-requires g c = record { askable = askable c.no_set.result c.args.text.now c.in-Ok.found.bounds c.in-Ok.found.expanded (ready_of c.no_set.result c.args.text.now c.in-Ok.found c.in-Ok.ensures.found) }
 
 pub returns-in_ok-out-in-Ok : goal.returns-in_ok-out-in-Ok
-returns-in_ok-out-in-Ok c =
+returns-in_ok-out-in-Ok g c =
     let x = c.in-Ok.found in
     let ready = ready_of c.no_set.result c.args.text.now x c.in-Ok.ensures.found in
     record {
