@@ -1,4 +1,5 @@
 //! How a line ends on a text in memory.
+use crate::counting::Counting;
 use crate::fakes::{FakeSink, FakeSource};
 use crate::halting::Halting;
 use crate::settings::Settings;
@@ -6,6 +7,7 @@ use row_files::{Ended, head_of, words_of};
 use sk_app::{Ending, StdSink, StdSource, message, run, status};
 use sk_base::{List, MemSink, MemSource};
 use sk_explain::{KeptSink, KeptSource, explain};
+use sk_watch::Silent;
 use std::alloc::{AllocError, Global};
 
 /// Runs a line on a text.
@@ -16,7 +18,9 @@ pub fn run_line(
     settings: Settings,
 ) -> Result<Ended, AllocError> {
     let words = words_of(alloc, line)?;
-    if settings.explained {
+    if settings.counted {
+        run_counted(alloc, words.as_slice(), text, settings)
+    } else if settings.explained {
         run_explained(alloc, words.as_slice(), text, settings)
     } else if settings.adapted {
         run_adapted(alloc, words.as_slice(), text, settings)
@@ -33,7 +37,7 @@ fn run_in_memory(
     settings: Settings,
 ) -> Result<Ended, AllocError> {
     let (mut source, mut sink) = streams_of(alloc, text, settings);
-    let ending = run(alloc, words, &mut source, &mut sink);
+    let ending = run(alloc, words, &mut source, &mut sink, &mut Silent);
     let output = Vec::from_slice(alloc, sink.sink().bytes())?;
     told(alloc, &ending, output)
 }
@@ -79,7 +83,7 @@ fn run_adapted(
     let mut source = FakeSource::new(reader, blanks, gives_zero);
     let mut writer = Halting::writer(alloc, sink);
     let mut sink = FakeSink::new(StdSink::new(&mut writer), is_full);
-    let ending = run(alloc, words, &mut source, &mut sink);
+    let ending = run(alloc, words, &mut source, &mut sink, &mut Silent);
     told(alloc, &ending, writer.into_bytes())
 }
 
@@ -93,12 +97,26 @@ fn run_explained(
     let (source, sink) = streams_of(alloc, text, settings);
     let mut source = KeptSource::new(alloc, source);
     let mut sink = KeptSink::new(alloc, sink);
-    let ending = run(alloc, words, &mut source, &mut sink);
+    let ending = run(alloc, words, &mut source, &mut sink, &mut Silent);
     let (Some(text), Some(answer)) = (source.kept(), sink.kept()) else {
         return Err(AllocError);
     };
     let told_of = explain(alloc, words, text, answer, &ending)?;
     let body = Vec::from_slice(alloc, told_of.as_bytes())?;
+    told(alloc, &ending, body)
+}
+
+// The streams are those in memory, and what comes is what a watcher was told.
+fn run_counted(
+    alloc: Global,
+    words: &[String],
+    text: Vec<u8>,
+    settings: Settings,
+) -> Result<Ended, AllocError> {
+    let (mut source, mut sink) = streams_of(alloc, text, settings);
+    let mut watcher = Counting::new(alloc);
+    let ending = run(alloc, words, &mut source, &mut sink, &mut watcher);
+    let body = watcher.told()?;
     told(alloc, &ending, body)
 }
 

@@ -3,6 +3,7 @@
 //! 0 where a row is wrong.
 #![tactic(auto)]
 
+mod counting;
 mod ended;
 mod fakes;
 mod fates;

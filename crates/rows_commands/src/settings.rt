@@ -40,6 +40,8 @@ pub struct Settings {
     pub once: bool,
     /// Whether what is told to people of the ending is compared, and not what is written.
     pub explained: bool,
+    /// Whether what a watcher is told of the search is compared, and not what is written.
+    pub counted: bool,
     pub texts: Texts,
 }
 
@@ -49,7 +51,7 @@ impl Settings {
         let fails = self.is_full
             || !self.source.fails.as_slice().is_empty()
             || !self.sink.fails.as_slice().is_empty();
-        fails && !self.explained
+        fails && !self.explained && !self.counted
     }
 }
 
@@ -125,6 +127,7 @@ fn set_word(settings: &mut Settings, word: &str) -> bool {
         "once" => settings.once = true,
         "adapted" => settings.adapted = true,
         "explained" => settings.explained = true,
+        "counted" => settings.counted = true,
         "fronts" => settings.texts = Texts::Fronts,
         "bytes" => settings.texts = Texts::Bytes,
         _ => return false,
@@ -170,6 +173,7 @@ pub fn calm_settings(alloc: Global) -> Settings {
         adapted: false,
         once: false,
         explained: false,
+        counted: false,
         texts: Texts::Whole,
     }
 }

@@ -6,7 +6,7 @@ use crate::certificates::{tell_not_certificate, tell_rejected};
 use sk_adt::AdtFault;
 use sk_app::{Ending, TextFault};
 use sk_base::{Name, Span};
-use sk_explain_answers::{tell_differences, tell_inputs};
+use sk_explain_answers::{tell_differences, tell_inputs, tell_pairs};
 use sk_explain_causes::{
     push_choices, push_holding, push_not_written, push_passed_over, push_warnings, tell_failed,
     tell_none, tell_not_filled, tell_not_lowered, tell_not_run, tell_not_tagged, tell_size,
@@ -92,7 +92,8 @@ fn span_of(ending: &Ending) -> Option<Span>
         Ending::ExecFailed { span } | Ending::ExecSkipped { span } => Some(*span),
         Ending::NotLowered(reason) => adt_span(*reason),
         Ending::NotTagged { span } => Some(*span),
-        Ending::Completed | Ending::NoCompletion | Ending::HelpShown | Ending::VersionShown => None,
+        Ending::Completed | Ending::NoCompletion { .. } => None,
+        Ending::HelpShown | Ending::VersionShown => None,
         Ending::SpentRounds { .. } | Ending::SpentConflicts { .. } | Ending::ExecDone => None,
         Ending::Lowered | Ending::Pruned | Ending::Listed | Ending::Explained => None,
         Ending::Met => None,
@@ -184,6 +185,20 @@ fn tell_budget(
     Ok(())
 }
 
+// Tells of the inputs that no values of the open parts pass, where there are such.
+fn tell_inputs_of(
+    alloc: Global,
+    told: &mut Told,
+    words: &[String],
+    text: &[u8],
+    ending: &Ending,
+) -> Result<(), AllocError> {
+    match ending {
+        Ending::NoCompletion { pairs } => tell_pairs(alloc, told, words, text, pairs.as_slice()),
+        _ => Ok(()),
+    }
+}
+
 // Tells of an ending for which a search is done.
 fn tell_search(
     alloc: Global,
@@ -198,7 +213,7 @@ fn tell_search(
             push_holding(alloc, told, words, text)?;
             push_runs(alloc, told, words, text, answer)?;
         }
-        Ending::NoCompletion => {
+        Ending::NoCompletion { .. } => {
             tell_none(told)?;
             push_choices(alloc, told, text)?;
         }
@@ -208,7 +223,8 @@ fn tell_search(
         tell_budget(alloc, told, words, text, answer, spent)?;
     }
     tell_answer(alloc, told, words, text, answer, ending)?;
-    push_warnings(alloc, told, text)
+    push_warnings(alloc, told, text)?;
+    tell_inputs_of(alloc, told, words, text, ending)
 }
 
 fn tell_memory(told: &mut Told) -> Result<(), AllocError> {
@@ -268,7 +284,7 @@ fn tell_refusal(
         Ending::NotCertificate(fault) => tell_not_certificate(alloc, told, *fault),
         Ending::Lowered | Ending::Pruned => push_not_written(alloc, told, text),
         Ending::ExecDone | Ending::ExecFailed { .. } | Ending::ExecSkipped { .. } => Ok(()),
-        Ending::Completed | Ending::NoCompletion | Ending::HelpShown => Ok(()),
+        Ending::Completed | Ending::NoCompletion { .. } | Ending::HelpShown => Ok(()),
         Ending::SpentRounds { .. } | Ending::SpentConflicts { .. } | Ending::VersionShown => Ok(()),
         Ending::Listed | Ending::Explained | Ending::Met | Ending::Accepted => Ok(()),
     }
@@ -277,7 +293,7 @@ fn tell_refusal(
 // Whether an ending is one of a search.
 fn is_search(ending: &Ending) -> bool {
     match ending {
-        Ending::Completed | Ending::NoCompletion => true,
+        Ending::Completed | Ending::NoCompletion { .. } => true,
         Ending::SpentRounds { .. } | Ending::SpentConflicts { .. } => true,
         Ending::Listed | Ending::Explained | Ending::Met => true,
         Ending::HelpShown | Ending::VersionShown | Ending::ExecDone => false,

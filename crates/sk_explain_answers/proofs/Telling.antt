@@ -4,16 +4,18 @@ use Rattle.std.specs.Prelude.{codes}
 use Rattle.std.proofs.lemmas.List.{length-map}
 use Rattle.sk_prog.specs.declared.prog.Prog.{Prog}
 use Rattle.sk_model.specs.declared.expanded.Obligation.{Obligation}
+use Rattle.sk_model.specs.declared.expanded.Pair.{Pair}
 use Rattle.sk_model.specs.Obligations.{obligations}
 use Rattle.sk_front.specs.declared.expansion.Expansion.{Expansion}
 use Rattle.sk_explain_notes.specs.declared.note.Told.{Told}
-use Rattle.sk_explain_notes.specs.Notes.{plain, one}
+use Rattle.sk_explain_notes.specs.Notes.{plain, one, one_line}
 use Rattle.sk_explain_answers.specs.declared.rows.Row.{Row}
 use Rattle.sk_explain_answers.specs.Rows.{rows_of, words_of}
 use Rattle.sk_explain_answers.specs.Fillings.{IsKnown}
 use Rattle.sk_explain_answers.specs.More.{more_text, most_told}
 use Rattle.sk_explain_answers.specs.Calls.{call_of}
 use Rattle.sk_explain_answers.specs.Inputs.{AreTold, IsTold, TellsInputs, TellsRows, inputs_title}
+use Rattle.sk_explain_answers.specs.Pairs.{TellsListed, TellsPairs, call_at, pairs_title}
 use Rattle.sk_explain_answers.specs.Differences.{AreSitesTold, IsSiteTold, TellsList, TellsSites, differing, site_line, values_of}
 
 take_map : {A B : Type 0} (f : A → B) (n : ℕ) (xs : List A) → take n (map f xs) ≡ map f (take n xs)
@@ -65,3 +67,18 @@ list_told text rows x old new known title sites = inr (record { x = x; known = k
 
 pub no_list_told : (text : List ℕ) (rows : List (List (List ℕ))) (old new : Told) → new ≡ old → TellsList text rows old new
 no_list_told text rows old new is = inl is
+
+-- Pairs
+
+pub pairs_told : (prog : Prog) (os : List Obligation) (pairs : List Pair) (old mid new : List ℕ) → AreTold (map (call_at prog os) (take most_told pairs)) old mid → new ≡ mid ++ more_text (length pairs) → TellsListed prog os pairs old new
+pairs_told prog os pairs old mid new told more = record { mid = mid; told = told; more = more }
+
+pub known_pairs_told : (text : List ℕ) (pairs : List Pair) (x : Expansion) (old mid new : List ℕ) → IsKnown text x → mid ≡ old ++ one_line (pairs_title x.expanded.sites) → TellsListed x.expanded.prog (obligations x.expanded.prog) pairs mid new → TellsPairs text pairs old new
+known_pairs_told text pairs x old mid new known title told = inr (record {
+  x = x;
+  known = known;
+  told = subst (λ (at : List ℕ). TellsListed x.expanded.prog (obligations x.expanded.prog) pairs at new) title told;
+})
+
+pub no_pairs_told : (text : List ℕ) (pairs : List Pair) (old new : List ℕ) → new ≡ old → TellsPairs text pairs old new
+no_pairs_told text pairs old new is = inl is

@@ -5,4 +5,5 @@ pub mod Calls
 pub mod Fates
 pub mod Fillings
 pub mod Inputs
+pub mod Pairs
 pub mod Differences

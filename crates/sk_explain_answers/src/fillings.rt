@@ -15,14 +15,14 @@ use std::alloc::{AllocError, Global};
 /// The greatest number of bytes of a text.
 const MOST_BYTES: usize = 1_048_576;
 
-// The options of a line that answers with inputs or choices.
+// The options of a line that searches.
 fn set_of(line: &Line) -> Option<Set>
     requires { LineIsInRanges line.now }
     ensures { IfSome result IsInRanges }
 {
     match line {
-        Line::All { set, .. } | Line::Why { set } => Some(*set),
-        Line::Synth { .. } | Line::Exec { .. } | Line::Trace { .. } | Line::Lower { .. } => None,
+        Line::Synth { set, .. } | Line::All { set, .. } | Line::Why { set } => Some(*set),
+        Line::Exec { .. } | Line::Trace { .. } | Line::Lower { .. } => None,
         Line::Prune { .. } | Line::Check { .. } | Line::Itself { .. } => None,
         Line::Help | Line::Version => None,
     }
@@ -43,7 +43,7 @@ fn expanded(alloc: Global, set: &Set, text: &[u8]) -> Result<Option<Expansion>, 
     }
 }
 
-/// What the text of a line that answers with inputs or choices expands to.
+/// What the text of a line that searches expands to.
 #[tactic(auto, using(crate::proofs::Fillable::known_is))]
 pub fn expansion(
     alloc: Global,

@@ -1,4 +1,4 @@
-//! What there is to tell people of answers: what a filling does on the inputs that explain why there is no completion, and in which
+//! What there is to tell people of answers: what fillings do on the inputs that explain why there is no completion, and in which
 //! numbers listed completions differ.
 #![tactic(auto)]
 
@@ -8,6 +8,7 @@ mod fates;
 mod fillings;
 mod inputs;
 mod more;
+mod pairs;
 mod pieces;
 mod places;
 mod rows;
@@ -15,3 +16,4 @@ mod runs;
 
 pub use differences::tell_differences;
 pub use inputs::tell_inputs;
+pub use pairs::tell_pairs;

@@ -2,14 +2,19 @@
 //! output.
 #![tactic(auto)]
 
+mod wanted;
+
 ghost use Rattle.std.specs.Prelude.{◌≡◌};
 ghost use Rattle.sk_app.specs.Ending.{status_of};
 
 use sk_app::{Ending, StdSink, StdSource, message, run, status};
 use sk_explain::{KeptSink, KeptSource, explain};
+use sk_explain_search::{ClearingSink, Watcher};
+use std::cell::Cell;
 use std::env;
-use std::io::{IsTerminal, Write};
+use std::io::Write;
 use std::process::ExitCode;
+use wanted::{is_counted, is_explained, wanted};
 
 /// The status where the runtime does not give the words.
 const NO_WORDS: u8 = 24;
@@ -35,16 +40,6 @@ fn ended(rt: &HostRuntime, ending: &Ending) -> u8
     code
 }
 
-/// Whether lines for people are written: the environment variable `SKETCH_EXPLAIN` says so by `1` or `0`, and else they
-/// are where standard error is a terminal.
-fn is_explained(rt: &HostRuntime) -> bool {
-    match env::var(rt, "SKETCH_EXPLAIN") {
-        Ok(word) if word.as_str() == "1" => true,
-        Ok(word) if word.as_str() == "0" => false,
-        _ => rt.stderr().is_terminal(),
-    }
-}
-
 /// Writes the lines for people, where there was memory for the text that was read and the answer that was written. They change
 /// nothing else: where they cannot be made or written, there are none.
 fn say_more(
@@ -67,12 +62,19 @@ fn main(rt: HostRuntime) -> ExitCode {
         say(&mut rt.stderr(), b"no words");
         return ExitCode::from(NO_WORDS);
     };
+    let shown = Cell::new(false);
+    let mut watcher = Watcher::new(alloc, &rt, rt.stderr(), wanted(&rt), &shown);
     let mut source = KeptSource::new(alloc, StdSource::new(rt.stdin()));
-    let mut sink = KeptSink::new(alloc, StdSink::new(rt.stdout()));
-    let ending = run(alloc, words.as_slice(), &mut source, &mut sink);
+    let output = StdSink::new(rt.stdout());
+    let mut sink = KeptSink::new(alloc, ClearingSink::new(output, rt.stderr(), &shown));
+    let ending = run(alloc, words.as_slice(), &mut source, &mut sink, &mut watcher);
+    watcher.finish();
     let code = ended(&rt, &ending);
     if is_explained(&rt) {
         say_more(&rt, words.as_slice(), source.kept(), sink.kept(), &ending);
+    }
+    if is_counted(&rt) {
+        watcher.say_counts();
     }
     ExitCode::from(code)
 }

@@ -1,0 +1,61 @@
+//! A watcher that keeps the lines of better completions, and counts rounds and inputs.
+use sk_explain_notes::Note;
+use sk_explain_search::{Statistics, better_line, push_findings};
+use sk_watch::{News, Watch};
+use std::alloc::{AllocError, Global};
+
+/// What was told of a search.
+#[derive(Drop)]
+pub struct Counting {
+    alloc: Global,
+    statistics: Statistics,
+    better: Vec<u8>,
+    /// Whether there was no memory for a line.
+    is_short: bool,
+}
+
+impl Counting {
+    /// Nothing was told.
+    pub fn new(alloc: Global) -> Counting {
+        Counting {
+            alloc,
+            statistics: Statistics::new(),
+            better: Vec::new(alloc),
+            is_short: false,
+        }
+    }
+
+    // Keeps the line of a better completion.
+    fn keep(&mut self, value: u64, holes: &[u64]) -> Result<(), AllocError> {
+        let line = better_line(self.alloc, value, holes)?;
+        self.better.extend_from_slice(line.as_bytes())
+    }
+
+    /// The lines of better completions, and those of rounds and inputs.
+    pub fn told(self) -> Result<Vec<u8>, AllocError> {
+        let Counting {
+            alloc,
+            statistics,
+            better: mut lines,
+            is_short,
+        } = self;
+        if is_short {
+            return Err(AllocError);
+        }
+        let mut counts = Note::new(alloc);
+        push_findings(&mut counts, &statistics)?;
+        lines.extend_from_slice(counts.as_bytes())?;
+        Ok(lines)
+    }
+}
+
+impl Watch for Counting {
+    fn tell(&mut self, news: News<'_>) {
+        self.statistics.tell(news);
+        if let News::Better { value, holes } = news {
+            if self.keep(value, holes).is_err() {
+                self.is_short = true;
+            }
+        }
+    }
+}

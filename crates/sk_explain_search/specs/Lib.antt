@@ -1,0 +1,4 @@
+pub mod Counts
+pub mod Spent
+pub mod Shown
+pub mod Lines
