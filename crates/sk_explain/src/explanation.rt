@@ -230,6 +230,7 @@ fn tell_search(
 fn tell_memory(told: &mut Told) -> Result<(), AllocError> {
     told.title(&[b"memory ran out, or something nests too deep"])?;
     told.note(&[b"the calls of a run nest statements and expressions at most 4096 deep in all"])?;
+    told.note(&[b"those that synth, all, why and check walk nest them at most 2048 deep"])?;
     told.note(&[b"the copies of generators inside one another nest them at most 768 deep"])
 }
 
