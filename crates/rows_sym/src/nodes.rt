@@ -7,7 +7,7 @@ use crate::input::shapes_of;
 use crate::runs::{Subject, subject_of};
 use sk_dag::{Dag, Node, Shape};
 use sk_model::Choice;
-use sk_sym::execute;
+use sk_sym::{Plan, execute};
 use std::alloc::{AllocError, Global};
 
 /// What a line says of the nodes that a run makes.
@@ -75,10 +75,12 @@ fn made_on(
     requires args { AllStand dag.old args.now }
 {
     let sketch = subject.sketch;
+    let plan = Plan::new(alloc, &sketch.expanded)?;
     execute(
         alloc,
         dag,
         &sketch.expanded,
+        &plan,
         subject.f,
         args,
         &sketch.bounds,

@@ -12,7 +12,7 @@ use sk_holes::{FillFault, fill};
 use sk_interp::exec;
 use sk_model::{Choice, Outcome};
 use sk_prog::{Fun, FunId, Prog, Value};
-use sk_sym::execute;
+use sk_sym::{Plan, execute};
 use std::alloc::{AllocError, Global};
 
 /// A function of a sketch, and the text of that.
@@ -88,10 +88,12 @@ fn run_on(
     requires args { AllStand dag.old args.now }
 {
     let sketch = subject.sketch;
+    let plan = Plan::new(alloc, &sketch.expanded)?;
     let made = execute(
         alloc,
         dag,
         &sketch.expanded,
+        &plan,
         subject.f,
         args,
         &sketch.bounds,

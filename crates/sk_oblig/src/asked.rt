@@ -6,6 +6,7 @@ ghost use Rattle.sk_expand_sites.specs.Needs.{HasItsSites};
 ghost use Rattle.sk_model.specs.Fill.{InRange};
 ghost use Rattle.sk_oblig_queries.specs.Widths.{params_of as takes};
 ghost use Rattle.sk_oblig_checks.specs.Arguments.{count_of};
+ghost use Rattle.sk_oblig_checks.specs.Plans.{IsPlan};
 ghost use Rattle.sk_oblig.specs.Nodes.{SaysAnyBad, SaysBad, has_inputs as has};
 
 use crate::plain::{count_of, has_inputs, params_of};
@@ -15,6 +16,7 @@ use sk_limits::never;
 use sk_model::{Choice, Expanded, Obligation};
 use sk_oblig_checks::arguments::arguments;
 use sk_oblig_checks::check;
+use sk_oblig_checks::sym::Plan;
 use sk_sym_folds::{flag, or};
 use std::alloc::{AllocError, Global};
 
@@ -24,6 +26,7 @@ fn judges(
     alloc: Global,
     dag: &mut Dag,
     expanded: &Expanded,
+    plan: &Plan,
     bounds: &Bounds,
     obligation: Obligation,
     first: u32,
@@ -33,6 +36,7 @@ fn judges(
     requires width { dag.old.bits ≡ bounds.now.int_bits }
     requires inbits { bounds.now.inbits ≤ bounds.now.int_bits - 1 }
     requires sites { HasItsSites expanded.now }
+    requires plan { IsPlan expanded.now plan.now }
     requires range { InRange expanded.now choice.now }
     requires any { has expanded.now.prog obligation ≡ true }
     ensures keeps { Keeps dag.old dag.new }
@@ -44,6 +48,7 @@ fn judges(
         alloc,
         dag,
         expanded,
+        plan,
         bounds,
         obligation,
         args.as_slice(),
@@ -59,6 +64,7 @@ fn speaks(
     alloc: Global,
     dag: &mut Dag,
     expanded: &Expanded,
+    plan: &Plan,
     bounds: &Bounds,
     obligation: Obligation,
     first: u32,
@@ -68,13 +74,14 @@ fn speaks(
     requires width { dag.old.bits ≡ bounds.now.int_bits }
     requires inbits { bounds.now.inbits ≤ bounds.now.int_bits - 1 }
     requires sites { HasItsSites expanded.now }
+    requires plan { IsPlan expanded.now plan.now }
     requires range { InRange expanded.now choice.now }
     ensures keeps { Keeps dag.old dag.new }
     ensures bad { IfOk result (λ r. SaysBad dag.new expanded.now choice.now bounds.now limit obligation first r) }
 {
     if has_inputs(&expanded.prog, obligation) {
         return judges(
-            alloc, dag, expanded, bounds, obligation, first, choice, limit,
+            alloc, dag, expanded, plan, bounds, obligation, first, choice, limit,
         );
     }
     let r = flag(dag, false)?;
@@ -119,6 +126,7 @@ pub(crate) fn any_speaks(
     ensures keeps { Keeps dag.old dag.new }
     ensures bad { IfOk result (λ r. SaysAnyBad dag.new expanded.now choice.now bounds.now limit obligations.now r) }
 {
+    let plan = Plan::new(alloc, expanded)?;
     let mut any = flag(dag, false)?;
     let mut first = 0;
     for obligation in obligations {
@@ -126,6 +134,7 @@ pub(crate) fn any_speaks(
             alloc,
             dag,
             expanded,
+            &plan,
             bounds,
             *obligation,
             first,

@@ -4,6 +4,7 @@ ghost use Rattle.std.specs.Prelude.{◌≡◌, slice_get, Some, IfOk};
 ghost use Rattle.sk_clause.specs.Meaning.{Meets, valuation};
 ghost use Rattle.sk_model.specs.Fill.{InRange};
 ghost use Rattle.sk_model.specs.Obligations.{obligations};
+ghost use Rattle.sk_oblig_checks.specs.Plans.{IsPlan};
 ghost use Rattle.sk_oblig_queries.specs.Queries.{AsksFor};
 ghost use Rattle.sk_oblig_queries.specs.declared.query.Query.TheVariants as query_form;
 ghost use Rattle.sk_oblig.specs.Formulas.{IsAskable, IsAsked, IsSaid, IsSaidAt, AsksInput, IsAnswer};
@@ -14,6 +15,7 @@ use sk_base::Bounds;
 use sk_cnf::Encoded;
 use sk_limits::number_of;
 use sk_model::{Choice, Expanded, Input, Obligation};
+use sk_oblig_checks::sym::Plan;
 use sk_oblig_queries::{Query, bits_of_names, input_of_bits, obligations};
 use std::alloc::{AllocError, Global};
 
@@ -21,6 +23,7 @@ use std::alloc::{AllocError, Global};
 fn bad_input(
     alloc: Global,
     expanded: &Expanded,
+    plan: &Plan,
     bounds: &Bounds,
     query: &Query,
     number: u32,
@@ -30,6 +33,7 @@ fn bad_input(
     limit: Option<u64>,
 ) -> Result<Option<Input>, AllocError>
     requires askable { IsAskable expanded.now bounds.now }
+    requires plan { IsPlan expanded.now plan.now }
     requires range { InRange expanded.now choice.now }
     requires query { query.now ≡ query_form.Bad choice.now limit }
     requires found { slice_get (obligations expanded.now.prog) number ≡ Some obligation }
@@ -40,7 +44,7 @@ fn bad_input(
     }
     let input = input_of_bits(alloc, expanded, bounds, query, number, bits)?;
     let args = input.args.as_slice();
-    let yes = speaks(alloc, expanded, bounds, obligation, args, choice, limit)?;
+    let yes = speaks(alloc, expanded, plan, bounds, obligation, args, choice, limit)?;
     if !yes {
         return Ok(None);
     }
@@ -65,11 +69,12 @@ fn first_bad(
     requires listed { listed.now ≡ obligations expanded.now.prog }
     ensures { IfOk result (IsSaid expanded.now bounds.now choice.now limit bits.now) }
 {
+    let plan = Plan::new(alloc, expanded)?;
     for place in 0..listed.len() {
         let number = number_of(place)?;
         let obligation = listed[place];
         let found = bad_input(
-            alloc, expanded, bounds, query, number, obligation, bits, choice, limit,
+            alloc, expanded, &plan, bounds, query, number, obligation, bits, choice, limit,
         )?;
         if found.is_some() {
             return Ok(found);

@@ -10,6 +10,7 @@ ghost use Rattle.sk_model.specs.Obligations.{obligations};
 ghost use Rattle.sk_model.specs.Open.{run_open};
 ghost use Rattle.sk_holes_choice_laws.specs.Meeting.{cost_of_obligation_under};
 ghost use Rattle.sk_oblig_checks.specs.Outcome.{Says};
+ghost use Rattle.sk_oblig_checks.specs.Plans.{IsPlan};
 ghost use Rattle.sk_oblig_checks.specs.Checks.{IsBadUnder};
 ghost use Rattle.sk_oblig.specs.Formulas.{IsAskable};
 
@@ -18,7 +19,7 @@ use sk_dag::{Dag, Env};
 use sk_model::{Choice, Expanded, Input, Obligation};
 use sk_oblig_checks::arguments::constants;
 use sk_oblig_checks::check;
-use sk_oblig_checks::sym::{SymOutcome, execute};
+use sk_oblig_checks::sym::{Plan, SymOutcome, execute};
 use sk_oblig_queries::obligations;
 use sk_prog::{FunId, Prog, Value};
 use std::alloc::{AllocError, Global};
@@ -40,6 +41,7 @@ fn obligation_of(alloc: Global, prog: &Prog, input: &Input) -> Result<Obligation
 pub(crate) fn speaks(
     alloc: Global,
     expanded: &Expanded,
+    plan: &Plan,
     bounds: &Bounds,
     obligation: Obligation,
     args: &[Value],
@@ -47,6 +49,7 @@ pub(crate) fn speaks(
     limit: Option<u64>,
 ) -> Result<bool, AllocError>
     requires askable { IsAskable expanded.now bounds.now }
+    requires plan { IsPlan expanded.now plan.now }
     requires range { InRange expanded.now choice.now }
     ensures { IfOk result (λ yes. (yes ≡ true) ↔ IsBadUnder expanded.now choice.now bounds.now limit obligation args.now) }
 {
@@ -57,6 +60,7 @@ pub(crate) fn speaks(
         alloc,
         &mut dag,
         expanded,
+        plan,
         bounds,
         obligation,
         shapes.as_slice(),
@@ -104,6 +108,7 @@ fn cost_of_run(
     requires range { InRange expanded.now choice.now }
     ensures { IfOk result (λ cost. cost ≡ cost_of_outcome (run_open expanded.now choice.now f args.now bounds.now)) }
 {
+    let plan = Plan::new(alloc, expanded)?;
     let mut dag = Dag::new(alloc, bounds.int_bits);
     let shapes = constants(alloc, &mut dag, args)?;
     let given = Some(choice);
@@ -111,6 +116,7 @@ fn cost_of_run(
         alloc,
         &mut dag,
         expanded,
+        &plan,
         f,
         shapes.as_slice(),
         bounds,

@@ -11,6 +11,7 @@ use sk_dag::{BoolId, Dag};
 use sk_model::{Expanded, Input, Obligation};
 use sk_oblig_checks::arguments::constants;
 use sk_oblig_checks::check;
+use sk_oblig_checks::sym::Plan;
 use sk_sym_folds::{and, flag, not};
 use std::alloc::{AllocError, Global};
 
@@ -31,11 +32,13 @@ fn spares(
     ensures keeps { Keeps dag.old dag.new }
     ensures fine { IfOk result (λ r. SaysFine dag.new expanded.now bounds.now limit input.now r) }
 {
+    let plan = Plan::new(alloc, expanded)?;
     let args = constants(alloc, dag, input.args.as_slice())?;
     let bad = check(
         alloc,
         dag,
         expanded,
+        &plan,
         bounds,
         obligation,
         args.as_slice(),

@@ -6,6 +6,7 @@ ghost use Rattle.sk_dag.specs.Eval.{Keeps};
 ghost use Rattle.sk_arr.specs.Shapes.{AllStand};
 ghost use Rattle.sk_expand_sites.specs.Needs.{HasItsSites};
 ghost use Rattle.sk_model.specs.declared.expanded.Obligation.TheVariants as obligation;
+ghost use Rattle.sk_sym.specs.Plans.{IsPlan};
 ghost use Rattle.sk_oblig_checks.specs.Checks.{IsCheck};
 
 use crate::ending::{fails_or_costs, speaks_against};
@@ -13,7 +14,7 @@ use sk_base::Bounds;
 use sk_dag::{BoolId, Dag, Shape};
 use sk_model::{Choice, Expanded, Obligation};
 use sk_prog::FunId;
-use sk_sym::execute;
+use sk_sym::{Plan, execute};
 use std::alloc::{AllocError, Global};
 
 // Whether arguments speak against a choice under which a harness is not to fail.
@@ -22,6 +23,7 @@ fn check_harness(
     alloc: Global,
     dag: &mut Dag,
     expanded: &Expanded,
+    plan: &Plan,
     bounds: &Bounds,
     f: FunId,
     args: &[Shape],
@@ -30,11 +32,12 @@ fn check_harness(
 ) -> Result<BoolId, AllocError>
     requires width { dag.old.bits ≡ bounds.now.int_bits }
     requires sites { HasItsSites expanded.now }
+    requires plan { IsPlan expanded.now plan.now }
     requires args { AllStand dag.old args.now }
     ensures keeps { Keeps dag.old dag.new }
     ensures check { IfOk result (λ r. IsCheck dag.new expanded.now (option_copied choice.entry) bounds.now limit (obligation.Harness f) args.now r) }
 {
-    let made = execute(alloc, dag, expanded, f, args, bounds, choice)?;
+    let made = execute(alloc, dag, expanded, plan, f, args, bounds, choice)?;
     let r = fails_or_costs(dag, &made, limit)?;
     Ok(r)
 }
@@ -45,6 +48,7 @@ fn check_implementation(
     alloc: Global,
     dag: &mut Dag,
     expanded: &Expanded,
+    plan: &Plan,
     bounds: &Bounds,
     f: FunId,
     g: FunId,
@@ -54,19 +58,20 @@ fn check_implementation(
 ) -> Result<BoolId, AllocError>
     requires width { dag.old.bits ≡ bounds.now.int_bits }
     requires sites { HasItsSites expanded.now }
+    requires plan { IsPlan expanded.now plan.now }
     requires args { AllStand dag.old args.now }
     ensures keeps { Keeps dag.old dag.new }
     ensures check { IfOk result (λ r. IsCheck dag.new expanded.now (option_copied choice.entry) bounds.now limit (obligation.Implements f g) args.now r) }
 {
-    let reference = execute(alloc, dag, expanded, g, args, bounds, choice)?;
-    let own = execute(alloc, dag, expanded, f, args, bounds, choice)?;
+    let reference = execute(alloc, dag, expanded, plan, g, args, bounds, choice)?;
+    let own = execute(alloc, dag, expanded, plan, f, args, bounds, choice)?;
     let r = speaks_against(dag, reference, own)?;
     Ok(r)
 }
 
 /// Whether arguments of an obligation, shapes of the graph, speak against a choice: they break the obligation, or it is a
 /// harness, which is done at a cost above the limit. The choice is the given one; where none is given it is that of the
-/// environment, and the node says nothing of one that is not in range.
+/// environment, and the node says nothing of one that is not in range. A plan of the program serves all its checks.
 ///
 /// # Errors
 ///
@@ -76,6 +81,7 @@ pub fn check(
     alloc: Global,
     dag: &mut Dag,
     expanded: &Expanded,
+    plan: &Plan,
     bounds: &Bounds,
     obligation: Obligation,
     args: &[Shape],
@@ -84,16 +90,17 @@ pub fn check(
 ) -> Result<BoolId, AllocError>
     requires width { dag.old.bits ≡ bounds.now.int_bits }
     requires sites { HasItsSites expanded.now }
+    requires plan { IsPlan expanded.now plan.now }
     requires args { AllStand dag.old args.now }
     ensures keeps { Keeps dag.old dag.new }
     ensures check { IfOk result (λ r. IsCheck dag.new expanded.now (option_copied choice.entry) bounds.now limit obligation args.now r) }
 {
     match obligation {
         Obligation::Harness(f) => {
-            check_harness(alloc, dag, expanded, bounds, f, args, choice, limit)
+            check_harness(alloc, dag, expanded, plan, bounds, f, args, choice, limit)
         }
         Obligation::Implements { f, g } => {
-            check_implementation(alloc, dag, expanded, bounds, f, g, args, choice, limit)
+            check_implementation(alloc, dag, expanded, plan, bounds, f, g, args, choice, limit)
         }
     }
 }

@@ -1,3 +1,4 @@
 pub mod Paid
 pub mod Whole
 pub mod Names
+pub mod Plans

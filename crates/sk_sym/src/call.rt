@@ -10,11 +10,12 @@ ghost use Rattle.sk_sym_state.specs.Seen.{AreWorth};
 ghost use Rattle.sk_sym_state.specs.Shows.{EndedIs};
 ghost use Rattle.sk_sym_state.specs.Meaning.{Executes, DoesOn};
 ghost use Rattle.sk_sym.specs.Bodies.{body_at, EndsSo};
+ghost use Rattle.sk_sym.specs.Plans.{IsPlan};
 
 use crate::payment::pay_first;
+use crate::plan::Plan;
 use sk_base::List;
 use sk_dag::{Dag, Shape};
-use sk_sym_sites::start_of;
 use sk_sym_state::{Ended, SymState};
 use sk_sym_walk::Activation;
 use sk_sym_walk::frames::{enter, leave};
@@ -27,6 +28,7 @@ const MOST_LEVELS: u32 = 2048;
 /// Does what the body of the function with a number does, which is that of the call.
 fn body(
     activation: &Activation<'_>,
+    plan: &Plan,
     dag: &mut Dag,
     state: &mut SymState,
     f: u32,
@@ -34,12 +36,13 @@ fn body(
     requires stands { StateStands dag.old activation.now.setting.expanded.now.prog state.old }
     requires width { dag.old.bits ≡ activation.now.bounds.int_bits }
     requires sites { HasItsSites activation.now.setting.expanded.now }
+    requires plan { IsPlan activation.now.setting.expanded.now plan.now }
     ensures keeps { Keeps dag.old dag.new }
     ensures executes { OnOk result (Executes activation.now.setting dag.old dag.new state.old state.new (body_at activation.now f)) }
 {
     let setting = &activation.setting;
-    let mut at = start_of(&setting.expanded.prog, f)?;
-    pay_first(setting, dag, state)?;
+    let mut at = plan.start_of(setting.expanded, f)?;
+    pay_first(plan, setting, dag, state)?;
     activation.exec_all(
         MOST_LEVELS,
         dag,
@@ -53,6 +56,7 @@ fn body(
 /// Calls the function with a number, which is that of the call.
 pub(crate) fn call(
     activation: &Activation<'_>,
+    plan: &Plan,
     dag: &mut Dag,
     state: &mut SymState,
     f: u32,
@@ -61,13 +65,14 @@ pub(crate) fn call(
     requires stands { StateStands dag.old activation.now.setting.expanded.now.prog state.old }
     requires width { dag.old.bits ≡ activation.now.bounds.int_bits }
     requires sites { HasItsSites activation.now.setting.expanded.now }
+    requires plan { IsPlan activation.now.setting.expanded.now plan.now }
     requires args { AllStand dag.old args }
     ensures keeps { Keeps dag.old dag.new }
     ensures ends { IfOk result (λ r. EndsSo activation.now f dag.old dag.new state.old state.new args r) }
 {
     let setting = &activation.setting;
     let caller = enter(setting, dag, state, args)?;
-    body(activation, dag, state, f)?;
+    body(activation, plan, dag, state, f)?;
     let ended = leave(setting, dag, state, setting.fun, caller)?;
     Ok(ended)
 }

@@ -7,10 +7,12 @@ ghost use Rattle.sk_arr.specs.Shapes.{AllStand};
 ghost use Rattle.sk_expand_sites.specs.Needs.{HasItsSites};
 ghost use Rattle.sk_sym.specs.Bodies.{IsFirst};
 ghost use Rattle.sk_sym.specs.Outcome.{IsOutcome};
+ghost use Rattle.sk_sym.specs.Plans.{IsPlan};
 
 use crate::begin::{begin, copies};
 use crate::call::call;
 use crate::outcome::{SymOutcome, failed_outcome, outcome_of};
+use crate::plan::Plan;
 use sk_base::Bounds;
 use sk_dag::{Dag, Shape};
 use sk_model::{Choice, Expanded};
@@ -35,6 +37,7 @@ fn function_at(prog: &Prog, f: FunId) -> Option<&Fun>
 /// Runs the function of a call that is the first.
 fn run(
     first: &Activation<'_>,
+    plan: &Plan,
     dag: &mut Dag,
     f: FunId,
     args: &[Shape],
@@ -42,6 +45,7 @@ fn run(
     requires first { IsFirst first.now f }
     requires width { dag.old.bits ≡ first.now.bounds.int_bits }
     requires sites { HasItsSites first.now.setting.expanded.now }
+    requires plan { IsPlan first.now.setting.expanded.now plan.now }
     requires args { AllStand dag.old args.now }
     ensures keeps { Keeps dag.old dag.new }
     ensures outcome { IfOk result (λ made. IsOutcome dag.new first.now.setting.expanded.now (option_copied first.now.setting.choice) f args.now first.now.bounds made) }
@@ -49,13 +53,13 @@ fn run(
     let alloc = first.setting.alloc;
     let mut state = begin(alloc, dag)?;
     let args = copies(alloc, args)?;
-    let ended = call(first, dag, &mut state, f.index, args)?;
+    let ended = call(first, plan, dag, &mut state, f.index, args)?;
     let made = outcome_of(first.setting.fun, &state, ended)?;
     Ok(made)
 }
 
 /// Runs a function of an expanded program over the nodes of a graph, on arguments that are shapes of the graph. The
-/// choice is the given one; where none is given it is that of the environment.
+/// choice is the given one; where none is given it is that of the environment. A plan of the program serves all runs of it.
 ///
 /// # Errors
 ///
@@ -66,6 +70,7 @@ pub fn execute(
     alloc: Global,
     dag: &mut Dag,
     expanded: &Expanded,
+    plan: &Plan,
     f: FunId,
     args: &[Shape],
     bounds: &Bounds,
@@ -73,6 +78,7 @@ pub fn execute(
 ) -> Result<SymOutcome, AllocError>
     requires width { dag.old.bits ≡ bounds.now.int_bits }
     requires sites { HasItsSites expanded.now }
+    requires plan { IsPlan expanded.now plan.now }
     requires args { AllStand dag.old args.now }
     ensures keeps { Keeps dag.old dag.new }
     ensures outcome { IfOk result (λ made. IsOutcome dag.new expanded.now (option_copied choice.entry) f args.now bounds.now made) }
@@ -96,6 +102,6 @@ pub fn execute(
         left: MORE_CALLS,
         active: &active,
     };
-    let made = run(&first, dag, f, args)?;
+    let made = run(&first, plan, dag, f, args)?;
     Ok(made)
 }

@@ -6,6 +6,8 @@ mod call;
 mod entry;
 mod outcome;
 mod payment;
+mod plan;
 
 pub use entry::execute;
 pub use outcome::SymOutcome;
+pub use plan::Plan;

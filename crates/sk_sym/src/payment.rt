@@ -11,7 +11,9 @@ ghost use Rattle.sk_sym_choices.specs.Payments.{AllOwed};
 ghost use Rattle.sk_sym_state.specs.Stands.{StateStands};
 ghost use Rattle.sk_sym_state.specs.Meaning.{Executes, ExecutesOn, choice_at};
 ghost use Rattle.sk_sym.specs.Paying.{AreAmounts, pays, first_paid, program_pays};
+ghost use Rattle.sk_sym.specs.Plans.{IsPlan};
 
+use crate::plan::Plan;
 use sk_dag::{Dag, WordId};
 use sk_prog::FunKind;
 use sk_sym_choices::{Payment, payments};
@@ -81,20 +83,42 @@ fn pay_program(setting: &Setting<'_>, dag: &mut Dag, state: &mut SymState) -> Re
     Ok(())
 }
 
-/// Pays what the function of the call pays first: a harness what the `minrepeat`s of the program pay, and any other
-/// function nothing.
-pub(crate) fn pay_first(
+/// The same by a plan, which may tell that nothing is paid.
+fn pay_planned(
+    plan: &Plan,
     setting: &Setting<'_>,
     dag: &mut Dag,
     state: &mut SymState,
 ) -> Result<(), AllocError>
     requires stands { StateStands dag.old setting.now.expanded.now.prog state.old }
     requires sites { HasItsSites setting.now.expanded.now }
+    requires plan { IsPlan setting.now.expanded.now plan.now }
+    ensures keeps { Keeps dag.old dag.new }
+    ensures pays { OnOk result (Executes setting.now dag.old dag.new state.old state.new (λ e. pays dag.old.bits (program_pays setting.now e))) }
+{
+    if plan.is_free() {
+        return Ok(());
+    }
+    pay_program(setting, dag, state)?;
+    Ok(())
+}
+
+/// Pays what the function of the call pays first: a harness what the `minrepeat`s of the program pay, and any other
+/// function nothing.
+pub(crate) fn pay_first(
+    plan: &Plan,
+    setting: &Setting<'_>,
+    dag: &mut Dag,
+    state: &mut SymState,
+) -> Result<(), AllocError>
+    requires stands { StateStands dag.old setting.now.expanded.now.prog state.old }
+    requires sites { HasItsSites setting.now.expanded.now }
+    requires plan { IsPlan setting.now.expanded.now plan.now }
     ensures keeps { Keeps dag.old dag.new }
     ensures pays { OnOk result (Executes setting.now dag.old dag.new state.old state.new (λ e. pays dag.old.bits (first_paid setting.now.fun.now.kind (program_pays setting.now e)))) }
 {
     match setting.fun.kind {
-        FunKind::Harness => pay_program(setting, dag, state),
+        FunKind::Harness => pay_planned(plan, setting, dag, state),
         FunKind::Plain | FunKind::Generator => Ok(()),
     }
 }
