@@ -44,10 +44,19 @@ fn push_arguments(words: &mut Vec<u64>, args: &[List<i64>]) -> Result<(), AllocE
     Ok(())
 }
 
+// How many words an input has, for the room that they take.
+fn count_of(input: &CertInput) -> usize {
+    let mut count: usize = 1;
+    for arg in input.args.as_slice() {
+        count = count.saturating_add(arg.len().saturating_mul(2)).saturating_add(1);
+    }
+    count
+}
+
 fn words_of(alloc: Global, input: &CertInput) -> Result<Vec<u64>, AllocError>
     ensures { IfOk result (λ made. made.items ≡ words input.now) }
 {
-    let mut made = Vec::new(alloc);
+    let mut made = Vec::with_capacity(alloc, count_of(input))?;
     made.push(input.obligation)?;
     push_arguments(&mut made, input.args.as_slice())?;
     Ok(made)

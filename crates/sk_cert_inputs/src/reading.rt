@@ -1,5 +1,5 @@
 //! The inputs that a certificate lists.
-ghost use Rattle.std.specs.Prelude.{◌≡◌, ◌^◌, List as ListOf, IfOk, MatchOption, drop, map, nat_lt, option_map, slice_get, take, None, Some};
+ghost use Rattle.std.specs.Prelude.{◌≡◌, ◌^◌, [], List as ListOf, IfOk, MatchOption, drop, map, nat_lt, option_map, slice_get, take, None, Some};
 ghost use Rattle.sk_model.specs.declared.expanded.Input.{Input as AnInput};
 ghost use Rattle.sk_model.specs.Inputs.{fun_of};
 ghost use Rattle.sk_model.specs.Obligations.{obligations};
@@ -45,6 +45,14 @@ fn has_bits(number: u64, bits: u32) -> bool
     number < 1 << bits
 }
 
+// An empty list with room for so many values.
+fn room_for(alloc: Global, count: usize) -> Result<List<Value>, AllocError>
+    ensures { IfOk result (λ list. list ≡ []) }
+{
+    let room = Vec::with_capacity(alloc, count)?;
+    Ok(List::from_vec(room))
+}
+
 fn int_listed(inbits: u32, scalar: i64) -> Option<Value>
     ensures { result ≡ int_listed inbits scalar }
 {
@@ -86,7 +94,7 @@ fn row_listed(
 ) -> Result<Option<List<Value>>, AllocError>
     ensures { IfOk result (λ row. row ≡ row_listed inbits elem scalars.now) }
 {
-    let mut row = List::new(alloc);
+    let mut row = room_for(alloc, scalars.len())?;
     let mut rest = scalars;
     while let [scalar, after @ ..] = rest {
         let Some(value) = elem_listed(inbits, elem, *scalar) else {
@@ -183,7 +191,7 @@ fn args_listed(
 ) -> Result<Option<List<Value>>, AllocError>
     ensures { IfOk result (λ found. found ≡ args_listed inbits params.now args.now) }
 {
-    let mut values = List::new(alloc);
+    let mut values = room_for(alloc, params.len())?;
     let mut rest = args;
     for param in params {
         let [scalars, after @ ..] = rest else {
