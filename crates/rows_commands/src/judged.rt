@@ -81,7 +81,10 @@ fn ended(
     if settings.is_damaged() {
         return damaged(alloc, words, settings, text);
     }
-    let is_once = settings.once || settings.explained || settings.counted || !words.starts_with(b"synth");
+    let is_once = settings.once
+        || settings.explained
+        || settings.counted
+        || !words.starts_with(b"synth");
     let came = run_line(alloc, words, text, settings)?;
     if is_once || came.head.as_slice() != b"0".as_slice() {
         return Ok(came);

@@ -62,7 +62,12 @@ fn done_on(
 }
 
 /// Appends a line: the call, and what is done on it.
-pub fn push_input(note: &mut Note, fun: &Fun, values: &[Name], done: &Name) -> Result<(), AllocError>
+pub fn push_input(
+    note: &mut Note,
+    fun: &Fun,
+    values: &[Name],
+    done: &Name,
+) -> Result<(), AllocError>
     ensures { OnOk result (note.new.bytes.items ≡ note.old.bytes.items ++ call_text fun.now values.now ++ map plain done.now ++ 10 ∷ []) }
 {
     push_call(note, fun, values)?;

@@ -83,7 +83,13 @@ fn main(rt: HostRuntime) -> ExitCode {
     let mut source = KeptSource::new(alloc, StdSource::new(rt.stdin()));
     let output = StdSink::new(rt.stdout());
     let mut sink = KeptSink::new(alloc, ClearingSink::new(output, rt.stderr(), &shown));
-    let ending = run(alloc, words.as_slice(), &mut source, &mut sink, &mut watcher);
+    let ending = run(
+        alloc,
+        words.as_slice(),
+        &mut source,
+        &mut sink,
+        &mut watcher,
+    );
     watcher.finish();
     let code = ended(&rt, &ending);
     if is_explained(&rt) {
