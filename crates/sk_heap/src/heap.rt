@@ -6,12 +6,14 @@ ghost use Rattle.sk_dag.specs.Eval.{Keeps};
 ghost use Rattle.sk_prog.specs.declared.ids.StructId.{StructId};
 ghost use Rattle.sk_prog.specs.declared.prog.Prog.{Prog};
 ghost use Rattle.sk_prog.specs.Fits.{has_struct, has_field};
-ghost use Rattle.sk_heap.specs.Heaps.{RefersTo, HeapStands};
+ghost use Rattle.sk_heap.specs.Heaps.{is_of, RefersTo, HeapStands};
 ghost use Rattle.sk_heap.specs.Answers.{IsAllocated, IsFieldRead, MayWrite, CanBeWritten, IsNull, IsFieldWritten};
+ghost use Rattle.sk_heap.specs.Retakes.{IsRetaken};
 
 use crate::fields::{fields_of, type_of};
 use crate::read::{none_of, read_targets};
-use crate::slot::Slot;
+use crate::retaken::retaken;
+use crate::slot::{Slot, number_of, put_slot};
 use crate::write::write_targets;
 use crate::zero::zero_fields;
 use sk_dag::{BoolId, Dag, Shape, Targets};
@@ -86,6 +88,34 @@ impl SymHeap {
         let mut slots = SmallVec::new(alloc);
         slots.push((place, guard))?;
         self.slots.push(slot)?;
+        Ok(Targets { slots })
+    }
+
+    /// A slot of a struct once more, in which each field is 0 where the guard holds and else what it was, and the reference
+    /// that is at it where the guard holds.
+    pub fn retake_under(
+        &mut self,
+        alloc: Global,
+        dag: &mut Dag,
+        prog: &Prog,
+        guard: BoolId,
+        s: StructId,
+        place: usize,
+    ) -> Result<Targets, AllocError>
+        requires there { IsTrue (has_struct prog.now s) }
+        requires guard { HasBool dag.old.nodes guard }
+        requires heap { HeapStands dag.old prog.now self.old }
+        requires place { IsTrue (is_of self.old s place) }
+        ensures keeps { Keeps dag.old dag.new }
+        ensures stands { HeapStands dag.new prog.now self.new }
+        ensures err { OnErr result (self.new ≡ self.old) }
+        ensures retaken { IfOk result (λ r. IsRetaken dag.new prog.now guard s place self.old self.new r) }
+    {
+        let slot = retaken(alloc, dag, prog, guard, s, self.slots.as_slice(), place)?;
+        let number = number_of(place);
+        let mut slots = SmallVec::new(alloc);
+        slots.push((number, guard))?;
+        put_slot(&mut self.slots, place, slot);
         Ok(Targets { slots })
     }
 
