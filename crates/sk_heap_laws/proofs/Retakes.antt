@@ -1,5 +1,5 @@
 -- What it does to the records of a heap that a slot is taken once more, under a guard.
-use Rattle.std.proofs.lemmas.Option.{none-some, same_Some}
+use Rattle.std.proofs.lemmas.Option.{none-some, same_Some, slice_get_within}
 use Rattle.std.proofs.Common.{◌≡◌, ℕ, zero, suc, ◌+◌, ◌<◌, ◌≤◌, ◌||◌, Bool, true, false, true≢false, List, [], ◌∷◌, ◌++◌, map, length, IsTrue, Some, None, slice_get, slice_set, refl, sym, ap, subst, ◌∙◌, arith, ◌⊎◌, inl, inr, ⊎_elim, if◌then◌else◌}
 use Rattle.sk_dag.specs.declared.env.Env.{Env}
 use Rattle.sk_dag.specs.declared.node.BoolId.{BoolId}
@@ -68,9 +68,12 @@ module _ {A : Type 0} (holds : BoolId → Bool) (f : Slot → A) where
   records_kept (s ∷ slots) (suc n) was slot at same is = ap (λ l. if holds s.guard then f s ∷ l else l) (records_kept slots n was slot at same is)
 
 -- places behind which none holds are the same
-place_flat : (holds : ℕ → Bool) (n : ℕ) (more : ℕ) → ((k : ℕ) → n ≤ k → holds k ≡ false) → place_of holds (more + n) ≡ place_of holds n
-place_flat holds n zero free = refl
-place_flat holds n (suc more) free = ap (λ b. if b then suc (place_of holds (more + n)) else place_of holds (more + n)) (free (more + n) (omega arith)) ∙ place_flat holds n more free
+place_flat : (holds : ℕ → Bool) (n k : ℕ) → n ≤ k → ((j : ℕ) → n ≤ j → holds j ≡ false) → place_of holds k ≡ place_of holds n
+place_flat holds n zero le free = let same : zero ≡ n = omega (arith, le) in ap (place_of holds) same
+place_flat holds n (suc k) le free = ⊎_elim
+    (λ less. ap (λ b. if b then suc (place_of holds k) else place_of holds k) (free k (omega (arith, less))) ∙ place_flat holds n k (omega (arith, less)) free)
+    (λ up. let same : suc k ≡ n = omega (arith, le, up) in ap (place_of holds) same)
+    (split n (suc k))
 
 module _ {g : Graph} {prog : Prog} {guard : BoolId} {s : StructId} {place : ℕ} {old new : List Slot} {r : Targets} (is : IsRetaken g prog guard s place old new r) where
   pub retaken_kinds : map struct_of new ≡ map struct_of old
@@ -146,21 +149,9 @@ module _ {g : Graph} {prog : Prog} {guard : BoolId} {s : StructId} {place : ℕ}
 
       -- the place of the slot is that of the next record
       next_place : place_of (holds_in h e old) place ≡ length (heap_value h e old)
-      next_place = ⊎_elim
-          (λ short. flat (length old - place) (omega (arith, short)))
-          (λ long. place_flat' (omega (arith, long)))
-          (split place (length old))
-        where
-          flat : (n : ℕ) → n + place ≡ length old → place_of (holds_in h e old) place ≡ length (heap_value h e old)
-          flat n is_long = sym (place_flat (holds_in h e old) place n free.each) ∙ ap (place_of (holds_in h e old)) is_long ∙ place_length h e (record_in h e old) old
-
-          place_flat' : length old ≤ place → place_of (holds_in h e old) place ≡ length (heap_value h e old)
-          place_flat' past = absurd (omega (arith, past, within old place is.was is.found))
-            where
-              within : (xs : List Slot) (i : ℕ) (x : Slot) → slice_get xs i ≡ Some x → i < length xs
-              within [] i x at = absurd (none-some x at)
-              within (y ∷ ys) zero x at = omega arith
-              within (y ∷ ys) (suc i) x at = omega (arith, within ys i x at)
+      next_place =
+          let within : place ≤ length old = omega (arith, slice_get_within old place is.was is.found) in
+          sym (place_flat (holds_in h e old) place (length old) within free.each) ∙ place_length h e (record_in h e old) old
 
     target_seen : (b : Bool) → bool_value h e guard ≡ b → shape_value h e (shape.Reference r) ≡ seen.Slot (if b then Some place else None)
     target_seen b holds = value_reference h e r ∙ ap (λ ts. seen.Slot (held_slot h e ts)) is.target ∙ ap (λ c. seen.Slot (if c then Some place else None)) holds
