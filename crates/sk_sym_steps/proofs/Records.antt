@@ -1,5 +1,5 @@
 -- Records and their fields.
-use Rattle.std.proofs.Common.{◌≡◌, ℕ, ◌+◌, ◌<◌, ◌≤◌, All, Bool, true, false, arith, inl, List, [], ◌∷◌, ◌++◌, length, map, take, get_or, Option, Some, None, slice_get, option_map, IsTrue, refl, sym, ap, subst, ◌∙◌}
+use Rattle.std.proofs.Common.{◌≡◌, ℕ, zero, suc, ◌+◌, ◌<◌, ◌≤◌, All, Bool, true, false, arith, inl, ⊎_elim, List, [], ◌∷◌, ◌++◌, length, map, take, get_or, Option, Some, None, slice_get, option_map, IsTrue, refl, sym, ap, subst, ◌∙◌}
 use Rattle.std.proofs.lemmas.Option.{slice_get-map}
 use Rattle.std.proofs.lemmas.List.{take_more}
 use Rattle.std.proofs.lemmas.List.Elements.{All-append, All-cons, All-nil}
@@ -25,6 +25,7 @@ use Rattle.sk_heap.specs.Heaps.{is_struct, is_of, HeapStands, RefersTo}
 use Rattle.sk_heap.proofs.Heaps.{SlotsPass-more}
 use Rattle.sk_model.specs.Heap.{read_field, allocate, zeros_of}
 use Rattle.sk_heap_laws.specs.Values.{value_in, ShapeLive}
+use Rattle.sk_heap_laws.proofs.Values.{split}
 use Rattle.sk_heap_laws.proofs.Grown.{alike_grows, free_more, free_past}
 use Rattle.sk_heap_laws.proofs.Allocs.{allocated_structs, allocated_grows, unallocated_alike, allocated_heap, unallocated_heap, allocated_value, allocated_live, allocated_heap_live}
 use Rattle.sk_heap_laws.proofs.Retakes.{retaken_kinds, retaken_structs, retaken_grows, unretaken_alike, retaken_free, retaken_heap, unretaken_heap, retaken_value, retaken_live, retaken_heap_live, unretaken_heap_live}
@@ -41,7 +42,7 @@ use Rattle.sk_sym_state.proofs.Carrying.{later_keeps, front_grown}
 use Rattle.sk_sym_state.proofs.Standing.{StateStands-keeps}
 use Rattle.sk_sym_state.proofs.Ends.{fails_or_goes}
 use Rattle.sk_heap_laws.specs.Heaps.{heap_value, HeapLive, StructsGrow, HeapGrows, HoldAlike, AreFree}
-use Rattle.sk_sym_steps.specs.Steps.{same_kind, is_kind, EvaluatesOn}
+use Rattle.sk_sym_steps.specs.Steps.{same_kind, is_kind, HasNoneFrom, EvaluatesOn}
 
 -- a target that is no slot of the struct
 pub other_kind : (test : ℕ → Bool) (targets : List (ℕ × BoolId)) (i : ℕ) (t : ℕ × BoolId) → i < length targets → t ≡ get_or targets i t → (IsTrue (test t.0) → ⊥) → AllPass test targets → ⊥
@@ -208,6 +209,28 @@ allocates {x} {d0} {d1} {s0} {s} {heap} {structs} {target} {cursor} h keeps stan
 pub takes_again : {x : Setting} {d0 d1 : Graph} {s0 : SymState} {s : StructId} {place : ℕ} {heap : List Slot} {target : Targets} → StateStands d0 x.expanded.now.prog s0 → Keeps d0 d1 → HeapStands d1 x.expanded.now.prog heap → s0.cursor ≤ place → IsRetaken d1 x.expanded.now.prog s0.path s place s0.heap heap target
     → Evaluates x d0 d1 s0 (record s0 { heap = heap; cursor = place + 1 }) (shape.Reference target) (λ e. allocate x.expanded.now.prog s [])
 takes_again {s0 = s0} {place = place} h keeps stands up is = takes (place + 1) h keeps stands (retaken_kinds is ∙ h.structs) (again_taken s0.cursor up is)
+
+-- ---- the next slot of a struct
+
+kind_past : (structs : List StructId) (s : StructId) (n : ℕ) → length structs ≤ n → is_kind structs s n ≡ false
+kind_past [] s n l = refl
+kind_past (k ∷ ks) s zero l = absurd (omega (arith, l))
+kind_past (k ∷ ks) s (suc n) l = kind_past ks s n (omega (arith, l))
+
+-- no slot from a place on and below another one is one of the struct
+abbrev pub NoneBetween : List StructId → StructId → ℕ → ℕ → Type 0
+NoneBetween structs s from to = (n : ℕ) → from ≤ n → n < to → is_kind structs s n ≡ false
+
+pub none_more : (structs : List StructId) (s : StructId) (from slot : ℕ) → is_kind structs s slot ≡ false → NoneBetween structs s from slot → NoneBetween structs s from (slot + 1)
+none_more structs s from slot off none n le lt = ⊎_elim
+    (λ less. none n le less)
+    (λ up. let same : slot ≡ n = omega (arith, lt, up) in subst (λ k. is_kind structs s k ≡ false) same off)
+    (split n slot)
+
+pub none_from : (structs : List StructId) (s : StructId) (from end : ℕ) → length structs ≤ end → NoneBetween structs s from end → HasNoneFrom structs s from
+none_from structs s from end long none = record {
+  none = λ n le. ⊎_elim (λ less. none n le less) (λ past. kind_past structs s n (omega (arith, long, past))) (split n end);
+}
 
 -- one more target passes
 pub passes_more : (test : ℕ → Bool) (targets : List (ℕ × BoolId)) (i : ℕ) (t : ℕ × BoolId) → i < length targets → t ≡ get_or targets i t → IsTrue (test t.0) → AllPass test (take i targets) → AllPass test (take (i + 1) targets)

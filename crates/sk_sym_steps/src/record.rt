@@ -39,26 +39,31 @@ fn has_field(prog: &Prog, s: StructId, field: u32) -> bool
     }
 }
 
+/// Whether the slot at a place is of a struct.
+fn is_kind_at(structs: &[StructId], s: StructId, place: usize) -> bool
+    ensures { result ≡ is_kind structs.now s place }
+{
+    match structs.get(place) {
+        None => false,
+        Some(kind) => kind.index == s.index,
+    }
+}
+
 /// Whether a slot is of a struct.
 fn is_kind(structs: &[StructId], s: StructId, slot: u32) -> bool
     ensures { result ≡ is_kind structs.now s slot }
 {
-    match structs.get(slot as usize) {
-        None => false,
-        Some(kind) => kind.index == s.index,
-    }
+    is_kind_at(structs, s, slot as usize)
 }
 
 /// The first slot of a struct from a place on.
 fn next_of(structs: &[StructId], s: StructId, from: usize) -> Option<usize>
     ensures { MatchOption result (HasNoneFrom structs.now s from) (λ slot. IsNextOf structs.now s from slot) }
 {
-    let mut slot = 0;
-    for kind in structs {
-        if slot >= from && kind.index == s.index {
+    for slot in from..structs.len() {
+        if is_kind_at(structs, s, slot) {
             return Some(slot);
         }
-        slot += 1;
     }
     None
 }
