@@ -69,6 +69,14 @@ module _ {A : Type 0} where
   map_alike f (x ∷ xs) [] l h = absurd (omega (arith, l))
   map_alike f (x ∷ xs) (y ∷ ys) l h = λ i. h 0 x y refl refl i ∷ map_alike f xs ys (omega (arith, l)) (λ n. h (suc n)) i
 
+-- as many slots as before
+pub set_long : (xs : List Slot) (i : ℕ) (y : Slot) → length (slice_set xs i y) ≡ length xs
+set_long [] i y = refl
+set_long (x ∷ xs) zero y = refl
+set_long (x ∷ xs) (suc i) y = ap suc (set_long xs i y)
+
+pub ruleset keeping = (Keeps-trans)
+
 -- ---- shapes that are chosen
 
 chosen_later : {a b : Graph} {c : BoolId} {list others : List Shape} {i : ℕ} {r : Shape} → Keeps a b → IsChosenAt a c list others i r → IsChosenAt b c list others i r
@@ -155,8 +163,8 @@ slot_is {g} {prog} {s} {heap} {was} place h of at =
     let stands = h.each place was at in
     record { of_struct = of_struct; stands = stands; formed = fields_formed stands ∙ ap (λ t. map field_form (fields_of prog t)) of_struct }
 
-pub within_of : {heap : List Slot} {s : StructId} (place : ℕ) → IsTrue (is_of heap s place) → place < length heap
-within_of {heap} {s} place of = let found = of_there heap s place of in slice_get_within heap place found.0 found.1
+pub within_of : (heap : List Slot) (s : StructId) (place : ℕ) → IsTrue (is_of heap s place) → place < length heap
+within_of heap s place of = let found = of_there heap s place of in slice_get_within heap place found.0 found.1
 
 -- ---- the heap with the slot in its place
 
@@ -247,17 +255,17 @@ module _ {g0 g : Graph} {prog : Prog} {guard : BoolId} {s : StructId} {place : �
 zeros_later : {a b : Graph} {forms : List Seen} {list : List Shape} → Keeps a b → AreZeros a forms list → AreZeros b forms list
 zeros_later k h = record { stand = AllStand-keeps k h.stand; formed = h.formed; unnamed = h.unnamed; value = λ g more e. h.value g (k.later g more) e }
 
-pub refilled_at : {d0 d1 d2 d3 : Graph} {prog : Prog} {guard here : BoolId} {s : StructId} {heap : List Slot} {was : Slot} {defs : List FieldDef} {zeros list others fields : List Shape} (place : ℕ) → slice_get heap place ≡ Some was
+pub refilled_at : {d1 d2 d3 : Graph} {prog : Prog} {guard here : BoolId} {s : StructId} {heap : List Slot} {was : Slot} {defs : List FieldDef} {zeros list others fields : List Shape} (place : ℕ) → slice_get heap place ≡ Some was
     → HasBool d1.nodes here → ((h : Graph) → Grows d1 h → (e : Env) → bool_value h e here ≡ (bool_value h e was.guard || bool_value h e guard))
     → Keeps d1 d2 → defs ≡ fields_of prog s → AreZeros d2 (map field_form defs) zeros
     → Keeps d2 d3 → list ≡ zeros → others ≡ was.fields → AreChosen d3 guard list others fields
     → IsRefilledAt d3 prog guard s place heap (record { guard = here; of = s; fields = fields })
-refilled_at {d3 = d3} {prog = prog} {guard = guard} {s = s} {was = was} {zeros = zeros} {others = others} {fields = fields} place found there is k2 defs are k3 same same' chosen = record {
+refilled_at {d3 = d3} {prog = prog} {guard = guard} {s = s} {was = was} {zeros = zeros} {others = others} {fields = fields} place found has is k2 defs are k3 same same' chosen = record {
   was = was;
   found = found;
   refilled = record {
     of_struct = refl;
-    there = (Keeps-trans k2 k3).sorts _ BoolSort there;
+    there = (Keeps-trans k2 k3).sorts _ BoolSort has;
     guarded = λ h more e. is h (k2.later h (k3.later h more)) e;
     zeros = zeros;
     are_zeros = subst (λ ds. AreZeros d3 (map field_form ds) zeros) defs (zeros_later k3 are);

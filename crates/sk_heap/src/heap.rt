@@ -22,7 +22,7 @@ use smallvec::SmallVec;
 use std::alloc::{AllocError, Global};
 use std::marker::Model;
 
-/// A slot for each allocation that was met, at most 256. Contracts see the list of them.
+/// Slots under guards, at most 256. Contracts see the list of them.
 #[derive(Debug, Drop)]
 pub struct SymHeap {
     slots: Vec<Slot>,
@@ -93,6 +93,7 @@ impl SymHeap {
 
     /// A slot of a struct once more, in which each field is 0 where the guard holds and else what it was, and the reference
     /// that is at it where the guard holds.
+    #[tactic(auto, using(crate::proofs::Retakes::set_long))]
     pub fn retake_under(
         &mut self,
         alloc: Global,
@@ -111,10 +112,11 @@ impl SymHeap {
         ensures err { OnErr result (self.new ≡ self.old) }
         ensures retaken { IfOk result (λ r. IsRetaken dag.new prog.now guard s place self.old self.new r) }
     {
-        let slot = retaken(alloc, dag, prog, guard, s, self.slots.as_slice(), place)?;
-        let number = number_of(place);
+        let count = self.slots();
+        let number = number_of(count, place);
         let mut slots = SmallVec::new(alloc);
         slots.push((number, guard))?;
+        let slot = retaken(alloc, dag, prog, guard, s, self.slots.as_slice(), place)?;
         put_slot(&mut self.slots, place, slot);
         Ok(Targets { slots })
     }

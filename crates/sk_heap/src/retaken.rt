@@ -43,6 +43,7 @@ fn chosen(
 }
 
 /// A slot of a struct once more: each field is 0 where the guard holds, and else what it was.
+#[tactic(auto, using(crate::proofs::Retakes::keeping))]
 pub(crate) fn retaken(
     alloc: Global,
     dag: &mut Dag,

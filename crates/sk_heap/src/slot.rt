@@ -48,9 +48,9 @@ pub(crate) fn put_slot(slots: &mut Vec<Slot>, place: usize, slot: Slot)
     slots[place] = slot;
 }
 
-/// The number of the slot at a place.
-pub(crate) fn number_of(place: usize) -> u32
-    requires { place < 256 }
+/// The number of the slot at a place, of so many.
+pub(crate) fn number_of(count: u32, place: usize) -> u32
+    requires { place < count }
     ensures { result ≡ place }
 {
     place as u32

@@ -7,8 +7,8 @@ use Rattle.sk_heap.specs.Types.{field_form}
 use Rattle.sk_heap.proofs.Retakes.{slot_is, within_of, refilled_at}
 use Rattle.sk_heap.proofs.retaken.retaken.Goals as goal
 
-pub slot_at-requires : goal.slot_at-requires
-slot_at-requires c = within_of c.args.place c.requires.place
+pub slot_at-was-requires : goal.slot_at-was-requires
+slot_at-was-requires c = within_of c.args.slots.now c.args.s c.args.place c.requires.place
 
 pub either-requires-clause-a : goal.either-requires-clause-a
 either-requires-clause-a c = (c.requires.heap.each c.args.place c.slot_at-was.result.now c.slot_at-was.ensures).guard
