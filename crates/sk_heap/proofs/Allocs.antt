@@ -18,7 +18,7 @@ use Rattle.sk_heap.proofs.Heaps.{HeapStands-keeps, HeapStands-push, slot_stands,
 abbrev pub slot_of_zeros : BoolId → StructId → List Shape → Slot
 slot_of_zeros guard s fields = record { guard = guard; of = s; fields = fields }
 
-forms : (defs : List FieldDef) → map form_of (map type_in defs) ≡ map field_form defs
+pub forms : (defs : List FieldDef) → map form_of (map type_in defs) ≡ map field_form defs
 forms [] = refl
 forms (d ∷ ds) = ap (λ l. field_form d ∷ l) (forms ds)
 

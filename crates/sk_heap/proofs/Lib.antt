@@ -5,3 +5,4 @@ pub mod Structs
 pub mod Allocs
 pub mod ReadLaws
 pub mod WriteLaws
+pub mod Retakes

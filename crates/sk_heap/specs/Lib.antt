@@ -4,3 +4,4 @@ pub mod Fields
 pub mod Heaps
 pub mod Answers
 pub mod Steps
+pub mod Retakes

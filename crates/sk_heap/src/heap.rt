@@ -6,12 +6,14 @@ ghost use Rattle.sk_dag.specs.Eval.{Keeps};
 ghost use Rattle.sk_prog.specs.declared.ids.StructId.{StructId};
 ghost use Rattle.sk_prog.specs.declared.prog.Prog.{Prog};
 ghost use Rattle.sk_prog.specs.Fits.{has_struct, has_field};
-ghost use Rattle.sk_heap.specs.Heaps.{RefersTo, HeapStands};
+ghost use Rattle.sk_heap.specs.Heaps.{is_of, RefersTo, HeapStands};
 ghost use Rattle.sk_heap.specs.Answers.{IsAllocated, IsFieldRead, MayWrite, CanBeWritten, IsNull, IsFieldWritten};
+ghost use Rattle.sk_heap.specs.Retakes.{IsRetaken};
 
 use crate::fields::{fields_of, type_of};
 use crate::read::{none_of, read_targets};
-use crate::slot::Slot;
+use crate::retaken::retaken;
+use crate::slot::{Slot, number_of, put_slot};
 use crate::write::write_targets;
 use crate::zero::zero_fields;
 use sk_dag::{BoolId, Dag, Shape, Targets};
@@ -20,7 +22,7 @@ use smallvec::SmallVec;
 use std::alloc::{AllocError, Global};
 use std::marker::Model;
 
-/// A slot for each allocation that was met, at most 256. Contracts see the list of them.
+/// Slots under guards, at most 256. Contracts see the list of them.
 #[derive(Debug, Drop)]
 pub struct SymHeap {
     slots: Vec<Slot>,
@@ -86,6 +88,36 @@ impl SymHeap {
         let mut slots = SmallVec::new(alloc);
         slots.push((place, guard))?;
         self.slots.push(slot)?;
+        Ok(Targets { slots })
+    }
+
+    /// A slot of a struct once more, in which each field is 0 where the guard holds and else what it was, and the reference
+    /// that is at it where the guard holds.
+    #[tactic(auto, using(crate::proofs::Retakes::set_long))]
+    pub fn retake_under(
+        &mut self,
+        alloc: Global,
+        dag: &mut Dag,
+        prog: &Prog,
+        guard: BoolId,
+        s: StructId,
+        place: usize,
+    ) -> Result<Targets, AllocError>
+        requires there { IsTrue (has_struct prog.now s) }
+        requires guard { HasBool dag.old.nodes guard }
+        requires heap { HeapStands dag.old prog.now self.old }
+        requires place { IsTrue (is_of self.old s place) }
+        ensures keeps { Keeps dag.old dag.new }
+        ensures stands { HeapStands dag.new prog.now self.new }
+        ensures err { OnErr result (self.new ≡ self.old) }
+        ensures retaken { IfOk result (λ r. IsRetaken dag.new prog.now guard s place self.old self.new r) }
+    {
+        let count = self.slots();
+        let number = number_of(count, place);
+        let mut slots = SmallVec::new(alloc);
+        slots.push((number, guard))?;
+        let slot = retaken(alloc, dag, prog, guard, s, self.slots.as_slice(), place)?;
+        put_slot(&mut self.slots, place, slot);
         Ok(Targets { slots })
     }
 

@@ -5,6 +5,7 @@ mod fields;
 mod front;
 mod heap;
 mod read;
+mod retaken;
 mod slot;
 mod write;
 mod zero;

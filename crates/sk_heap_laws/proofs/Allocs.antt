@@ -1,6 +1,6 @@
 -- What an allocation under a guard does to the records of a heap.
 use Rattle.std.proofs.lemmas.Option.{none-some, same_Some}
-use Rattle.std.proofs.Common.{◌≡◌, ℕ, zero, suc, Bool, true, false, List, [], ◌∷◌, ◌++◌, map, length, Some, None, slice_get, refl, sym, ap, subst, ◌∙◌, arith, ◌⊎◌, inl, inr, ⊎_elim, if◌then◌else◌}
+use Rattle.std.proofs.Common.{◌≡◌, ℕ, zero, suc, ◌<◌, ◌≤◌, Bool, true, false, List, [], ◌∷◌, ◌++◌, map, length, Some, None, slice_get, refl, sym, ap, subst, ◌∙◌, arith, ◌⊎◌, inl, inr, ⊎_elim, if◌then◌else◌}
 use Rattle.sk_dag.specs.declared.env.Env.{Env}
 use Rattle.sk_dag.specs.declared.node.BoolId.{BoolId}
 use Rattle.sk_dag.specs.declared.shape.Seen.TheVariants as seen
@@ -20,9 +20,10 @@ use Rattle.sk_heap.specs.Types.{field_types}
 use Rattle.sk_heap.specs.Answers.{IsAllocated}
 use Rattle.sk_heap.proofs.Heaps.{get_last}
 use Rattle.sk_heap_laws.specs.Values.{place_of, holds_in, value_of, value_in, IsLive, AllLive, ShapeLive}
-use Rattle.sk_heap_laws.specs.Heaps.{record_in, heap_value, HeapLive, HeapGrows}
+use Rattle.sk_heap_laws.specs.Heaps.{record_in, heap_value, HeapLive, StructsGrow, HeapGrows, HoldAlike}
 use Rattle.sk_heap_laws.proofs.Parts.{of_slot, live_slot, live_null}
-use Rattle.sk_heap_laws.proofs.Grown.{HeapGrows-push, holds_at, place_same, all_live_grows}
+use Rattle.sk_heap_laws.proofs.Values.{split, place_agrees}
+use Rattle.sk_heap_laws.proofs.Grown.{StructsGrow-push, HeapGrows-push, pushed_same, holds_at, holds_past, all_live_grows}
 use Rattle.sk_heap_laws.proofs.Records.{records_push, place_length}
 use Rattle.sk_heap_laws.proofs.Heaps.{zeros_are, forms_live, values_are, records_grow}
 
@@ -40,8 +41,33 @@ module _ {g : Graph} {prog : Prog} {guard : BoolId} {s : StructId} {old new : Li
   abbrev longer : List Slot
   longer = old ++ is.slot ∷ []
 
-  pub allocated_grows : HeapGrows old new
-  allocated_grows = subst (HeapGrows old) (sym is.pushed) (HeapGrows-push old is.slot)
+  pub allocated_structs : StructsGrow old new
+  allocated_structs = subst (StructsGrow old) (sym is.pushed) (StructsGrow-push old is.slot)
+
+  pub allocated_grows : (h : Graph) (e : Env) → HeapGrows h e old new
+  allocated_grows h e = subst (HeapGrows h e old) (sym is.pushed) (HeapGrows-push h e old is.slot)
+
+  long : length new ≡ suc (length old)
+  long = ap length is.pushed ∙ one_more old
+    where
+      one_more : (xs : List Slot) → length (xs ++ is.slot ∷ []) ≡ suc (length xs)
+      one_more [] = refl
+      one_more (x ∷ xs) = ap suc (one_more xs)
+
+  -- where the guard does not hold the same slots hold
+  pub unallocated_alike : {h : Graph} → Grows g h → (e : Env) → bool_value h e guard ≡ false → HoldAlike h e old new
+  unallocated_alike {h} more e off = record { each = λ n. by n (split n (length old)) }
+    where
+      last : holds_in h e new (length old) ≡ false
+      last = ap (λ l. holds_in h e l (length old)) is.pushed ∙ holds_at h e longer (length old) is.slot (get_last old is.slot) ∙ ap (bool_value h e) is.guarded ∙ off
+
+      none : (n : ℕ) → length old ≤ n → (n < suc (length old)) ⊎ (suc (length old) ≤ n) → holds_in h e new n ≡ false
+      none n le (inl here) = let same : length old ≡ n = omega (arith, le, here) in subst (λ k. holds_in h e new k ≡ false) same last
+      none n le (inr past) = holds_past h e new n (omega (arith, past, long))
+
+      by : (n : ℕ) → (n < length old) ⊎ (length old ≤ n) → holds_in h e new n ≡ holds_in h e old n
+      by n (inl lt) = ap (λ l. holds_in h e l n) is.pushed ∙ pushed_same h e old is.slot n lt
+      by n (inr le) = none n le (split n (suc (length old))) ∙ sym (holds_past h e old n le)
 
   module _ {h : Graph} (more : Grows g h) (e : Env) where
     guarded : (b : Bool) → bool_value h e guard ≡ b → bool_value h e is.slot.guard ≡ b
@@ -50,7 +76,7 @@ module _ {g : Graph} {prog : Prog} {guard : BoolId} {s : StructId} {old new : Li
     pushed : HeapLive h e old → (b : Bool) → bool_value h e guard ≡ b → heap_value h e longer ≡ heap_value h e old ++ (if b then record_in h e longer is.slot ∷ [] else [])
     pushed live b holds =
         records_push (bool_value h e) (record_in h e longer) old is.slot
-        ∙ ap (λ l. l ++ (if bool_value h e is.slot.guard then record_in h e longer is.slot ∷ [] else [])) (records_grow h e (HeapGrows-push old is.slot) live)
+        ∙ ap (λ l. l ++ (if bool_value h e is.slot.guard then record_in h e longer is.slot ∷ [] else [])) (records_grow h e (HeapGrows-push h e old is.slot) live)
         ∙ ap (λ c. heap_value h e old ++ (if c then record_in h e longer is.slot ∷ [] else [])) (guarded b holds)
 
     -- the record in which nothing is set comes behind the others
@@ -74,7 +100,7 @@ module _ {g : Graph} {prog : Prog} {guard : BoolId} {s : StructId} {old new : Li
     allocated_value holds =
         ap (value_of (place_of (holds_in h e new))) (target_seen true holds)
         ∙ of_slot (place_of (holds_in h e new)) (length old)
-        ∙ ap (λ n. value.Place n) (place_same h e allocated_grows (length old) (omega arith) ∙ place_length h e (record_in h e old) old)
+        ∙ ap (λ n. value.Place n) (place_agrees (holds_in h e new) (holds_in h e old) (length old) (λ k lt. ap (λ l. holds_in h e l k) is.pushed ∙ pushed_same h e old is.slot k lt) ∙ place_length h e (record_in h e old) old)
 
     pub allocated_live : ShapeLive h e new (shape.Reference r)
     allocated_live = by (bool_value h e guard) refl
@@ -90,7 +116,7 @@ module _ {g : Graph} {prog : Prog} {guard : BoolId} {s : StructId} {old new : Li
     pub allocated_heap_live : HeapLive h e old → HeapLive h e new
     allocated_heap_live live = subst (HeapLive h e) (sym is.pushed) record {
       each = λ n slot at holds. ⊎_elim
-          (λ front. all_live_grows h e (HeapGrows-push old is.slot) (shapes_value h e slot.fields) (live.each n slot front holds))
+          (λ front. all_live_grows h e (HeapGrows-push h e old is.slot) (shapes_value h e slot.fields) (live.each n slot front holds))
           (λ last. subst (λ x. AllLive (holds_in h e longer) (shapes_value h e x.fields)) last
           (subst (AllLive (holds_in h e longer)) (sym (is.zeros h more e)) (forms_live (holds_in h e longer) (field_types prog s))))
           (front_or_last old is.slot slot n at);

@@ -26,9 +26,9 @@ use Rattle.sk_heap.specs.Fields.{field_in, field_value}
 use Rattle.sk_heap.specs.Answers.{guard_of, slot_of, is_at, is_written, IsFieldRead, IsFieldWritten}
 use Rattle.sk_heap.proofs.Heaps.{get_last, mapped_at}
 use Rattle.sk_heap_laws.specs.Values.{place_of, guard_holds, holds_in, value_of, value_in, IsLive, ShapeLive}
-use Rattle.sk_heap_laws.specs.Heaps.{records_of, record_in, heap_value, HeapLive, HeapGrows}
+use Rattle.sk_heap_laws.specs.Heaps.{records_of, record_in, heap_value, HeapLive, StructsGrow, HeapGrows, HoldAlike}
 use Rattle.sk_heap_laws.proofs.Parts.{of_null, of_slot, slot_live}
-use Rattle.sk_heap_laws.proofs.Grown.{HeapGrows-same, holds_at, mapped_from}
+use Rattle.sk_heap_laws.proofs.Grown.{StructsGrow-same, HoldAlike-same, alike_grows, holds_at, mapped_from}
 use Rattle.sk_heap_laws.proofs.Records.{record_at_place, records_same, records_set}
 use Rattle.sk_heap_laws.proofs.Heaps.{values_are}
 
@@ -145,8 +145,15 @@ module _ {g : Graph} {heap : List Slot} {prog : Prog} {s : StructId} {target : T
 -- ---- writes
 
 module _ {g : Graph} {guard : BoolId} {target : Targets} {field : ℕ} {value : Shape} {old new : List Slot} (is : IsFieldWritten g guard target field value old new) where
-  pub written_grows : HeapGrows old new
-  written_grows = HeapGrows-same is.guards is.structs
+  pub written_structs : StructsGrow old new
+  written_structs = StructsGrow-same is.structs
+
+  -- the same slots hold
+  pub written_alike : (h : Graph) (e : Env) → HoldAlike h e old new
+  written_alike h e = HoldAlike-same h e is.guards
+
+  pub written_grows : (h : Graph) (e : Env) → HeapGrows h e old new
+  written_grows h e = alike_grows h e (written_alike h e)
 
   module _ {h : Graph} (more : Grows g h) (e : Env) where
     abbrev W : ℕ → Bool

@@ -99,7 +99,7 @@ module _ {A : Type 0} (holds : BoolId → Bool) (f k : Slot → A) where
       by true h rest = λ i. same 0 s refl h i ∷ rest i
       by false h rest = rest
 
-module _ (g : Graph) (e : Env) {old new : List Slot} (more : HeapGrows old new) (live : HeapLive g e old) where
+module _ (g : Graph) (e : Env) {old new : List Slot} (more : HeapGrows g e old new) (live : HeapLive g e old) where
   -- old records are worth the same among more slots
   pub records_grow : records_of (bool_value g e) (record_in g e new) old ≡ heap_value g e old
   records_grow = records_agree (bool_value g e) (record_in g e new) (record_in g e old) old (λ n slot at h. values_grow g e more slot.fields (live.each n slot at h))

@@ -7,3 +7,4 @@ pub mod Allocs
 pub mod Fields
 pub mod Writes
 pub mod Equals
+pub mod Retakes

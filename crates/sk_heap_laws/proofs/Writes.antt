@@ -80,7 +80,7 @@ module _ {g0 g : Graph} {prog : Prog} {s : StructId} {guard null : BoolId} {targ
         let all = heap_live.each n found.0 found.1 (ap (bool_value h e) found.2 ∙ holding) in
         record {
           each = each_from (IsLive (holds_in h e new)) (shapes_value h e slot'.fields) (λ k v there.
-              live_grows h e (written_grows is) v
+              live_grows h e (written_grows is h e) v
               (by n k found.0 v found.1 all (is_written h e guard target field n k) refl (sym (is.fields h more e n k) ∙ value_of_slot h e new n k slot' at' ∙ there)));
         };
   }

@@ -1,11 +1,9 @@
 -- What the slots of a heap are worth as the records of a run: those whose guards hold, in their order.
-use Rattle.std.specs.Prelude.{◌≡◌, ℕ, Bool, true, nat_lt, List, [], ◌∷◌, length, map, Some, slice_get, if◌then◌else◌}
+use Rattle.std.specs.Prelude.{◌≡◌, ℕ, ◌≤◌, Bool, true, false, IsTrue, List, [], ◌∷◌, map, Some, slice_get, if◌then◌else◌}
 use Rattle.sk_dag.specs.declared.env.Env.{Env}
 use Rattle.sk_dag.specs.declared.node.BoolId.{BoolId}
-use Rattle.sk_dag.specs.declared.shape.Shape.{Shape}
 use Rattle.sk_dag.specs.Graph.{Graph}
 use Rattle.sk_dag.specs.Eval.{bool_value}
-use Rattle.sk_arr.specs.Shapes.{SlotsPass}
 use Rattle.sk_arr.specs.Answers.{shapes_value}
 use Rattle.sk_prog.specs.declared.ids.StructId.{StructId}
 use Rattle.sk_prog.specs.declared.value.Value.{Value}
@@ -30,14 +28,19 @@ heap_value g e heap = records_of (bool_value g e) (record_in g e heap) heap
 pub record HeapLive (g : Graph) (e : Env) (heap : List Slot) : Type 0 where
   pub each : (n : ℕ) (slot : Slot) → slice_get heap n ≡ Some slot → bool_value g e slot.guard ≡ true → AllLive (holds_in g e heap) (shapes_value g e slot.fields)
 
--- each slot that the shape names is there
-pub record IsWithin (heap : List Slot) (s : Shape) : Type 0 where
-  pub named : SlotsPass (λ n. nat_lt n (length heap)) s
-
-pub record AllWithin (heap : List Slot) (list : List Shape) : Type 0 where
-  pub each : (i : ℕ) (s : Shape) → slice_get list i ≡ Some s → IsWithin heap s
-
--- the slots that were there have the guards and the structs that they had
-pub record HeapGrows (old new : List Slot) : Type 0 where
-  pub guards : (n : ℕ) (guard : BoolId) → slice_get (map guard_of old) n ≡ Some guard → slice_get (map guard_of new) n ≡ Some guard
+-- the slots that were there have the structs that they had
+pub record StructsGrow (old new : List Slot) : Type 0 where
   pub structs : (n : ℕ) (s : StructId) → slice_get (map struct_of old) n ≡ Some s → slice_get (map struct_of new) n ≡ Some s
+
+-- Of the slots up to one that held the same hold as before, so that its record has the place that it had. Those behind the
+-- last one that held may hold that did not.
+pub record HeapGrows (g : Graph) (e : Env) (old new : List Slot) : Type 0 where
+  pub same : (n : ℕ) → IsTrue (holds_in g e old n) → (k : ℕ) → k ≤ n → holds_in g e new k ≡ holds_in g e old k
+
+-- the same slots hold as before
+pub record HoldAlike (g : Graph) (e : Env) (old new : List Slot) : Type 0 where
+  pub each : (n : ℕ) → holds_in g e new n ≡ holds_in g e old n
+
+-- no slot holds from this one on
+pub record AreFree (g : Graph) (e : Env) (heap : List Slot) (from : ℕ) : Type 0 where
+  pub each : (n : ℕ) → from ≤ n → holds_in g e heap n ≡ false

@@ -45,6 +45,7 @@ pub(crate) fn begin(alloc: Global, dag: &mut Dag) -> Result<SymState, AllocError
         slots: List::new(alloc),
         returned: constants.off,
         ended: None,
+        most: 0,
     };
     Ok(SymState {
         path: constants.on,
@@ -53,6 +54,7 @@ pub(crate) fn begin(alloc: Global, dag: &mut Dag) -> Result<SymState, AllocError
         cost: constants.free,
         heap: SymHeap::new(alloc),
         structs: List::new(alloc),
+        cursor: 0,
         frame,
     })
 }

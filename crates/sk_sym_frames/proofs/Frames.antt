@@ -1,5 +1,5 @@
 -- A call: what its body does in variables of its own is what the call does in those of its caller.
-use Rattle.std.proofs.Common.{◌≡◌, Bool, true, false, List, length, replicate, ◌++◌, ◌-◌, ◌||◌, refl, sym, ap, subst, ◌∙◌}
+use Rattle.std.proofs.Common.{◌≡◌, ℕ, ◌≤◌, Bool, true, false, List, length, replicate, ◌++◌, ◌-◌, ◌||◌, refl, sym, ap, subst, ◌∙◌, arith, true≢false, ◌⊎◌, inl, inr}
 use Rattle.std.specs.Prelude.{Option, Some, None}
 use Rattle.sk_dag.specs.declared.env.Env.{Env}
 use Rattle.sk_dag.specs.declared.node.BoolId.{BoolId}
@@ -17,28 +17,28 @@ use Rattle.sk_model.specs.Heap.{blank}
 use Rattle.sk_model.specs.Eval.{Called}
 use Rattle.sk_model.specs.Exec.{Flow, Onward, Returns}
 use Rattle.sk_model.specs.Run.{result_of, refs_from, first_slots, in_frame}
-use Rattle.sk_heap_laws.specs.Heaps.{HeapGrows, HeapLive, heap_value}
-use Rattle.sk_heap_laws.proofs.Grown.{HeapGrows-refl}
+use Rattle.sk_heap_laws.specs.Heaps.{StructsGrow, HeapGrows, HoldAlike, AreFree, HeapLive, heap_value}
+use Rattle.sk_heap_laws.proofs.Grown.{StructsGrow-refl, HeapGrows-refl, HoldAlike-refl, alike_grows, free_more}
 use Rattle.sk_sym_state.specs.declared.setting.Setting.{Setting}
 use Rattle.sk_sym_state.specs.declared.state.Ended.{Ended}
 use Rattle.sk_sym_state.specs.declared.state.Frame.{Frame}
 use Rattle.sk_sym_state.specs.declared.state.SymState.{SymState}
 use Rattle.sk_sym_state.specs.Seen.{AreWorth}
 use Rattle.sk_sym_state.specs.Stands.{StateStands}
-use Rattle.sk_sym_state.specs.Shows.{AreFrontOf, Shows, ResultIs, EndedIs, SeesFlow, Sees, Stays}
+use Rattle.sk_sym_state.specs.Shows.{AreFrontOf, Shows, ResultIs, EndedIs, SeesFlow, Sees, IsHere, IsOutcome, Comes, Stays}
 use Rattle.sk_sym_state.specs.Meaning.{IsLater, Executes, ExecutesOn, DoesOn}
 use Rattle.sk_sym_state.proofs.Worth.{IsWorth-grown, AreWorth-grown}
-use Rattle.sk_sym_state.proofs.Carrying.{front_grown, later_keeps}
+use Rattle.sk_sym_state.proofs.Carrying.{here_of, front_grown, later_keeps}
 use Rattle.sk_sym_state.proofs.Standing.{StateStands-keeps, FrameStands-keeps, AnyEnded-keeps}
 use Rattle.sk_sym_frames.specs.declared.frame.Caller.{Caller}
 use Rattle.sk_sym_frames.specs.Ended.{AnyWorth, IsEnd, IsLatest, IsGiven}
-use Rattle.sk_sym_frames.specs.Frames.{CallerStands, IsEntered, GoesOnBehind, IsLeft}
+use Rattle.sk_sym_frames.specs.Frames.{CallerStands, IsEntered, GoesOnBehind, IsCursorAfter, IsLeft}
 
 pub CallerStands-keeps : {a b : Graph} {caller : Caller} → Keeps a b → CallerStands a caller → CallerStands b caller
 CallerStands-keeps k h = record { path = k.sorts _ BoolSort h.path; frame = FrameStands-keeps k h.frame }
 
 pub entered_is : {x : Setting} {d0 d1 : Graph} {s0 : SymState} {returned : BoolId} {args : List Shape} → StateStands d0 x.expanded.now.prog s0 → AllStand d0 args → Keeps d0 d1 → HasBool d1.nodes returned → ((g : Graph) → Grows d1 g → (e : Env) → bool_value g e returned ≡ false)
-    → IsEntered x d0 d1 s0 (record s0 { frame = record { slots = args; returned = returned; ended = None } }) args (record { path = s0.path; failed = s0.failed; skipped = s0.skipped; frame = s0.frame })
+    → IsEntered x d0 d1 s0 (record s0 { frame = record { slots = args; returned = returned; ended = None; most = 0 } }) args (record { path = s0.path; failed = s0.failed; skipped = s0.skipped; frame = s0.frame })
 entered_is {x} {d0} {d1} {s0} {returned} {args} h all k there off =
     let now : StateStands d1 x.expanded.now.prog s0 = StateStands-keeps k h in
     record {
@@ -50,9 +50,9 @@ entered_is {x} {d0} {d1} {s0} {returned} {args} h all k there off =
       fresh = λ g e more. off g more e;
     }
 
-pub left_is : {x : Setting} {fun : Fun} {d0 d1 d2 : Graph} {s0 : SymState} {path : BoolId} {caller : Caller} {r : Ended} → StateStands d0 x.expanded.now.prog s0 → CallerStands d0 caller → Keeps d0 d1 → HasBool d1.nodes path → ((g : Graph) (e : Env) → Grows d1 g → GoesOnBehind g e caller s0 path) → Keeps d1 d2 → IsGiven d2 fun s0.path s0.frame.slots s0.frame.returned s0.frame.ended r
-    → IsLeft x fun d0 d2 s0 (record s0 { path = path; frame = caller.frame }) caller r
-left_is {x} {fun} {d0} {d1} {d2} {s0} {path} {caller} {r} h waits k1 there behind k2 given =
+pub left_is : {x : Setting} {fun : Fun} {d0 d1 d2 : Graph} {s0 : SymState} {path : BoolId} {caller : Caller} {r : Ended} {cursor : ℕ} → StateStands d0 x.expanded.now.prog s0 → CallerStands d0 caller → Keeps d0 d1 → HasBool d1.nodes path → ((g : Graph) (e : Env) → Grows d1 g → GoesOnBehind g e caller s0 path) → IsCursorAfter d1 s0.path s0.cursor s0.frame.most cursor → Keeps d1 d2 → IsGiven d2 fun s0.path s0.frame.slots s0.frame.returned s0.frame.ended r
+    → IsLeft x fun d0 d2 s0 (record s0 { path = path; cursor = cursor; frame = caller.frame }) caller r
+left_is {x} {fun} {d0} {d1} {d2} {s0} {path} {caller} {r} {cursor} h waits k1 there behind after k2 given =
     let k : Keeps d0 d2 = Keeps-trans k1 k2 in
     let now : StateStands d2 x.expanded.now.prog s0 = StateStands-keeps k h in
     record {
@@ -60,6 +60,7 @@ left_is {x} {fun} {d0} {d1} {d2} {s0} {path} {caller} {r} h waits k1 there behin
       stands = record { path = k2.sorts _ BoolSort there; failed = now.failed; skipped = now.skipped; cost = now.cost; heap = now.heap; structs = now.structs; frame = FrameStands-keeps k waits.frame };
       now = refl;
       path = λ g e more. behind g e (k2.later g more);
+      cursor = record { here = λ g e more. after.here g e (k2.later g more); back = after.back; one = after.one };
       given = given;
     }
 
@@ -72,13 +73,13 @@ or_on true p h = refl
 or_on false p h = h
 
 -- a return
-pub gives_is : {x : Setting} {d0 d1 d2 d3 d4 : Graph} {s0 : SymState} {value : Option Shape} {now ended : Ended} {returned path : BoolId} → StateStands d0 x.expanded.now.prog s0
+pub gives_is : {x : Setting} {d0 d1 d2 d3 d4 : Graph} {s0 : SymState} {value : Option Shape} {now ended : Ended} {returned path : BoolId} {last : ℕ} → s0.frame.most ≤ last → s0.cursor ≤ last → StateStands d0 x.expanded.now.prog s0
     → Keeps d0 d1 → IsEnd d1 x.fun.now s0.frame.slots value now
     → Keeps d1 d2 → IsLatest d2 s0.path now s0.frame.ended ended
     → Keeps d2 d3 → HasBool d3.nodes returned → ((g : Graph) → Grows d3 g → (e : Env) → bool_value g e returned ≡ (bool_value g e s0.frame.returned || bool_value g e s0.path))
     → Keeps d3 d4 → HasBool d4.nodes path → ((g : Graph) → Grows d4 g → (e : Env) → bool_value g e path ≡ false)
-    → ExecutesOn x d0 d4 s0 (record s0 { path = path; frame = record { slots = s0.frame.slots; returned = returned; ended = Some ended } }) (λ g e v. AnyWorth g e s0.heap value v) (λ e v. pure (Returns v))
-gives_is {x} {d0} {d1} {d2} {d3} {d4} {s0} {value} {now} {ended} {returned} {path} h k1 end k2 late k3 returned_there returned_is k4 path_there path_is =
+    → ExecutesOn x d0 d4 s0 (record s0 { path = path; frame = record { slots = s0.frame.slots; returned = returned; ended = Some ended; most = last } }) (λ g e v. AnyWorth g e s0.heap value v) (λ e v. pure (Returns v))
+gives_is {x} {d0} {d1} {d2} {d3} {d4} {s0} {value} {now} {ended} {returned} {path} {last} most up h k1 end k2 late k3 returned_there returned_is k4 path_there path_is =
     let k23 : Keeps d2 d4 = Keeps-trans k3 k4 in
     let k13 : Keeps d1 d4 = Keeps-trans k2 k23 in
     let k : Keeps d0 d4 = Keeps-trans k1 k13 in
@@ -95,7 +96,11 @@ gives_is {x} {d0} {d1} {d2} {d3} {d4} {s0} {value} {now} {ended} {returned} {pat
           structs = was.structs;
           frame = record { slots = was.frame.slots; returned = k4.sorts _ BoolSort returned_there; ended = AnyEnded-keeps k23 (Some ended) late.stands };
         };
-        grown = HeapGrows-refl s0.heap;
+        structs = StructsGrow-refl s0.heap;
+        comes = λ g e l here. record {
+          grown = HeapGrows-refl g e s0.heap;
+          is = inr (inl (record { path = path_is g l.grows e; failed = here.failed; skipped = here.skipped; returned = returned_is g (k4.later g l.grows) e ∙ or_on _ _ here.path; free = free_more g e up here.free }));
+        };
         stays = λ g e l p. record {
           path = path_is g l.grows e;
           rest = record {
@@ -106,6 +111,8 @@ gives_is {x} {d0} {d1} {d2} {d3} {d4} {s0} {value} {now} {ended} {returned} {pat
             heap = λ t. refl;
             lives = λ t. t;
             ended = λ v refs t. late.second g e s0.heap v refs (k23.later g l.grows) p t;
+            holds = HoldAlike-refl g e s0.heap;
+            most = most;
           };
         };
       };
@@ -118,10 +125,11 @@ gives_is {x} {d0} {d1} {d2} {d3} {d4} {s0} {value} {now} {ended} {returned} {pat
         heap = shows.heap;
         lives = shows.lives;
         ended = late.first g e s0.heap (result_of x.fun.now.result (Returns v)) (refs_from 0 x.fun.now.params at.slots) (k23.later g l.grows) shows.path (end.worth g e s0.heap v at.slots (k13.later g l.grows) worth shows.slots);
+        free = free_more g e up shows.free;
       };
     }
 
-module _ (g : Graph) (e : Env) {a b : List Slot} (grown : HeapGrows a b) where
+module _ (g : Graph) (e : Env) {a b : List Slot} (grown : HeapGrows g e a b) where
   result_grown : (r : Option Shape) (v : Option Value) → ResultIs g e a r v → ResultIs g e b r v
   result_grown r None h = tt
   result_grown None (Some v) h = h
@@ -151,8 +159,14 @@ module _ {x y : Setting} {d0 d1 d2 d3 : Graph} {s0 s1 s2 s3 : SymState} {args : 
   cost3 : s3.cost ≡ s2.cost
   cost3 = ap (λ (s : SymState). s.cost) left.now
 
-  grown03 : HeapGrows s0.heap s3.heap
-  grown03 = subst (λ h. HeapGrows h s3.heap) heap1 (subst (HeapGrows s1.heap) (sym heap3) body.moves.grown)
+  cursor1 : s1.cursor ≡ s0.cursor
+  cursor1 = ap (λ (s : SymState). s.cursor) entered.now
+
+  structs03 : StructsGrow s0.heap s3.heap
+  structs03 = subst (λ h. StructsGrow h s3.heap) heap1 (subst (StructsGrow s1.heap) (sym heap3) body.moves.structs)
+
+  grown03 : (g : Graph) (e : Env) → HeapGrows g e s1.heap s2.heap → HeapGrows g e s0.heap s3.heap
+  grown03 g e grown = subst (λ h. HeapGrows g e h s3.heap) heap1 (subst (HeapGrows g e s1.heap) (sym heap3) grown)
 
   module _ {g : Graph} {e : Env} (l : IsLater x d3 g e) where
     l2 : IsLater y d2 g e
@@ -189,9 +203,40 @@ module _ {x y : Setting} {d0 d1 d2 d3 : Graph} {s0 s1 s2 s3 : SymState} {args : 
             cost = ap (cost_value g e) cost3 ∙ stays.rest.cost ∙ ap (λ (s : SymState). cost_value g e s.cost) entered.now;
             heap = λ t. ap (heap_value g e) heap3 ∙ stays.rest.heap (subst (HeapLive g e) (sym heap1) t) ∙ ap (heap_value g e) heap1;
             lives = λ t. subst (HeapLive g e) (sym heap3) (stays.rest.lives (subst (HeapLive g e) (sym heap1) t));
-            ended = λ v refs t. subst (λ (f : Frame). EndedIs g e s3.heap f.ended v refs) (sym frame3) (ended_grown g e grown03 s0.frame.ended v refs t);
+            ended = λ v refs t. subst (λ (f : Frame). EndedIs g e s3.heap f.ended v refs) (sym frame3) (ended_grown g e (grown03 g e (alike_grows g e stays.rest.holds)) s0.frame.ended v refs t);
+            holds = subst (λ h. HoldAlike g e h s3.heap) heap1 (subst (HoldAlike g e s1.heap) (sym heap3) stays.rest.holds);
+            most = omega (arith, ap (λ (f : Frame). f.most) frame3);
           };
         }
+
+    -- the cursor behind the call
+    here_free : bool_value g e s2.path ≡ true → AreFree g e s2.heap s2.cursor → AreFree g e s3.heap s3.cursor
+    here_free p free = subst (λ h. AreFree g e h s3.cursor) (sym heap3) (free_more g e (left.cursor.here g e l.grows p) free)
+
+    back_free : AreFree g e s2.heap s2.frame.most → AreFree g e s3.heap s3.cursor
+    back_free free = subst (λ h. AreFree g e h s3.cursor) (sym heap3) (free_more g e left.cursor.back free)
+
+    -- whatever the state of before
+    here1 : IsHere g e s0 → IsHere g e s1
+    here1 h = record {
+      path = path1 ∙ h.path;
+      failed = ap (λ (s : SymState). bool_value g e s.failed) entered.now ∙ h.failed;
+      skipped = ap (λ (s : SymState). bool_value g e s.skipped) entered.now ∙ h.skipped;
+      returned = entered.fresh g e l1.grows;
+      free = subst (λ n. AreFree g e s1.heap n) (sym cursor1) (subst (λ h. AreFree g e h s0.cursor) (sym heap1) h.free);
+    }
+
+    comes : IsHere g e s0 → Comes g e s0 s3
+    comes h = let body_comes = body.moves.comes g e l2 (here1 h) in record { grown = grown03 g e body_comes.grown; is = by body_comes.is }
+      where
+        returned_now : bool_value g e s3.frame.returned ≡ false
+        returned_now = ap (λ (f : Frame). bool_value g e f.returned) frame3 ∙ h.returned
+
+        by : IsOutcome g e s2 → IsOutcome g e s3
+        by (inl k) = inl (record { path = behind.here (was_path ∙ h.path) k.path; failed = ap (bool_value g e) failed3 ∙ k.failed; skipped = ap (bool_value g e) skipped3 ∙ k.skipped; returned = returned_now; free = here_free k.path k.free })
+        by (inr (inl k)) = inl (record { path = behind.back (was_path ∙ h.path) k.returned; failed = ap (bool_value g e) failed3 ∙ k.failed; skipped = ap (bool_value g e) skipped3 ∙ k.skipped; returned = returned_now; free = back_free k.free })
+        by (inr (inr (inl k))) = inr (inr (inl (record { path = behind.failed (was_failed ∙ h.failed) k.failed k.path k.returned; failed = ap (bool_value g e) failed3 ∙ k.failed; skipped = ap (bool_value g e) skipped3 ∙ k.skipped; returned = returned_now })))
+        by (inr (inr (inr k))) = inr (inr (inr (record { path = behind.skipped (was_skipped ∙ h.skipped) k.skipped k.path k.returned; failed = ap (bool_value g e) failed3 ∙ k.failed; skipped = ap (bool_value g e) skipped3 ∙ k.skipped; returned = returned_now })))
 
     module _ {at : State} (shows : Shows g e s0 at) where
       begins : (vs : List Value) → AreWorth g e s0.heap args vs → Shows g e s1 (record at { slots = first_slots y.fun.now vs })
@@ -206,13 +251,14 @@ module _ {x y : Setting} {d0 d1 d2 d3 : Graph} {s0 s1 s2 s3 : SymState} {args : 
             heap = ap (heap_value g e) heap1 ∙ shows.heap;
             lives = subst (HeapLive g e) (sym heap1) shows.lives;
             slots = subst (λ (s : SymState). AreFrontOf g e s.heap s.frame.slots (first_slots y.fun.now vs)) (sym entered.now) front;
+            free = (here1 (here_of shows)).free;
           }
 
       returned3 : bool_value g e s3.frame.returned ≡ false
       returned3 = ap (λ (f : Frame). bool_value g e f.returned) frame3 ∙ shows.returned
 
       front3 : AreFrontOf g e s3.heap s3.frame.slots at.slots
-      front3 = subst (λ (f : Frame). AreFrontOf g e s3.heap f.slots at.slots) (sym frame3) (front_grown g e grown03 shows.slots)
+      front3 = subst (λ (f : Frame). AreFrontOf g e s3.heap f.slots at.slots) (sym frame3) (front_grown g e (grown03 g e (body.moves.comes g e l2 (here1 (here_of shows))).grown) shows.slots)
 
       abbrev Gives : Called → Type 0
       Gives called = EndedIs g e s3.heap (Some r) called.result called.refs
@@ -228,6 +274,7 @@ module _ {x y : Setting} {d0 d1 d2 d3 : Graph} {s0 s1 s2 s3 : SymState} {args : 
           heap = ap (heap_value g e) heap3 ∙ h.heap;
           lives = subst (HeapLive g e) (sym heap3) h.lives;
           slots = front3;
+          free = here_free h.path h.free;
         };
         is = left.given.here g e s3.heap end.slots l.grows h.path h.returned (subst (λ heap. AreFrontOf g e heap s2.frame.slots end.slots) (sym heap3) h.slots);
       }
@@ -241,6 +288,7 @@ module _ {x y : Setting} {d0 d1 d2 d3 : Graph} {s0 s1 s2 s3 : SymState} {args : 
           heap = ap (heap_value g e) heap3 ∙ h.heap;
           lives = subst (HeapLive g e) (sym heap3) h.lives;
           slots = front3;
+          free = back_free h.free;
         };
         is = left.given.before g e s3.heap (result_of y.fun.now.result (Returns v)) (refs_from 0 y.fun.now.params end.slots) l.grows h.returned (subst (λ heap. EndedIs g e heap s2.frame.ended (result_of y.fun.now.result (Returns v)) (refs_from 0 y.fun.now.params end.slots)) (sym heap3) h.ended);
       }
@@ -263,8 +311,19 @@ module _ {x y : Setting} {d0 d1 d2 d3 : Graph} {s0 s1 s2 s3 : SymState} {args : 
     moves = record {
       keeps = Keeps-trans entered.keeps (Keeps-trans body.moves.keeps left.keeps);
       stands = left.stands;
-      grown = grown03;
+      structs = structs03;
+      comes = λ g e l h. comes l h;
       stays = λ g e l p. nowhere l p;
     };
     runs = λ g e vs at l worth shows. ends l shows (m e (record at { slots = first_slots y.fun.now vs })) (body.runs g e (record at { slots = first_slots y.fun.now vs }) (l2 l) (begins l shows vs worth));
   }
+
+-- ---- the cursor behind a call
+
+pub after_returns : {d : Graph} {path : BoolId} {cursor most : ℕ} → ((g : Graph) → Grows d g → (e : Env) → bool_value g e path ≡ false) → IsCursorAfter d path cursor most most
+after_returns off = record { here = λ g e more p. absurd (true≢false (sym p ∙ off g more e)); back = omega arith; one = inr refl }
+
+pub after_both : {d : Graph} {path : BoolId} {cursor most r : ℕ} → cursor ≤ r → most ≤ r → (r ≡ cursor) ⊎ (r ≡ most) → IsCursorAfter d path cursor most r
+after_both a b one = record { here = λ g e more p. a; back = b; one = one }
+
+pub ruleset after = (after_returns, after_both)

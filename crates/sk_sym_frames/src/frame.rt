@@ -10,14 +10,14 @@ ghost use Rattle.sk_model.specs.Exec.{Returns};
 ghost use Rattle.sk_sym_state.specs.Stands.{StateStands, AnyStands};
 ghost use Rattle.sk_sym_state.specs.Meaning.{ExecutesOn};
 ghost use Rattle.sk_sym_frames.specs.Ended.{AnyWorth};
-ghost use Rattle.sk_sym_frames.specs.Frames.{IsEntered, IsLeft, CallerStands, GoesOnBehind};
+ghost use Rattle.sk_sym_frames.specs.Frames.{IsEntered, IsLeft, CallerStands, GoesOnBehind, IsCursorAfter};
 
 use crate::ended::{end_of, given, latest};
 use sk_base::List;
 use sk_dag::{BoolId, Dag, Shape};
 use sk_prog::Fun;
-use sk_sym_folds::{flag, or};
-use sk_sym_state::{Ended, Frame, Setting, SymState};
+use sk_sym_folds::{flag, known_bool, or};
+use sk_sym_state::{Ended, Frame, Setting, SymState, larger};
 use std::alloc::AllocError;
 
 /// What waits while a call is active: the state at the call.
@@ -47,6 +47,7 @@ pub fn enter(
         slots: args,
         returned,
         ended: None,
+        most: 0,
     };
     let frame = std::mem::replace(&mut state.frame, frame);
     Ok(Caller {
@@ -74,6 +75,19 @@ fn path_behind(dag: &mut Dag, state: &SymState, caller: &Caller) -> Result<BoolI
     Ok(r)
 }
 
+/// The cursor behind a call: where its body goes on to its end under a path, with this cursor, and where it has returned
+/// before, the slots from it on are free.
+#[tactic(auto, using(crate::proofs::Frames::after))]
+fn cursor_behind(dag: &Dag, path: BoolId, cursor: usize, most: usize) -> usize
+    requires { HasBool dag.now.nodes path }
+    ensures { IsCursorAfter dag.now path cursor most result }
+{
+    if let Some(false) = known_bool(dag, path) {
+        return most;
+    }
+    larger(cursor, most)
+}
+
 /// Ends a call of a function, and goes on in its caller. The answer is what the call gives. After a refusal the graph has all
 /// nodes that it had (`keeps`); the state is given up with the walk that holds it.
 pub fn leave(
@@ -89,11 +103,13 @@ pub fn leave(
     ensures left { IfOk result (λ r. IsLeft setting.now fun.now dag.old dag.new state.old state.new caller r) }
 {
     let path = path_behind(dag, state, &caller)?;
+    let cursor = cursor_behind(dag, state.path, state.cursor, state.frame.most);
     let frame = std::mem::replace(&mut state.frame, caller.frame);
     let Frame {
         slots,
         returned,
         ended,
+        most: _,
     } = frame;
     let r = given(
         setting.alloc,
@@ -104,6 +120,7 @@ pub fn leave(
         returned,
         ended,
     )?;
+    state.cursor = cursor;
     state.path = path;
     Ok(r)
 }
@@ -132,6 +149,7 @@ pub fn give(
     let ended = latest(setting.alloc, dag, state.path, now, before)?;
     let returned = or(dag, state.frame.returned, state.path)?;
     let path = flag(dag, false)?;
+    state.frame.most = larger(state.frame.most, state.cursor);
     state.frame.ended = Some(ended);
     state.frame.returned = returned;
     state.path = path;

@@ -55,7 +55,7 @@ none_evaluate {x} {d} {s} h = record {
 
 pub more_evaluate : {x : Setting} {d0 d1 d2 : Graph} {s0 s1 s2 : SymState} {list : List Shape} {r : Shape} {m : Env → Comp (List Value)} {n : Env → Comp Value} → EvaluateAll x d0 d1 s0 s1 list m → Evaluates x d1 d2 s1 s2 r n → EvaluateAll x d0 d2 s0 s2 (list ++ r ∷ []) (λ e. m e >>= (λ vs. n e >>= (λ v. pure (vs ++ v ∷ []))))
 more_evaluate {s2 = s2} {list = list} {r = r} all one = record {
-  does = two_made (λ vs v. vs ++ v ∷ []) (λ g e vs are. AreWorth-grown one.does.moves.grown are) (λ g e vs v are is. worth_push g e s2.heap are is) all.does one.does;
+  does = two_made (λ vs v. vs ++ v ∷ []) (λ g e vs grown are. AreWorth-grown grown are) (λ g e vs v are is. worth_push g e s2.heap are is) all.does one.does;
   there = stand_push list r (AllStand-keeps one.does.moves.keeps all.there) one.there;
 }
 

@@ -7,6 +7,7 @@ use Rattle.sk_prog.specs.declared.value.Value.{Value}
 use Rattle.sk_model.specs.Step.{State, Step, Goes, Fails, Skips, Comp, and_then, ◌>>=◌, pure}
 use Rattle.sk_sym_state.specs.declared.setting.Setting.{Setting}
 use Rattle.sk_sym_state.specs.declared.state.SymState.{SymState}
+use Rattle.sk_heap_laws.specs.Heaps.{HeapGrows}
 use Rattle.sk_sym_state.specs.Seen.{IsWorth}
 use Rattle.sk_sym_state.specs.Shows.{Sees}
 use Rattle.sk_sym_state.specs.Meaning.{Does, Evaluates}
@@ -54,12 +55,12 @@ pairs (Skips span) n k = refl
 -- two expressions, and what is done with both
 pub two_evaluate : {x : Setting} {d0 d1 d2 d3 : Graph} {s0 s1 s2 s3 : SymState} {a b r : Shape} {m n : Env → Comp Value} {k : Env → Value × Value → Comp Value} → Evaluates x d0 d1 s0 s1 a m → Evaluates x d1 d2 s1 s2 b n → EvaluatesOn x d2 d3 s2 s3 (AreTwo s2.heap a b) r k → Evaluates x d0 d3 s0 s3 r (λ e. m e >>= (λ v. n e >>= (λ w. k e (v, w))))
 two_evaluate {m = m} {n = n} {k = k} first second on = record {
-  does = does_same (λ e at. pairs (m e at) (n e) (k e)) (does_on (does_beside first.does second.does (λ g e v l is. IsWorth-grown second.does.moves.grown is)) on.does);
+  does = does_same (λ e at. pairs (m e at) (n e) (k e)) (does_on (does_beside first.does second.does (λ g e v l grown is. IsWorth-grown grown is)) on.does);
   there = on.there;
 }
 
 -- what was two things becomes one
-pub two_made : {A B C : Type 0} {x : Setting} {d0 d1 d2 : Graph} {s0 s1 s2 : SymState} {Is Stay : Graph → Env → A → Type 0} {Then : Graph → Env → B → Type 0} {Made : Graph → Env → C → Type 0} {m : Env → Comp A} {n : Env → Comp B} (f : A → B → C) → ((g : Graph) (e : Env) (a : A) → Is g e a → Stay g e a) → ((g : Graph) (e : Env) (a : A) (b : B) → Stay g e a → Then g e b → Made g e (f a b)) → Does x d0 d1 s0 s1 Is m → Does x d1 d2 s1 s2 Then n → Does x d0 d2 s0 s2 Made (λ e. m e >>= (λ a. n e >>= (λ b. pure (f a b))))
+pub two_made : {A B C : Type 0} {x : Setting} {d0 d1 d2 : Graph} {s0 s1 s2 : SymState} {Is Stay : Graph → Env → A → Type 0} {Then : Graph → Env → B → Type 0} {Made : Graph → Env → C → Type 0} {m : Env → Comp A} {n : Env → Comp B} (f : A → B → C) → ((g : Graph) (e : Env) (a : A) → HeapGrows g e s1.heap s2.heap → Is g e a → Stay g e a) → ((g : Graph) (e : Env) (a : A) (b : B) → Stay g e a → Then g e b → Made g e (f a b)) → Does x d0 d1 s0 s1 Is m → Does x d1 d2 s1 s2 Then n → Does x d0 d2 s0 s2 Made (λ e. m e >>= (λ a. n e >>= (λ b. pure (f a b))))
 two_made {A} {B} {C} {m = m} {n = n} f stays makes first second =
     does_same (λ e at. pairs (m e at) (n e) (λ (p : A × B). pure (f p.0 p.1)))
-    (does_made (λ (p : A × B). f p.0 p.1) (λ g e p is. makes g e p.0 p.1 is.0 is.1) (does_beside first second (λ g e a l is. stays g e a is)))
+    (does_made (λ (p : A × B). f p.0 p.1) (λ g e p is. makes g e p.0 p.1 is.0 is.1) (does_beside first second (λ g e a l grown is. stays g e a grown is)))

@@ -1,5 +1,5 @@
 -- Places that targets may name, and what is stored at them.
-use Rattle.std.proofs.Common.{◌≡◌, ℕ, suc, ◌+◌, Bool, true, false, refl, sym, ap, subst, ◌∙◌, ◌&&◌, ◌||◌, Result}
+use Rattle.std.proofs.Common.{◌≡◌, ℕ, suc, ◌+◌, Bool, true, false, refl, sym, ap, subst, ◌∙◌, ◌&&◌, ◌||◌, Result, arith, ◌≤◌}
 use Rattle.std.specs.Prelude.{OnOk, not, if◌then◌else◌, ⊤, List}
 use Rattle.sk_base.specs.declared.span.Span.{Span}
 use Rattle.sk_dag.specs.declared.env.Env.{Env}
@@ -12,17 +12,17 @@ use Rattle.sk_heap.specs.declared.slot.Slot.{Slot}
 use Rattle.sk_prog.specs.declared.value.Value.{Value}
 use Rattle.sk_model.specs.Step.{State, Step, Goes, Fails, Skips}
 use Rattle.sk_model.specs.Heap as model
-use Rattle.sk_heap_laws.specs.Heaps.{HeapGrows}
-use Rattle.sk_heap_laws.proofs.Grown.{HeapGrows-refl, HeapGrows-trans}
+use Rattle.sk_heap_laws.specs.Heaps.{StructsGrow, HeapGrows}
+use Rattle.sk_heap_laws.proofs.Grown.{StructsGrow-refl, StructsGrow-trans, HeapGrows-trans, HoldAlike-trans, alike_grows}
 use Rattle.sk_sym_state.specs.declared.branch.Side.{Side}
 use Rattle.sk_sym_state.specs.declared.setting.Setting.{Setting}
 use Rattle.sk_sym_state.specs.declared.state.SymState.{SymState}
 use Rattle.sk_sym_state.specs.Seen.{IsWorth}
-use Rattle.sk_sym_state.specs.Shows.{AreFrontOf, Shows, Sees, Carries, Stays}
+use Rattle.sk_sym_state.specs.Shows.{AreFrontOf, Shows, Sees, IsHere, Comes, Carries, AreAlong, Stays}
 use Rattle.sk_sym_state.specs.Branching.{IsForked, AreTurned, AreJoined}
 use Rattle.sk_sym_state.specs.Meaning.{IsLater, Moves}
 use Rattle.sk_sym_state.proofs.Worth.{IsWorth-grown}
-use Rattle.sk_sym_state.proofs.Carrying.{Carries-trans, Carries-along, failed_over, skipped_over, shows_over, front_grown, later_keeps}
+use Rattle.sk_sym_state.proofs.Carrying.{Carries-trans, Carries-along, failed_over, skipped_over, shows_over, here_over, some_over, alike_along, front_grown, later_keeps}
 use Rattle.sk_sym_stores.specs.declared.location.Location.{Location}
 use Rattle.sk_sym_places.specs.declared.place.Place.{Place}
 use Rattle.sk_sym_places.specs.declared.place.Place.TheVariants.{One, Either}
@@ -83,16 +83,13 @@ location_first g e cond first second c = fold_either Location (location_step g e
 pub location_second : (g : Graph) (e : Env) (cond : BoolId) (first second : Place) → bool_value g e cond ≡ false → location_in g e (Either cond first second) ≡ location_in g e second
 location_second g e cond first second c = fold_either Location (location_step g e) cond first second ∙ ap (λ b. if b then location_in g e first else location_in g e second) c
 
-put_grown : {g : Graph} {e : Env} {a b : List Slot} {r : Shape} {q : model.Location × Value} (p : Place) → HeapGrows a b → IsPut a p r g e q → IsPut b p r g e q
+put_grown : {g : Graph} {e : Env} {a b : List Slot} {r : Shape} {q : model.Location × Value} (p : Place) → HeapGrows g e a b → IsPut a p r g e q → IsPut b p r g e q
 put_grown p grown h = (LocationIs-grown grown h.0, IsWorth-grown grown h.1)
 
 put_as : (g : Graph) (e : Env) (heap : List Slot) (p : Place) (l : Location) (r : Shape) (q : model.Location × Value) → location_in g e p ≡ l → IsPut heap p r g e q → LocationIs g e heap l q.0 × IsWorth g e heap r q.1
 put_as g e heap p l r q is h = (subst (λ l. LocationIs g e heap l q.0) is h.0, h.1)
 
 -- ---- both ways
-
-heap_grown : {a b : List Slot} → b ≡ a → HeapGrows a b
-heap_grown {a} e = subst (HeapGrows a) (sym e) (HeapGrows-refl a)
 
 and_false : (a b : Bool) → a ≡ false → (a && b) ≡ false
 and_false a b h = rw h refl
@@ -109,14 +106,11 @@ module _ {x : Setting} {d1 d2 d3 d4 d5 : Graph} {s1 s2 s3 s4 s5 s6 : SymState} {
   mb : Moves x d3 d4 s4 s5
   mb = two.does.moves
 
-  grown_12 : HeapGrows s1.heap s2.heap
-  grown_12 = heap_grown forked.along.heap
-
-  grown_34 : HeapGrows s3.heap s4.heap
-  grown_34 = heap_grown turned.along.heap
-
-  grown_14 : HeapGrows s1.heap s4.heap
-  grown_14 = HeapGrows-trans grown_12 (HeapGrows-trans ma.grown grown_34)
+  structs : StructsGrow s1.heap s6.heap
+  structs = StructsGrow-trans (along forked.along) (StructsGrow-trans ma.structs (StructsGrow-trans (along turned.along) (StructsGrow-trans mb.structs (along joined.along))))
+    where
+      along : {a b : SymState} → AreAlong a b → StructsGrow a.heap b.heap
+      along {a} h = subst (StructsGrow a.heap) (sym h.heap) (StructsGrow-refl a.heap)
 
   module _ {g : Graph} {e : Env} (l : IsLater x d5 g e) where
     l4 : IsLater x d4 g e
@@ -155,14 +149,17 @@ module _ {x : Setting} {d1 d2 d3 d4 d5 : Graph} {s1 s2 s3 s4 s5 s6 : SymState} {
       first_end = path6 ∙ ap (λ b. bool_value g e s3.path || b) second_stays.path ∙ or_false (bool_value g e s3.path)
 
       first_shows : {at : State} → Shows g e s1 at → Shows g e s2 at
-      first_shows {at} h = shows_over (Carries-along forked.along) (forked.here g e l2.grows ∙ rw (p, c) refl) (forked.slots g e at.slots l2.grows h.slots) h
+      first_shows {at} h = shows_over (Carries-along forked.along) (forked.here g e l2.grows ∙ rw (p, c) refl) (omega (arith, forked.cursor)) (forked.slots g e at.slots l2.grows h.slots) h
+
+      first_up : bool_value g e s3.path ≡ true → s3.cursor ≤ s6.cursor
+      first_up here = omega (arith, turned.old_cursor, joined.cursor.first g e l.grows (ap (bool_value g e) turned.old_path ∙ here))
 
       first_on : {at : State} → Shows g e s3 at → Shows g e s6 at
       first_on {at} h =
           let end : bool_value g e gone.path ≡ true = ap (bool_value g e) turned.old_path ∙ h.path in
-          let front = front_grown g e (HeapGrows-trans grown_34 mb.grown) h.slots in
+          let front = front_grown g e (alike_grows g e (HoldAlike-trans g e (alike_along g e turned.along) second_stays.rest.holds)) h.slots in
           let front' : AreFrontOf g e s5.heap gone.slots at.slots = subst (λ list. AreFrontOf g e s5.heap list at.slots) (sym turned.old_slots) front in
-          shows_over first_rest (first_end ∙ h.path) (joined.first g e at.slots l.grows c end front') h
+          shows_over first_rest (first_end ∙ h.path) (first_up h.path) (joined.first g e at.slots l.grows c end front') h
 
       first_sees : (t : Step (Unit {0})) → Sees g e s3 (λ u. ⊤) t → Sees g e s6 (λ u. ⊤) t
       first_sees (Goes v at) h = record { shows = first_on h.shows; is = h.is }
@@ -180,20 +177,45 @@ module _ {x : Setting} {d1 d2 d3 d4 d5 : Graph} {s1 s2 s3 s4 s5 s6 : SymState} {
       second_end : bool_value g e s6.path ≡ bool_value g e s5.path
       second_end = path6 ∙ ap (λ b. b || bool_value g e s5.path) first_stays.path
 
+      second_from : s1.cursor ≤ s4.cursor
+      second_from = omega (arith, turned.cursor, forked.other_cursor)
+
+      second_up : bool_value g e s5.path ≡ true → s5.cursor ≤ s6.cursor
+      second_up here = joined.cursor.second g e l.grows here
+
       second_shows : {at : State} → Shows g e s1 at → Shows g e s4 at
       second_shows {at} h =
           let here : AreFrontOf g e s2.heap waits.slots at.slots = forked.others g e at.slots l2.grows h.slots in
-          let front = front_grown g e (HeapGrows-trans ma.grown grown_34) here in
-          shows_over before (path4 ∙ rw (p, c) refl) (subst (λ list. AreFrontOf g e s4.heap list at.slots) (sym turned.slots) front) h
+          let front = front_grown g e (alike_grows g e (HoldAlike-trans g e first_stays.rest.holds (alike_along g e turned.along))) here in
+          shows_over before (path4 ∙ rw (p, c) refl) second_from (subst (λ list. AreFrontOf g e s4.heap list at.slots) (sym turned.slots) front) h
 
       second_sees : (t : Step (Unit {0})) → Sees g e s5 (λ u. ⊤) t → Sees g e s6 (λ u. ⊤) t
-      second_sees (Goes v at) h = record { shows = shows_over (Carries-along joined.along) (second_end ∙ h.shows.path) (joined.second g e at.slots l.grows c h.shows.path h.shows.slots) h.shows; is = h.is }
+      second_sees (Goes v at) h = record { shows = shows_over (Carries-along joined.along) (second_end ∙ h.shows.path) (second_up h.shows.path) (joined.second g e at.slots l.grows c h.shows.path h.shows.slots) h.shows; is = h.is }
       second_sees (Fails span) h = failed_over (Carries-along joined.along) (second_end ∙ h.path) h
       second_sees (Skips span) h = skipped_over (Carries-along joined.along) (second_end ∙ h.path) h
 
+    comes : IsHere g e s1 → Comes g e s1 s6
+    comes h = by (bool_value g e cond) refl
+      where
+        by : (c : Bool) → bool_value g e cond ≡ c → Comes g e s1 s6
+        by true c =
+            let p = h.path in
+            let first = ma.comes g e l3 (here_over (Carries-along forked.along) (forked.here g e l2.grows ∙ rw (p, c) refl) (omega (arith, forked.cursor)) h) in
+            record {
+              grown = HeapGrows-trans g e (alike_grows g e (alike_along g e forked.along)) (HeapGrows-trans g e first.grown (alike_grows g e (first_rest p c).holds));
+              is = some_over (first_rest p c) (first_end p c) (first_up p c) first.is;
+            }
+        by false c =
+            let p = h.path in
+            let second = mb.comes g e l4 (here_over (before p c) (path4 ∙ rw (p, c) refl) (second_from p c) h) in
+            record {
+              grown = HeapGrows-trans g e (alike_grows g e (before p c).holds) (HeapGrows-trans g e second.grown (alike_grows g e (alike_along g e joined.along)));
+              is = some_over (Carries-along joined.along) (second_end p c) (second_up p c) second.is;
+            }
+
     either_sees : (q : model.Location × Value) (at : State) → IsPut s1.heap (Either cond a b) r g e q → Shows g e s1 at → (c : Bool) → bool_value g e cond ≡ c → Sees g e s6 (λ (u : Unit {0}). ⊤) (model.store span q.0 q.1 at)
-    either_sees q at is shows true c = first_sees shows.path c (model.store span q.0 q.1 at) (one.does.runs g e q at l3 (put_grown a grown_12 (put_as g e s1.heap (Either cond a b) (location_in g e a) r q (location_first g e cond a b c) is)) (first_shows shows.path c shows))
-    either_sees q at is shows false c = second_sees shows.path c (model.store span q.0 q.1 at) (two.does.runs g e q at l4 (put_grown b grown_14 (put_as g e s1.heap (Either cond a b) (location_in g e b) r q (location_second g e cond a b c) is)) (second_shows shows.path c shows))
+    either_sees q at is shows true c = first_sees shows.path c (model.store span q.0 q.1 at) (one.does.runs g e q at l3 (put_grown a (alike_grows g e (alike_along g e forked.along)) (put_as g e s1.heap (Either cond a b) (location_in g e a) r q (location_first g e cond a b c) is)) (first_shows shows.path c shows))
+    either_sees q at is shows false c = second_sees shows.path c (model.store span q.0 q.1 at) (two.does.runs g e q at l4 (put_grown b (alike_grows g e (before shows.path c).holds) (put_as g e s1.heap (Either cond a b) (location_in g e b) r q (location_second g e cond a b c) is)) (second_shows shows.path c shows))
 
   pub either_puts : Puts x d1 d5 s1 s6 span (Either cond a b) r
   either_puts = record {
@@ -201,7 +223,8 @@ module _ {x : Setting} {d1 d2 d3 d4 d5 : Graph} {s1 s2 s3 s4 s5 s6 : SymState} {
       moves = record {
         keeps = Keeps-trans forked.keeps (Keeps-trans ma.keeps (Keeps-trans mb.keeps joined.keeps));
         stands = joined.stands;
-        grown = HeapGrows-trans grown_14 (HeapGrows-trans mb.grown (heap_grown joined.along.heap));
+        structs = structs;
+        comes = λ g e l h. comes l h;
         stays = λ g e l p. nowhere l p;
       };
       runs = λ g e q at l is shows. either_sees l q at is shows (bool_value g e cond) refl;

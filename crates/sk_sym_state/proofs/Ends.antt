@@ -1,5 +1,5 @@
 -- A run that ends where a node holds.
-use Rattle.std.proofs.Common.{◌≡◌, ◌&&◌, ◌||◌, Bool, true, false, refl, sym, ap, subst, ◌∙◌}
+use Rattle.std.proofs.Common.{◌≡◌, ◌&&◌, ◌||◌, Bool, true, false, refl, sym, ap, subst, ◌∙◌, arith, ◌⊎◌, inl, inr}
 use Rattle.std.specs.Prelude.{not}
 use Rattle.sk_dag.specs.declared.env.Env.{Env}
 use Rattle.sk_dag.specs.declared.node.BoolId.{BoolId}
@@ -8,11 +8,11 @@ use Rattle.sk_dag.specs.Eval.{bool_value, Keeps}
 use Rattle.sk_base.specs.declared.span.Span.{Span}
 use Rattle.sk_model.specs.Step.{State, Goes, Fails, Comp}
 use Rattle.sk_model.specs.Exec.{Flow}
-use Rattle.sk_heap_laws.proofs.Grown.{HeapGrows-refl}
+use Rattle.sk_heap_laws.proofs.Grown.{StructsGrow-refl, HeapGrows-refl, HoldAlike-refl}
 use Rattle.sk_sym_state.specs.declared.setting.Setting.{Setting}
 use Rattle.sk_sym_state.specs.declared.state.SymState.{SymState}
 use Rattle.sk_sym_state.specs.Stands.{StateStands}
-use Rattle.sk_sym_state.specs.Shows.{Shows, Sees, SeesFlow}
+use Rattle.sk_sym_state.specs.Shows.{Shows, Sees, SeesFlow, IsHere, IsOutcome}
 use Rattle.sk_sym_state.specs.Meaning.{IsLater, Moves, Does, DoesOn, Executes, FailsWhere, SkipsWhere}
 use Rattle.sk_sym_state.proofs.Carrying.{Carries-refl, Moves-trans}
 use Rattle.sk_sym_state.proofs.Standing.{StateStands-keeps}
@@ -56,33 +56,44 @@ module _ (x : Setting) {d0 d1 : Graph} {s0 : SymState} (cond : BoolId) {path end
     moves = record {
       keeps = k;
       stands = record { path = path_there; failed = ended_there; skipped = now.skipped; cost = now.cost; heap = now.heap; structs = now.structs; frame = now.frame };
-      grown = HeapGrows-refl s0.heap;
-      stays = λ g e l p. record { path = path_off g e l p; rest = record { failed = v g l.grows e ∙ or_off _ _ _ p; skipped = refl; returned = refl; cost = refl; heap = λ t. refl; lives = λ t. t; ended = λ a b t. t } };
+      structs = StructsGrow-refl s0.heap;
+      comes = λ g e l h. record { grown = HeapGrows-refl g e s0.heap; is = fails_comes g e l h (bool_value g e cond) refl };
+      stays = λ g e l p. record { path = path_off g e l p; rest = record { failed = v g l.grows e ∙ or_off _ _ _ p; skipped = refl; returned = refl; cost = refl; heap = λ t. refl; lives = λ t. t; ended = λ a b t. t; holds = HoldAlike-refl g e s0.heap; most = omega arith } };
     };
     heap = refl;
-    good = λ g e at l c shows. record { path = path_on g e l shows.path c; failed = v g l.grows e ∙ or_none _ _ _ c ∙ shows.failed; skipped = shows.skipped; returned = shows.returned; cost = shows.cost; heap = shows.heap; lives = shows.lives; slots = shows.slots };
+    good = λ g e at l c shows. record { path = path_on g e l shows.path c; failed = v g l.grows e ∙ or_none _ _ _ c ∙ shows.failed; skipped = shows.skipped; returned = shows.returned; cost = shows.cost; heap = shows.heap; lives = shows.lives; slots = shows.slots; free = shows.free };
     bad = λ g e at l c shows. record { path = path_end g e l c; failed = v g l.grows e ∙ or_now _ _ _ shows.path c; skipped = shows.skipped; returned = shows.returned };
   }
+    where
+      fails_comes : (g : Graph) (e : Env) → IsLater x d1 g e → IsHere g e s0 → (c : Bool) → bool_value g e cond ≡ c → IsOutcome g e (record s0 { path = path; failed = ended })
+      fails_comes g e l h true c = inr (inr (inl (record { path = path_end g e l c; failed = v g l.grows e ∙ or_now _ _ _ h.path c; skipped = h.skipped; returned = h.returned })))
+      fails_comes g e l h false c = inl (record { path = path_on g e l h.path c; failed = v g l.grows e ∙ or_none _ _ _ c ∙ h.failed; skipped = h.skipped; returned = h.returned; free = h.free })
 
   pub skips_is : ((g : Graph) → Grows d1 g → (e : Env) → bool_value g e ended ≡ (bool_value g e s0.skipped || (bool_value g e s0.path && bool_value g e cond))) → SkipsWhere x d0 d1 s0 (record s0 { path = path; skipped = ended }) cond
   skips_is v = record {
     moves = record {
       keeps = k;
       stands = record { path = path_there; failed = now.failed; skipped = ended_there; cost = now.cost; heap = now.heap; structs = now.structs; frame = now.frame };
-      grown = HeapGrows-refl s0.heap;
-      stays = λ g e l p. record { path = path_off g e l p; rest = record { failed = refl; skipped = v g l.grows e ∙ or_off _ _ _ p; returned = refl; cost = refl; heap = λ t. refl; lives = λ t. t; ended = λ a b t. t } };
+      structs = StructsGrow-refl s0.heap;
+      comes = λ g e l h. record { grown = HeapGrows-refl g e s0.heap; is = skips_comes g e l h (bool_value g e cond) refl };
+      stays = λ g e l p. record { path = path_off g e l p; rest = record { failed = refl; skipped = v g l.grows e ∙ or_off _ _ _ p; returned = refl; cost = refl; heap = λ t. refl; lives = λ t. t; ended = λ a b t. t; holds = HoldAlike-refl g e s0.heap; most = omega arith } };
     };
     heap = refl;
-    good = λ g e at l c shows. record { path = path_on g e l shows.path c; failed = shows.failed; skipped = v g l.grows e ∙ or_none _ _ _ c ∙ shows.skipped; returned = shows.returned; cost = shows.cost; heap = shows.heap; lives = shows.lives; slots = shows.slots };
+    good = λ g e at l c shows. record { path = path_on g e l shows.path c; failed = shows.failed; skipped = v g l.grows e ∙ or_none _ _ _ c ∙ shows.skipped; returned = shows.returned; cost = shows.cost; heap = shows.heap; lives = shows.lives; slots = shows.slots; free = shows.free };
     bad = λ g e at l c shows. record { path = path_end g e l c; failed = shows.failed; skipped = v g l.grows e ∙ or_now _ _ _ shows.path c; returned = shows.returned };
   }
+    where
+      skips_comes : (g : Graph) (e : Env) → IsLater x d1 g e → IsHere g e s0 → (c : Bool) → bool_value g e cond ≡ c → IsOutcome g e (record s0 { path = path; skipped = ended })
+      skips_comes g e l h true c = inr (inr (inr (record { path = path_end g e l c; failed = h.failed; skipped = v g l.grows e ∙ or_now _ _ _ h.path c; returned = h.returned })))
+      skips_comes g e l h false c = inl (record { path = path_on g e l h.path c; failed = h.failed; skipped = v g l.grows e ∙ or_none _ _ _ c ∙ h.skipped; returned = h.returned; free = h.free })
 
 -- nothing is done but that the graph grows
 pub moves_none : {x : Setting} {d0 d1 : Graph} {s : SymState} → Keeps d0 d1 → StateStands d0 x.expanded.now.prog s → Moves x d0 d1 s s
 moves_none {s = s} k h = record {
   keeps = k;
   stands = StateStands-keeps k h;
-  grown = HeapGrows-refl s.heap;
+  structs = StructsGrow-refl s.heap;
+  comes = λ g e l h. record { grown = HeapGrows-refl g e s.heap; is = inl h };
   stays = λ g e l p. record { path = p; rest = Carries-refl g e s };
 }
 

@@ -1,5 +1,5 @@
 -- What is done with the variables in scope is what is done with the first of those of the call.
-use Rattle.std.proofs.Common.{◌≡◌, ℕ, zero, suc, ◌<◌, ◌≤◌, Bool, true, false, List, [], ◌∷◌, ◌++◌, length, map, take, drop, refl, sym, ap, subst, ◌∙◌, append_assoc, arith}
+use Rattle.std.proofs.Common.{◌≡◌, ℕ, zero, suc, ◌<◌, ◌≤◌, Bool, true, false, List, [], ◌∷◌, ◌++◌, length, map, take, drop, refl, sym, ap, subst, ◌∙◌, append_assoc, arith, inl}
 use Rattle.std.specs.Prelude.{slice_get, slice_set, slice_index_or, Some, ⊤, All, nat_le, if◌then◌else◌}
 use Rattle.std.specs.Option.{option_map}
 use Rattle.std.proofs.lemmas.Option.{slice_get_within, get_or_from_slice_get, none-some}
@@ -18,7 +18,7 @@ use Rattle.sk_heap.specs.declared.slot.Slot.{Slot}
 use Rattle.sk_model.specs.Step.{State}
 use Rattle.sk_model.specs.Heap.{blank, written, read, write}
 use Rattle.sk_heap_laws.specs.Values.{place_of, holds_in, value_of, value_in, values_in, IsLive}
-use Rattle.sk_heap_laws.proofs.Grown.{HeapGrows-refl}
+use Rattle.sk_heap_laws.proofs.Grown.{StructsGrow-refl, HeapGrows-refl}
 use Rattle.sk_heap_laws.proofs.Fields.{map_set}
 use Rattle.sk_sym_state.specs.declared.setting.Setting.{Setting}
 use Rattle.sk_sym_state.specs.declared.state.SymState.{SymState}
@@ -133,18 +133,19 @@ module _ {g : Graph} {e : Env} {heap : List Slot} where
 
 -- the state with other variables
 along_slots : (s : SymState) (slots : List Shape) → AreAlong s (with_slots s slots)
-along_slots s slots = record { failed = refl; skipped = refl; cost = refl; heap = refl; structs = refl; returned = refl; ended = refl }
+along_slots s slots = record { failed = refl; skipped = refl; cost = refl; heap = refl; structs = refl; returned = refl; ended = refl; most = refl }
 
 pub slots_move : {x : Setting} {d : Graph} {s : SymState} → StateStands d x.expanded.now.prog s → (slots : List Shape) → AllStand d slots → Moves x d d s (with_slots s slots)
 slots_move {x} {d} {s} h slots there = record {
   keeps = Keeps-refl d;
   stands = stands_along (along_slots s slots) h h.path there;
-  grown = HeapGrows-refl s.heap;
+  structs = StructsGrow-refl s.heap;
+  comes = λ g e l h. record { grown = HeapGrows-refl g e s.heap; is = inl (record { path = h.path; failed = h.failed; skipped = h.skipped; returned = h.returned; free = h.free }) };
   stays = λ g e l p. record { path = p; rest = Carries-along (along_slots s slots) };
 }
 
 pub slots_show : {g : Graph} {e : Env} {s : SymState} {at : State} (slots : List Shape) (values : List Value) → AreFrontOf g e s.heap slots values → Shows g e s at → Shows g e (with_slots s slots) (record at { slots = values })
-slots_show slots values f shows = record { path = shows.path; failed = shows.failed; skipped = shows.skipped; returned = shows.returned; cost = shows.cost; heap = shows.heap; lives = shows.lives; slots = f }
+slots_show slots values f shows = record { path = shows.path; failed = shows.failed; skipped = shows.skipped; returned = shows.returned; cost = shows.cost; heap = shows.heap; lives = shows.lives; slots = f; free = shows.free }
 
 module _ {x : Setting} {d : Graph} {s : SymState} (h : StateStands d x.expanded.now.prog s) where
   -- what a variable holds is what is read

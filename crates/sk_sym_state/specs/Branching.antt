@@ -1,5 +1,5 @@
 -- Two ways from a state, by a condition: the first where it holds and the second where it does not.
-use Rattle.std.specs.Prelude.{◌≡◌, true, false, not, ◌&&◌, ◌||◌, List, length, take, if◌then◌else◌}
+use Rattle.std.specs.Prelude.{◌≡◌, ℕ, ◌≤◌, true, false, not, ◌&&◌, ◌||◌, List, length, take, if◌then◌else◌, ◌⊎◌}
 use Rattle.sk_dag.specs.declared.env.Env.{Env}
 use Rattle.sk_dag.specs.declared.node.BoolId.{BoolId}
 use Rattle.sk_dag.specs.declared.shape.Shape.{Shape}
@@ -39,6 +39,8 @@ pub record IsForked (x : Setting) (d0 d1 : Graph) (s0 s1 : SymState) (cond : Boo
   pub there : (g : Graph) (e : Env) → Grows d1 g → bool_value g e side.path ≡ (bool_value g e s0.path && not (bool_value g e cond))
   pub slots : (g : Graph) (e : Env) (values : List Value) → Grows d1 g → AreFrontOf g e s0.heap s0.frame.slots values → AreFrontOf g e s1.heap s1.frame.slots values
   pub others : (g : Graph) (e : Env) (values : List Value) → Grows d1 g → AreFrontOf g e s0.heap s0.frame.slots values → AreFrontOf g e s1.heap side.slots values
+  pub cursor : s1.cursor ≡ s0.cursor
+  pub other_cursor : side.cursor ≡ s0.cursor
 
 -- the state and what waits change places
 pub record AreTurned (s0 s1 : SymState) (waits gone : Side) : Type 0 where
@@ -48,6 +50,8 @@ pub record AreTurned (s0 s1 : SymState) (waits gone : Side) : Type 0 where
   pub slots : s1.frame.slots ≡ waits.slots
   pub old_path : gone.path ≡ s0.path
   pub old_slots : gone.slots ≡ s0.frame.slots
+  pub cursor : s1.cursor ≡ waits.cursor
+  pub old_cursor : gone.cursor ≡ s0.cursor
 
 -- of one way each variable that both have: of the first where the condition holds, else of the second
 pub record AreMerged (d : Graph) (cond : BoolId) (first second made : List Shape) : Type 0 where
@@ -64,6 +68,12 @@ pub record AreOneOf (d : Graph) (cond : BoolId) (gone : Side) (path : BoolId) (s
   pub first : (g : Graph) (e : Env) → Grows d g → bool_value g e cond ≡ true → bool_value g e gone.path ≡ true → AreFrontIn g e gone.slots made
   pub second : (g : Graph) (e : Env) → Grows d g → bool_value g e cond ≡ false → bool_value g e path ≡ true → AreFrontIn g e slots made
 
+-- where a way goes on to its end, its cursor is at or before this one, which is that of one way
+pub record IsCursorBehind (d : Graph) (first : BoolId) (first_cursor : ℕ) (second : BoolId) (second_cursor cursor : ℕ) : Type 0 where
+  pub first : (g : Graph) (e : Env) → Grows d g → bool_value g e first ≡ true → first_cursor ≤ cursor
+  pub second : (g : Graph) (e : Env) → Grows d g → bool_value g e second ≡ true → second_cursor ≤ cursor
+  pub one : (cursor ≡ first_cursor) ⊎ (cursor ≡ second_cursor)
+
 -- the two ways come together again: the one that was gone first, and the state
 pub record AreJoined (x : Setting) (d0 d1 : Graph) (s0 s1 : SymState) (cond : BoolId) (gone : Side) : Type 0 where
   pub keeps : Keeps d0 d1
@@ -72,6 +82,7 @@ pub record AreJoined (x : Setting) (d0 d1 : Graph) (s0 s1 : SymState) (cond : Bo
   pub path : (g : Graph) (e : Env) → Grows d1 g → bool_value g e s1.path ≡ (bool_value g e gone.path || bool_value g e s0.path)
   pub first : (g : Graph) (e : Env) (values : List Value) → Grows d1 g → bool_value g e cond ≡ true → bool_value g e gone.path ≡ true → AreFrontOf g e s0.heap gone.slots values → AreFrontOf g e s1.heap s1.frame.slots values
   pub second : (g : Graph) (e : Env) (values : List Value) → Grows d1 g → bool_value g e cond ≡ false → bool_value g e s0.path ≡ true → AreFrontOf g e s0.heap s0.frame.slots values → AreFrontOf g e s1.heap s1.frame.slots values
+  pub cursor : IsCursorBehind d1 gone.path gone.cursor s0.path s0.cursor s1.cursor
 
 -- a value that is this bit
 abbrev pub IsBit : BoolId → Graph → Env → Value → Type 0

@@ -13,11 +13,11 @@ use Rattle.sk_model.specs.Step.{State, Comp}
 use Rattle.sk_model.specs.Exec.{Flow}
 use Rattle.sk_model.specs.Fill.{InRange}
 use Rattle.sk_sym_folds.specs.Chosen.{chosen_values}
-use Rattle.sk_heap_laws.specs.Heaps.{HeapGrows}
+use Rattle.sk_heap_laws.specs.Heaps.{StructsGrow}
 use Rattle.sk_sym_state.specs.Seen.{IsWorth}
 use Rattle.sk_arr.specs.Shapes.{Stands}
 use Rattle.sk_sym_state.specs.Stands.{StateStands}
-use Rattle.sk_sym_state.specs.Shows.{Shows, HasFailed, HasSkipped, Stays, SeesFlow, Sees}
+use Rattle.sk_sym_state.specs.Shows.{Shows, HasFailed, HasSkipped, IsHere, Comes, Stays, SeesFlow, Sees}
 use Rattle.sk_sym_state.specs.declared.setting.Setting.{Setting}
 use Rattle.sk_sym_state.specs.declared.state.SymState.{SymState}
 
@@ -30,11 +30,13 @@ pub record IsLater (x : Setting) (d g : Graph) (e : Env) : Type 0 where
   pub grows : Grows d g
   pub range : InRange x.expanded.now (choice_at x e)
 
--- the graph keeps what it had, the new state stands, the heap has grown, and where the run does not go on all stays
+-- The graph keeps what it had, the new state stands, the slots of the heap have the structs that they had, where the run goes on
+-- the heap has grown, and where it does not all stays.
 pub record Moves (x : Setting) (d0 d1 : Graph) (s0 s1 : SymState) : Type 0 where
   pub keeps : Keeps d0 d1
   pub stands : StateStands d1 x.expanded.now.prog s1
-  pub grown : HeapGrows s0.heap s1.heap
+  pub structs : StructsGrow s0.heap s1.heap
+  pub comes : (g : Graph) (e : Env) → IsLater x d1 g e → IsHere g e s0 → Comes g e s0 s1
   pub stays : (g : Graph) (e : Env) → IsLater x d1 g e → bool_value g e s0.path ≡ false → Stays g e s0 s1
 
 -- and where it goes on, it does what a statement does

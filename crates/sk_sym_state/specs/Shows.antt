@@ -1,7 +1,7 @@
 -- What a state over nodes is in an environment: a run that goes on from a state, or one that has ended.
 --
 -- The variables in scope are the first of those of the call; of those behind them nothing is said.
-use Rattle.std.specs.Prelude.{◌≡◌, true, false, List, ◌++◌, Option, Some, None}
+use Rattle.std.specs.Prelude.{◌≡◌, ◌≤◌, true, false, List, ◌++◌, Option, Some, None, ◌⊎◌}
 use Rattle.sk_dag.specs.declared.env.Env.{Env}
 use Rattle.sk_dag.specs.declared.shape.Shape.{Shape}
 use Rattle.sk_dag.specs.Graph.{Graph}
@@ -13,7 +13,7 @@ use Rattle.sk_model.specs.Step.{State, Step, Goes, Fails, Skips}
 use Rattle.sk_model.specs.Exec.{Flow, Onward, Returns}
 use Rattle.sk_model.specs.Run.{result_of, refs_from}
 use Rattle.sk_heap_laws.specs.Values.{values_in}
-use Rattle.sk_heap_laws.specs.Heaps.{heap_value, HeapLive}
+use Rattle.sk_heap_laws.specs.Heaps.{heap_value, HeapLive, HeapGrows, HoldAlike, AreFree}
 use Rattle.sk_sym_state.specs.Seen.{ShapesLive, IsWorth, AreWorth}
 use Rattle.sk_sym_state.specs.declared.state.Ended.{Ended}
 use Rattle.sk_sym_state.specs.declared.state.SymState.{SymState}
@@ -34,6 +34,7 @@ pub record Shows (g : Graph) (e : Env) (s : SymState) (at : State) : Type 0 wher
   pub heap : heap_value g e s.heap ≡ at.heap
   pub lives : HeapLive g e s.heap
   pub slots : AreFrontOf g e s.heap s.frame.slots at.slots
+  pub free : AreFree g e s.heap s.cursor
 
 -- it is a run that has failed
 pub record HasFailed (g : Graph) (e : Env) (s : SymState) : Type 0 where
@@ -70,6 +71,7 @@ pub record HasReturned (g : Graph) (e : Env) (fun : Fun) (s : SymState) (v : Opt
   pub heap : heap_value g e s.heap ≡ at.heap
   pub lives : HeapLive g e s.heap
   pub ended : EndedIs g e s.heap s.frame.ended (result_of fun.result (Returns v)) (refs_from 0 fun.params at.slots)
+  pub free : AreFree g e s.heap s.frame.most
 
 -- it is what a statement of this function does
 abbrev pub SeesFlow : Graph → Env → Fun → SymState → Step Flow → Type 0
@@ -88,8 +90,33 @@ Sees g e s Is (Goes a at) = GoesOn g e s at Is a
 Sees g e s Is (Fails span) = HasFailed g e s
 Sees g e s Is (Skips span) = HasSkipped g e s
 
+-- it is a run that goes on, whatever from
+pub record IsHere (g : Graph) (e : Env) (s : SymState) : Type 0 where
+  pub path : bool_value g e s.path ≡ true
+  pub failed : bool_value g e s.failed ≡ false
+  pub skipped : bool_value g e s.skipped ≡ false
+  pub returned : bool_value g e s.frame.returned ≡ false
+  pub free : AreFree g e s.heap s.cursor
+
+-- it is one whose active call has returned, whatever
+pub record IsBack (g : Graph) (e : Env) (s : SymState) : Type 0 where
+  pub path : bool_value g e s.path ≡ false
+  pub failed : bool_value g e s.failed ≡ false
+  pub skipped : bool_value g e s.skipped ≡ false
+  pub returned : bool_value g e s.frame.returned ≡ true
+  pub free : AreFree g e s.heap s.frame.most
+
+-- it goes on, has returned, has failed or is skipped
+abbrev pub IsOutcome : Graph → Env → SymState → Type 0
+IsOutcome g e s = IsHere g e s ⊎ (IsBack g e s ⊎ (HasFailed g e s ⊎ HasSkipped g e s))
+
+-- the heap has grown, and the run goes on or has ended
+pub record Comes (g : Graph) (e : Env) (old new : SymState) : Type 0 where
+  pub grown : HeapGrows g e old.heap new.heap
+  pub is : IsOutcome g e new
+
 -- Whether the run has failed, is skipped or has returned, its cost, its records, where they are live, and what it has returned
--- are as they were.
+-- are as they were. The same slots hold.
 pub record Carries (g : Graph) (e : Env) (old new : SymState) : Type 0 where
   pub failed : bool_value g e new.failed ≡ bool_value g e old.failed
   pub skipped : bool_value g e new.skipped ≡ bool_value g e old.skipped
@@ -98,13 +125,15 @@ pub record Carries (g : Graph) (e : Env) (old new : SymState) : Type 0 where
   pub heap : HeapLive g e old.heap → heap_value g e new.heap ≡ heap_value g e old.heap
   pub lives : HeapLive g e old.heap → HeapLive g e new.heap
   pub ended : (v : Option Value) (refs : List Value) → EndedIs g e old.heap old.frame.ended v refs → EndedIs g e new.heap new.frame.ended v refs
+  pub holds : HoldAlike g e old.heap new.heap
+  pub most : old.frame.most ≤ new.frame.most
 
 -- and the run does not go on
 pub record Stays (g : Graph) (e : Env) (old new : SymState) : Type 0 where
   pub path : bool_value g e new.path ≡ false
   pub rest : Carries g e old new
 
--- the states are the same but for their paths and their variables
+-- the states are the same but for their paths, their variables and their cursors
 pub record AreAlong (old new : SymState) : Type 0 where
   pub failed : new.failed ≡ old.failed
   pub skipped : new.skipped ≡ old.skipped
@@ -113,3 +142,4 @@ pub record AreAlong (old new : SymState) : Type 0 where
   pub structs : new.structs ≡ old.structs
   pub returned : new.frame.returned ≡ old.frame.returned
   pub ended : new.frame.ended ≡ old.frame.ended
+  pub most : new.frame.most ≡ old.frame.most

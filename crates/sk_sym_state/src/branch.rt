@@ -1,12 +1,12 @@
 //! Two ways from a state, by a condition.
 
-ghost use Rattle.std.specs.Prelude.{◌≡◌, ◌&&◌, ◌||◌, not, IfOk, OnOk};
+ghost use Rattle.std.specs.Prelude.{◌≡◌, ◌≤◌, ◌⊎◌, ◌&&◌, ◌||◌, not, IfOk, OnOk};
 ghost use Rattle.sk_dag.specs.declared.env.Env.{Env};
 ghost use Rattle.sk_dag.specs.Graph.{Graph, Grows, HasBool};
 ghost use Rattle.sk_dag.specs.Eval.{bool_value, Keeps};
 ghost use Rattle.sk_arr.specs.Shapes.{AllStand};
 ghost use Rattle.sk_sym_state.specs.Stands.{StateStands};
-ghost use Rattle.sk_sym_state.specs.Branching.{ForkStands, SideStands, IsForked, AreTurned, AreJoined, AreOneOf, AreMerged};
+ghost use Rattle.sk_sym_state.specs.Branching.{ForkStands, SideStands, IsForked, AreTurned, AreJoined, AreOneOf, AreMerged, IsCursorBehind};
 
 use crate::setting::Setting;
 use crate::shapes::{copies, join_shapes};
@@ -30,6 +30,17 @@ pub struct Side {
     pub fork: Fork,
     pub path: BoolId,
     pub slots: List<Shape>,
+    /// Where it is, the slots of the heap from this one on are free.
+    pub cursor: usize,
+}
+
+/// The greater of two cursors.
+pub fn larger(a: usize, b: usize) -> usize
+    ensures first { a ≤ result }
+    ensures second { b ≤ result }
+    ensures one { (result ≡ a) ⊎ (result ≡ b) }
+{
+    if a < b { b } else { a }
 }
 
 /// The path behind a branch whose ways end at these.
@@ -108,6 +119,23 @@ fn slots_behind(
     Ok(made)
 }
 
+/// The cursor behind a branch whose ways end at these paths with these cursors: the greater, and that of the one way where
+/// the other's end is given as false.
+#[tactic(auto, using(crate::proofs::Forking::behind))]
+fn cursor_behind(dag: &Dag, gone: BoolId, first: usize, path: BoolId, second: usize) -> usize
+    requires gone { HasBool dag.now.nodes gone }
+    requires path { HasBool dag.now.nodes path }
+    ensures { IsCursorBehind dag.now gone first path second result }
+{
+    if let Some(false) = known_bool(dag, gone) {
+        return second;
+    }
+    if let Some(false) = known_bool(dag, path) {
+        return first;
+    }
+    larger(first, second)
+}
+
 impl SymState {
     /// Goes the way where a condition holds. The other one waits. After a refusal the graph has all nodes that it had
     /// (`keeps`); the state is given up with the walk that holds it.
@@ -135,6 +163,7 @@ impl SymState {
             fork,
             path: second,
             slots,
+            cursor: self.cursor,
         })
     }
 
@@ -144,11 +173,14 @@ impl SymState {
     {
         let path = self.path;
         self.path = waits.path;
+        let cursor = self.cursor;
+        self.cursor = waits.cursor;
         let slots = std::mem::replace(&mut self.frame.slots, waits.slots);
         Side {
             fork: waits.fork,
             path,
             slots,
+            cursor,
         }
     }
 
@@ -168,6 +200,7 @@ impl SymState {
         ensures joined { OnOk result (AreJoined setting.now dag.old dag.new self.old self.new cond gone) }
     {
         let path = path_behind(dag, gone.fork, gone.path, self.path)?;
+        self.cursor = cursor_behind(dag, gone.path, gone.cursor, self.path, self.cursor);
         let none = List::new(setting.alloc);
         let slots = std::mem::replace(&mut self.frame.slots, none);
         self.frame.slots = slots_behind(setting.alloc, dag, cond, gone, self.path, slots)?;

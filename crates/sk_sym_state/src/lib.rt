@@ -9,7 +9,7 @@ mod slots;
 mod state;
 mod step;
 
-pub use branch::{Fork, Side};
+pub use branch::{Fork, Side, larger};
 pub use setting::Setting;
 pub use shapes::{alike, join_shapes};
 pub use state::{Ended, Frame, SymState};

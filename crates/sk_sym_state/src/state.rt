@@ -23,6 +23,8 @@ pub struct Frame {
     pub returned: BoolId,
     /// What it has returned, where it has; none before the first `return`.
     pub ended: Option<Ended>,
+    /// Where it has returned, the slots of the heap from this one on are free.
+    pub most: usize,
 }
 
 /// The state of a run over nodes. At most one of `path`, `failed`, `skipped` and the frame's `returned` holds.
@@ -40,6 +42,8 @@ pub struct SymState {
     pub heap: SymHeap,
     /// The struct of each slot of the heap.
     pub structs: List<StructId>,
+    /// Where the run is here, the slots of the heap from this one on are free.
+    pub cursor: usize,
     /// The active call.
     pub frame: Frame,
 }

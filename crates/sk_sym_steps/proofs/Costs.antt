@@ -1,5 +1,5 @@
 -- What is paid. A cost of a graph is never above 2^64 - 1.
-use Rattle.std.proofs.Common.{◌≡◌, ℕ, zero, suc, ◌+◌, ◌-◌, ◌^◌, ◌≤◌, Bool, true, false, List, [], ◌∷◌, ◌++◌, ℤ, pos, negsuc, refl, sym, ap, subst, ◌∙◌, arith}
+use Rattle.std.proofs.Common.{◌≡◌, ℕ, zero, suc, ◌+◌, ◌-◌, ◌^◌, ◌≤◌, Bool, true, false, List, [], ◌∷◌, ◌++◌, ℤ, pos, negsuc, refl, sym, ap, subst, ◌∙◌, arith, inl}
 use Rattle.std.specs.Prelude.{min, int_lt, if◌then◌else◌, fold, ◌&&◌, unsigned_abs}
 use Rattle.std.proofs.lemmas.Bool.{lt-ltb, ltb-true}
 use Rattle.sk_base.specs.declared.span.Span.{Span}
@@ -18,7 +18,7 @@ use Rattle.sk_prog.specs.declared.value.Value.{Value as Worth}
 use Rattle.sk_prog.specs.declared.value.Value.TheVariants as value
 use Rattle.sk_model.specs.Step.{State}
 use Rattle.sk_model.specs.Exec.{pay}
-use Rattle.sk_heap_laws.proofs.Grown.{HeapGrows-refl}
+use Rattle.sk_heap_laws.proofs.Grown.{StructsGrow-refl, HeapGrows-refl, HoldAlike-refl}
 use Rattle.sk_sym_state.specs.declared.setting.Setting.{Setting}
 use Rattle.sk_sym_state.specs.declared.state.SymState.{SymState}
 use Rattle.sk_sym_state.specs.Stands.{StateStands}
@@ -123,10 +123,11 @@ module _ {x : Setting} {d0 d1 d2 d3 : Graph} {s0 s3 : SymState} {fails : BoolId}
       moves = record {
         keeps = Keeps-trans k1 k2;
         stands = paid_stands x h (Keeps-trans k1 k2) there;
-        grown = HeapGrows-refl s0.heap;
+        structs = StructsGrow-refl s0.heap;
+        comes = λ g e l h. record { grown = HeapGrows-refl g e s0.heap; is = inl (record { path = h.path; failed = h.failed; skipped = h.skipped; returned = h.returned; free = h.free }) };
         stays = λ g e l p. record {
           path = p;
-          rest = record { failed = refl; skipped = refl; returned = refl; cost = value_is g l.grows e ∙ ap (λ b. charge (cost_value g e s0.cost) b (word_value g e amount)) p; heap = λ t. refl; lives = λ t. t; ended = λ a b t. t };
+          rest = record { failed = refl; skipped = refl; returned = refl; cost = value_is g l.grows e ∙ ap (λ b. charge (cost_value g e s0.cost) b (word_value g e amount)) p; heap = λ t. refl; lives = λ t. t; ended = λ a b t. t; holds = HoldAlike-refl g e s0.heap; most = omega arith };
         };
       }
 
@@ -140,10 +141,11 @@ module _ {x : Setting} {d0 d1 d2 d3 : Graph} {s0 s3 : SymState} {fails : BoolId}
         heap = shows.heap;
         lives = shows.lives;
         slots = shows.slots;
+        free = shows.free;
       }
 
       any : (g : Graph) (e : Env) (at : State) → IsLater x d2 g e → Shows g e s0 at → Shows g e (record s0 { cost = cost }) (record at { cost = cost_value g e cost })
-      any g e at l shows = record { path = shows.path; failed = shows.failed; skipped = shows.skipped; returned = shows.returned; cost = refl; heap = shows.heap; lives = shows.lives; slots = shows.slots }
+      any g e at l shows = record { path = shows.path; failed = shows.failed; skipped = shows.skipped; returned = shows.returned; cost = refl; heap = shows.heap; lives = shows.lives; slots = shows.slots; free = shows.free }
 
       by : (g : Graph) (e : Env) (at : State) → IsLater x d3 g e → Shows g e s0 at → (z : ℤ) → word_value g e amount ≡ z → SeesFlow g e x.fun.now s3 (pay span (value.Int z) at)
       by g e at l shows (pos n) is =

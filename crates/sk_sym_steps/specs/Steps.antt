@@ -1,5 +1,5 @@
 -- What steps do with shapes that are given.
-use Rattle.std.specs.Prelude.{ℕ, ◌==◌, Bool, false, List, Option, Some, None, slice_get}
+use Rattle.std.specs.Prelude.{◌≡◌, ℕ, ◌==◌, ◌<◌, ◌≤◌, Bool, false, IsTrue, List, length, Option, Some, None, slice_get}
 use Rattle.sk_dag.specs.declared.env.Env.{Env}
 use Rattle.sk_dag.specs.declared.shape.Shape.{Shape}
 use Rattle.sk_dag.specs.Graph.{Graph}
@@ -24,6 +24,17 @@ same_kind s (Some kind) = kind.index == s.index
 -- whether the slot with this number is there, by the structs of the slots, and one of this struct
 abbrev pub is_kind : List StructId → StructId → ℕ → Bool
 is_kind structs s n = same_kind s (slice_get structs n)
+
+-- this slot is the first from a place on that is one of the struct
+pub record IsNextOf (structs : List StructId) (s : StructId) (from slot : ℕ) : Type 0 where
+  pub within : slot < length structs
+  pub up : from ≤ slot
+  pub kind : IsTrue (is_kind structs s slot)
+  pub first : (n : ℕ) → from ≤ n → n < slot → is_kind structs s n ≡ false
+
+-- no slot from a place on is one of the struct
+pub record HasNoneFrom (structs : List StructId) (s : StructId) (from : ℕ) : Type 0 where
+  pub none : (n : ℕ) → from ≤ n → is_kind structs s n ≡ false
 
 -- both shapes are worth these values
 abbrev pub AreTwo : List Slot → Shape → Shape → Graph → Env → Value × Value → Type 0

@@ -1,6 +1,6 @@
 //! Records and their fields.
 
-ghost use Rattle.std.specs.Prelude.{◌≡◌, ◌↔◌, IfOk, IsTrue, []};
+ghost use Rattle.std.specs.Prelude.{◌≡◌, ◌↔◌, IfOk, IsTrue, MatchOption, []};
 ghost use Rattle.sk_dag.specs.Eval.{Keeps};
 ghost use Rattle.sk_arr.specs.Held.{AllPass};
 ghost use Rattle.sk_arr.specs.Shapes.{Stands};
@@ -9,7 +9,7 @@ ghost use Rattle.sk_model.specs.Heap.{read_field as reads, allocate as allocates
 ghost use Rattle.sk_sym_state.specs.Seen.{IsWorth};
 ghost use Rattle.sk_sym_state.specs.Stands.{StateStands};
 ghost use Rattle.sk_sym_state.specs.Meaning.{Evaluates};
-ghost use Rattle.sk_sym_steps.specs.Steps.{is_kind, EvaluatesOn};
+ghost use Rattle.sk_sym_steps.specs.Steps.{is_kind, IsNextOf, HasNoneFrom, EvaluatesOn};
 
 use crate::failure::fail_now;
 use sk_base::Span;
@@ -39,14 +39,33 @@ fn has_field(prog: &Prog, s: StructId, field: u32) -> bool
     }
 }
 
+/// Whether the slot at a place is of a struct.
+fn is_kind_at(structs: &[StructId], s: StructId, place: usize) -> bool
+    ensures { result ≡ is_kind structs.now s place }
+{
+    match structs.get(place) {
+        None => false,
+        Some(kind) => kind.index == s.index,
+    }
+}
+
 /// Whether a slot is of a struct.
 fn is_kind(structs: &[StructId], s: StructId, slot: u32) -> bool
     ensures { result ≡ is_kind structs.now s slot }
 {
-    match structs.get(slot as usize) {
-        None => false,
-        Some(kind) => kind.index == s.index,
+    is_kind_at(structs, s, slot as usize)
+}
+
+/// The first slot of a struct from a place on.
+fn next_of(structs: &[StructId], s: StructId, from: usize) -> Option<usize>
+    ensures { MatchOption result (HasNoneFrom structs.now s from) (λ slot. IsNextOf structs.now s from slot) }
+{
+    for slot in from..structs.len() {
+        if is_kind_at(structs, s, slot) {
+            return Some(slot);
+        }
     }
+    None
 }
 
 /// Whether each target is a slot of a struct.
@@ -62,9 +81,9 @@ pub fn are_kind(structs: &[StructId], s: StructId, targets: &[(u32, BoolId)]) ->
     true
 }
 
-/// A new record of a struct in which each field is 0, and a reference to it. The heap of a program within the limit on
-/// allocations is not full, and its structs are there (`never`). After a refusal the graph has all nodes that it had (`keeps`); the state is given up with the walk that holds it.
-pub fn allocate(
+/// A new record at one slot more. The heap of a program within the limit on allocations is not full, and its structs are
+/// there (`never`).
+fn allocate_more(
     setting: &Setting<'_>,
     dag: &mut Dag,
     state: &mut SymState,
@@ -81,7 +100,58 @@ pub fn allocate(
     let path = state.path;
     let target = state.heap.alloc_under(setting.alloc, dag, prog, path, s)?;
     state.structs.push(s)?;
+    state.cursor = state.structs.len();
     Ok(Shape::Reference(target))
+}
+
+/// A new record at the next slot of its struct. The structs of a program are there (`never`).
+fn allocate_again(
+    setting: &Setting<'_>,
+    dag: &mut Dag,
+    state: &mut SymState,
+    s: StructId,
+    place: usize,
+) -> Result<Shape, AllocError>
+    requires stands { StateStands dag.old setting.now.expanded.now.prog state.old }
+    requires next { IsNextOf state.old.structs s state.old.cursor place }
+    ensures keeps { Keeps dag.old dag.new }
+    ensures evaluates { IfOk result (λ r. Evaluates setting.now dag.old dag.new state.old state.new r (λ e. allocates setting.now.expanded.now.prog s [])) }
+{
+    let prog = &setting.expanded.prog;
+    if !has_struct(prog, s) {
+        return Err(never());
+    }
+    let path = state.path;
+    let target = state
+        .heap
+        .retake_under(setting.alloc, dag, prog, path, s, place)?;
+    state.cursor = place + 1;
+    Ok(Shape::Reference(target))
+}
+
+/// A new record of a struct in which each field is 0, and a reference to it. It is at the next slot of the struct from the
+/// cursor on, where there is one, and else at one more. After a refusal the graph has all nodes that it had (`keeps`); the
+/// state is given up with the walk that holds it.
+pub fn allocate(
+    setting: &Setting<'_>,
+    dag: &mut Dag,
+    state: &mut SymState,
+    s: StructId,
+) -> Result<Shape, AllocError>
+    requires stands { StateStands dag.old setting.now.expanded.now.prog state.old }
+    ensures keeps { Keeps dag.old dag.new }
+    ensures evaluates { IfOk result (λ r. Evaluates setting.now dag.old dag.new state.old state.new r (λ e. allocates setting.now.expanded.now.prog s [])) }
+{
+    match next_of(state.structs.as_slice(), s, state.cursor) {
+        Some(place) => {
+            let r = allocate_again(setting, dag, state, s, place)?;
+            Ok(r)
+        }
+        None => {
+            let r = allocate_more(setting, dag, state, s)?;
+            Ok(r)
+        }
+    }
 }
 
 /// A field of the record that a reference is at. It fails where the reference is null, and wherever the run goes on where the

@@ -1,5 +1,5 @@
 -- What is stored in fields of records.
-use Rattle.std.proofs.Common.{◌≡◌, ℕ, ℤ, Bool, true, false, true≢false, List, [], map, Option, Some, None, is_none, slice_get, IsTrue, refl, sym, ap, subst, ◌∙◌}
+use Rattle.std.proofs.Common.{◌≡◌, ℕ, ℤ, Bool, true, false, true≢false, List, [], map, Option, Some, None, is_none, slice_get, IsTrue, refl, sym, ap, subst, ◌∙◌, arith, inl}
 use Rattle.std.specs.Prelude.{⊤, ◌||◌, if◌then◌else◌}
 use Rattle.sk_base.specs.declared.span.Span.{Span}
 use Rattle.sk_dag.specs.declared.env.Env.{Env}
@@ -31,8 +31,8 @@ use Rattle.sk_model.specs.Values.{replaced}
 use Rattle.sk_model.specs.Eval.{or_fail}
 use Rattle.sk_heap_laws.specs.Values.{holds_in, value_in, ShapeLive}
 use Rattle.sk_heap_laws.specs.Heaps.{heap_value}
-use Rattle.sk_heap_laws.proofs.Fields.{read_null, read_goes, read_live, written_grows, unwritten_heap}
-use Rattle.sk_heap_laws.proofs.Grown.{StaysOf-grows}
+use Rattle.sk_heap_laws.proofs.Fields.{read_null, read_goes, read_live, written_structs, written_alike, written_grows, unwritten_heap}
+use Rattle.sk_heap_laws.proofs.Grown.{StaysOf-grows, alike_free}
 use Rattle.sk_heap_laws.proofs.Writes.{write_null, write_goes, written_live}
 use Rattle.sk_sym_state.specs.declared.setting.Setting.{Setting}
 use Rattle.sk_sym_state.specs.declared.state.SymState.{SymState}
@@ -180,7 +180,11 @@ module _ {x : Setting} {d0 d1 : Graph} {s : SymState} {new : List Slot} {target 
     stands =
         let now = StateStands-keeps keeps h in
         record { path = now.path; failed = now.failed; skipped = now.skipped; cost = now.cost; heap = stands; structs = is.structs ∙ h.structs; frame = now.frame };
-    grown = written_grows is;
+    structs = written_structs is;
+    comes = λ g e l here. record {
+      grown = written_grows is g e;
+      is = inl (record { path = here.path; failed = here.failed; skipped = here.skipped; returned = here.returned; free = alike_free g e (written_alike is g e) here.free });
+    };
     stays = λ g e l p. record {
       path = p;
       rest = record {
@@ -190,7 +194,9 @@ module _ {x : Setting} {d0 d1 : Graph} {s : SymState} {new : List Slot} {target 
         cost = refl;
         heap = λ t. unwritten_heap is l.grows e p;
         lives = λ t. written_live may is_null is l.grows e t (λ q. absurd (true≢false (sym q ∙ p)));
-        ended = λ v refs t. ended_grown g e (written_grows is) s.frame.ended v refs t;
+        ended = λ v refs t. ended_grown g e (written_grows is g e) s.frame.ended v refs t;
+        holds = written_alike is g e;
+        most = omega arith;
       };
     };
   }
@@ -207,7 +213,8 @@ module _ {x : Setting} {d0 d1 : Graph} {s : SymState} {new : List Slot} {target 
         cost = shows.cost;
         heap = refl;
         lives = written_live may is_null is l.grows e shows.lives (λ t. given.worth.live);
-        slots = front_grown g e (written_grows is) shows.slots;
+        slots = front_grown g e (written_grows is g e) shows.slots;
+        free = alike_free g e (written_alike is g e) shows.free;
       };
       is = tt;
     })
@@ -232,9 +239,9 @@ pub may_write : {x : Setting} {d0 d1 d2 d3 d4 : Graph} {s0 s1 : SymState} {targe
 may_write h refers may k1 read k2 is k3 f = record {
   heap_stands = f.moves.stands.heap;
   there = may.is.there;
-  refers = RefersTo-more (Keeps-trans k1 (Keeps-trans k2 (Keeps-trans k3 f.moves.keeps))) (StaysOf-grows f.moves.grown) refers;
+  refers = RefersTo-more (Keeps-trans k1 (Keeps-trans k2 (Keeps-trans k3 f.moves.keeps))) (StaysOf-grows f.moves.structs) refers;
   value_stands = Stands-keeps (Keeps-trans k3 f.moves.keeps) is.stands;
-  typed = IsOfField-more (StaysOf-grows f.moves.grown) (replaced_typed h.structs read.typed may is);
+  typed = IsOfField-more (StaysOf-grows f.moves.structs) (replaced_typed h.structs read.typed may is);
 }
 
 -- ---- a whole field is written
@@ -266,7 +273,8 @@ module _ {x : Setting} {d0 d1 d2 : Graph} {s0 s1 : SymState} {new : List Slot} {
         cost = shows.cost;
         heap = refl;
         lives = written_live may is_null is later.grows e shows.lives (λ t. live);
-        slots = front_grown g e (written_grows is) shows.slots;
+        slots = front_grown g e (written_grows is g e) shows.slots;
+        free = alike_free g e (written_alike is g e) shows.free;
       }
 
   by_null : (g : Graph) (e : Env) (w : Value) (at : State) → IsLater x d2 g e → IsWorth g e s0.heap value w → Shows g e s0 at → (v : Value) → IsWorth g e s0.heap (shape.Reference target) v → (b : Bool) → bool_value g e null ≡ b → Sees g e s1 (λ (u : Unit {0}). ⊤) (model.write_field span field w v at)

@@ -47,13 +47,13 @@ root_keeps k (Field reference kind field) h = Stands-keeps k h
 pub LocationStands-keeps : {a b : Graph} {l : Location} → Keeps a b → LocationStands a l → LocationStands b l
 LocationStands-keeps {l = l} k h = record { root = root_keeps k l.root h.root; indexes = words_keep k h.indexes }
 
-root_grown : (g : Graph) (e : Env) {a b : List Slot} → HeapGrows a b → (root : Root) (at : model.Root) → RootIs g e a root at → RootIs g e b root at
+root_grown : (g : Graph) (e : Env) {a b : List Slot} → HeapGrows g e a b → (root : Root) (at : model.Root) → RootIs g e a root at → RootIs g e b root at
 root_grown g e grown (Variable slot) (model.Variable n) h = h
 root_grown g e grown (Variable slot) (model.Field v k) h = absurd h
 root_grown g e grown (Field reference kind field) (model.Variable n) h = absurd h
 root_grown g e grown (Field reference kind field) (model.Field v k) h = (IsWorth-grown grown h.0, h.1)
 
-pub LocationIs-grown : {g : Graph} {e : Env} {a b : List Slot} {l : Location} {at : model.Location} → HeapGrows a b → LocationIs g e a l at → LocationIs g e b l at
+pub LocationIs-grown : {g : Graph} {e : Env} {a b : List Slot} {l : Location} {at : model.Location} → HeapGrows g e a b → LocationIs g e a l at → LocationIs g e b l at
 LocationIs-grown {g} {e} {l = l} {at = at} grown h = record { root = root_grown g e grown l.root at.root h.root; indexes = h.indexes }
 
 no_words : (d : Graph) → AreWords d []
@@ -91,7 +91,7 @@ index_locates {x} {d0} {d1} {d2} {s0} {s1} {s2} {l} {made} {index} {m} {n} span 
     longer = record { root = l.root; indexes = l.indexes ++ is.word ∷ [] }
 
     both : Does x d0 d2 s0 s2 (λ g e (p : model.Location × Value). LocationIs g e s2.heap l p.0 × IsWorth g e s2.heap index p.1) (λ e. m e >>= (λ location. n e >>= (λ v. pure (location, v))))
-    both = does_beside whole.does one.does (λ g e location later h. LocationIs-grown one.does.moves.grown h)
+    both = does_beside whole.does one.does (λ g e location later grown h. LocationIs-grown grown h)
 
     added : (g : Graph) (e : Env) (location : model.Location) (t : Step Value) → Sees g e s2 (λ (p : model.Location × Value). LocationIs g e s2.heap l p.0 × IsWorth g e s2.heap index p.1) (and_then t (λ v. pure (location, v))) → Sees g e s2 (LocationIs g e s2.heap longer) (and_then t (add_index span location))
     added g e location (Goes v at) h = subst (λ w. Sees g e s2 (LocationIs g e s2.heap longer) (add_index span location w at)) (sym (int_worth is.is h.is.1)) (record {

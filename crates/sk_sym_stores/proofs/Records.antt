@@ -28,7 +28,7 @@ use Rattle.sk_sym_state.specs.Stands.{StateStands}
 use Rattle.sk_sym_state.specs.Shows.{Shows, Sees}
 use Rattle.sk_sym_state.specs.Meaning.{IsLater, DoesOn, Evaluates}
 use Rattle.sk_sym_state.proofs.Worth.{IsWorth-grown}
-use Rattle.sk_sym_state.proofs.Carrying.{later_keeps, failed_over, skipped_over, Moves-trans}
+use Rattle.sk_sym_state.proofs.Carrying.{later_keeps, failed_over, skipped_over, Moves-trans, shown_grows}
 use Rattle.sk_sym_state.proofs.Ends.{moves_none}
 use Rattle.sk_sym_steps.specs.Steps.{EvaluatesOn}
 use Rattle.sk_sym_leaves.proofs.Parts.{two_made}
@@ -40,7 +40,7 @@ use Rattle.sk_sym_stores.proofs.Fields.{stored_whole}
 
 -- ---- lists of fields
 
-pub inits_grown : (g : Graph) (e : Env) {a b : List Slot} → HeapGrows a b → (list : List Init) (set : List (ℕ × Value)) → InitsAre g e a list set → InitsAre g e b list set
+pub inits_grown : (g : Graph) (e : Env) {a b : List Slot} → HeapGrows g e a b → (list : List Init) (set : List (ℕ × Value)) → InitsAre g e a list set → InitsAre g e b list set
 inits_grown g e grown [] [] h = h
 inits_grown g e grown [] (f ∷ fs) h = absurd h
 inits_grown g e grown (i ∷ is) [] h = absurd h
@@ -70,7 +70,7 @@ no_fields {x} {d} {s} h = record {
 
 pub more_fields : {x : Setting} {d0 d1 d2 : Graph} {s0 s1 s2 : SymState} {list : List Init} {r : Shape} {m : Env → Comp (List (ℕ × Value))} {n : Env → Comp Value} (field : ℕ) → EvaluateFields x d0 d1 s0 s1 list m → Evaluates x d1 d2 s1 s2 r n → EvaluateFields x d0 d2 s0 s2 (list ++ record { field = field; value = r } ∷ []) (λ e. m e >>= (λ fs. n e >>= (λ v. pure (fs ++ (field, v) ∷ []))))
 more_fields {d2 = d2} {s2 = s2} {list = list} {r = r} field all one = record {
-  does = two_made (λ fs v. fs ++ (field, v) ∷ []) (λ g e fs are. inits_grown g e one.does.moves.grown list fs are) (λ g e fs v are is. inits_push g e s2.heap list fs (record { field = field; value = r }) (field, v) are (refl, is)) all.does one.does;
+  does = two_made (λ fs v. fs ++ (field, v) ∷ []) (λ g e fs grown are. inits_grown g e grown list fs are) (λ g e fs v are is. inits_push g e s2.heap list fs (record { field = field; value = r }) (field, v) are (refl, is)) all.does one.does;
   there = record { each = all_push (λ (i : Init). Stands d2 i.value) list (record { field = field; value = r }) (InitsStand-keeps one.does.moves.keeps all.there).each one.there };
 }
 
@@ -125,7 +125,7 @@ sets_more {x} {d0} {d1} {d2} {s0} {s1} {s2} {reference} {r} {kind} {field} {list
     by : (g : Graph) (e : Env) → IsLater x d2 g e → (v : Value) (set : List (ℕ × Value)) (at : State) → IsWorth g e s0.heap reference v → InitsAre g e s0.heap (record { field = field; value = r } ∷ more) set → Shows g e s0 at → Sees g e s2 (λ (u : Unit {0}). ⊤) (set_all span v set at)
     by g e l v [] at w are shows = absurd are
     by g e l v (f ∷ fs) at w are shows =
-        let grown = one.does.moves.grown in
+        let grown = shown_grows one.does.moves (later_keeps rest.moves.keeps l) shows in
         let sees = one.does.runs g e (record { root = model.Field v field; indexes = [] }, f.1) at (later_keeps rest.moves.keeps l) (record { root = (w, refl); indexes = refl }, are.0.1) shows in
         let same = stored_whole span v f.1 field at ∙ ap (λ k. model.write_field span k f.1 v at) (sym are.0.0) in
         behind g e l v fs (IsWorth-grown grown w) (inits_grown g e grown more fs are.1) (model.write_field span f.0 f.1 v at) (subst (Sees g e s1 (λ (u : Unit {0}). ⊤)) same sees)
@@ -155,17 +155,17 @@ makes {x} {d0} {d1} {d2} {s0} {s1} {s2} {reference} s list span made sets = reco
   does = record {
     moves = Moves-trans made.does.moves sets.moves;
     runs = λ g e set at l given shows. subst (Sees g e s2 (IsWorth g e s2.heap reference)) (sym (made_then_set span x.expanded.now.prog s set at))
-        (by g e l set (inits_grown g e made.does.moves.grown list set given) (model.allocate x.expanded.now.prog s [] at) (made.does.runs g e at (later_keeps sets.moves.keeps l) shows));
+        (by g e l set (inits_grown g e (shown_grows made.does.moves (later_keeps sets.moves.keeps l) shows) list set given) (model.allocate x.expanded.now.prog s [] at) (made.does.runs g e at (later_keeps sets.moves.keeps l) shows));
   };
   there = Stands-keeps sets.moves.keeps made.there;
 }
   where
-    kept : (g : Graph) (e : Env) (v : Value) → IsWorth g e s1.heap reference v → (t : Step (Unit {0})) → Sees g e s2 (λ u. ⊤) t → Sees g e s2 (IsWorth g e s2.heap reference) (and_then t (λ u. pure v))
-    kept g e v w (Goes u at) h = record { shows = h.shows; is = IsWorth-grown sets.moves.grown w }
-    kept g e v w (Fails t) h = h
-    kept g e v w (Skips t) h = h
+    kept : (g : Graph) (e : Env) (v : Value) → HeapGrows g e s1.heap s2.heap → IsWorth g e s1.heap reference v → (t : Step (Unit {0})) → Sees g e s2 (λ u. ⊤) t → Sees g e s2 (IsWorth g e s2.heap reference) (and_then t (λ u. pure v))
+    kept g e v grown w (Goes u at) h = record { shows = h.shows; is = IsWorth-grown grown w }
+    kept g e v grown w (Fails t) h = h
+    kept g e v grown w (Skips t) h = h
 
     by : (g : Graph) (e : Env) → IsLater x d2 g e → (set : List (ℕ × Value)) → InitsAre g e s1.heap list set → (t : Step Value) → Sees g e s1 (IsWorth g e s1.heap reference) t → Sees g e s2 (IsWorth g e s2.heap reference) (and_then t (λ v. set_all span v set >>= (λ u. pure v)))
-    by g e l set are (Goes v at) h = kept g e v h.is (set_all span v set at) (sets.runs g e (v, set) at l (h.is, are) h.shows)
+    by g e l set are (Goes v at) h = kept g e v (shown_grows sets.moves l h.shows) h.is (set_all span v set at) (sets.runs g e (v, set) at l (h.is, are) h.shows)
     by g e l set are (Fails t) h = let k = sets.moves.stays g e l h.path in failed_over k.rest k.path h
     by g e l set are (Skips t) h = let k = sets.moves.stays g e l h.path in skipped_over k.rest k.path h

@@ -42,7 +42,7 @@ use Rattle.sk_sym_state.specs.Seen.{IsWorth, AreWorth}
 use Rattle.sk_sym_state.specs.Stands.{StateStands}
 use Rattle.sk_sym_state.specs.Shows.{Sees, ResultIs, EndedIs}
 use Rattle.sk_sym_state.specs.Meaning.{IsLater, choice_at, DoesOn, Executes}
-use Rattle.sk_sym_state.proofs.Carrying.{Moves-trans, later_keeps, failed_over, skipped_over}
+use Rattle.sk_sym_state.proofs.Carrying.{Moves-trans, later_keeps, failed_over, skipped_over, shown_grows}
 use Rattle.sk_sym_state.proofs.Ends.{moves_none}
 use Rattle.sk_sym_state.proofs.Following.{does_on}
 use Rattle.sk_sym_forms.specs.Caller.{Caller}
@@ -182,7 +182,7 @@ result_blank {d} t given r is nought = record {
     by g e heap None more has = record { value = nought.value g more e (place_of (holds_in g e heap)); live = nought.live g e (holds_in g e heap) }
     by g e heap (Some v) more has = absurd has
 
-result_grown : (g : Graph) (e : Env) {x y : List Slot} → HeapGrows x y → (r : Option Shape) (v : Option Value) → ResultIs g e x r v → ResultIs g e y r v
+result_grown : (g : Graph) (e : Env) {x y : List Slot} → HeapGrows g e x y → (r : Option Shape) (v : Option Value) → ResultIs g e x r v → ResultIs g e y r v
 result_grown g e grown r None h = tt
 result_grown g e grown None (Some v) h = absurd h
 result_grown g e grown (Some r) (Some v) h = IsWorth-grown grown h
@@ -192,13 +192,13 @@ pub ended_evaluates : {a : Activation} {d0 d1 d2 : Graph} {s0 s1 : SymState} {en
 ended_evaluates {a} {d2 = d2} {s0 = s0} {s1 = s1} {ended = ended} {r = r} span t ps xs i copied keeps result = record {
   does = record {
     moves = Moves-trans copied.does.moves (moves_none keeps copied.does.moves.stands);
-    runs = λ g e c at l is shows. by g e l c is.0.0 is.1 (copied_at a span ps xs i e c.refs at) (copied.does.runs g e c.refs at (later_keeps keeps l) is.0.1 shows);
+    runs = λ g e c at l is shows. by g e l c (result_grown g e (shown_grows copied.does.moves (later_keeps keeps l) shows) ended.result c.result is.0.0) is.1 (copied_at a span ps xs i e c.refs at) (copied.does.runs g e c.refs at (later_keeps keeps l) is.0.1 shows);
   };
   there = result.stands;
 }
   where
-    by : (g : Graph) (e : Env) → IsLater a.setting d2 g e → (c : Called) → ResultIs g e s0.heap ended.result c.result → HasResult t c.result → (u : Step (Unit {0})) → Sees g e s1 (λ (n : Unit {0}). ⊤) u → Sees g e s1 (IsWorth g e s1.heap r) (and_then u (λ n. pure (result_value c.result)))
-    by g e l c is has (Goes n at) h = record { shows = h.shows; is = result.worth g e s1.heap c.result l.grows (result_grown g e copied.does.moves.grown ended.result c.result is) has }
+    by : (g : Graph) (e : Env) → IsLater a.setting d2 g e → (c : Called) → ResultIs g e s1.heap ended.result c.result → HasResult t c.result → (u : Step (Unit {0})) → Sees g e s1 (λ (n : Unit {0}). ⊤) u → Sees g e s1 (IsWorth g e s1.heap r) (and_then u (λ n. pure (result_value c.result)))
+    by g e l c is has (Goes n at) h = record { shows = h.shows; is = result.worth g e s1.heap c.result l.grows is has }
     by g e l c is has (Fails span) h = h
     by g e l c is has (Skips span) h = h
 

@@ -25,7 +25,7 @@ use Rattle.sk_sym_state.specs.Stands.{StateStands}
 use Rattle.sk_sym_state.specs.Shows.{Sees}
 use Rattle.sk_sym_state.specs.Meaning.{IsLater}
 use Rattle.sk_sym_state.proofs.Worth.{AreWorth-grown}
-use Rattle.sk_sym_state.proofs.Carrying.{later_keeps, failed_over, skipped_over, Moves-trans}
+use Rattle.sk_sym_state.proofs.Carrying.{later_keeps, failed_over, skipped_over, Moves-trans, shown_grows}
 use Rattle.sk_sym_state.proofs.Ends.{moves_none}
 use Rattle.sk_sym_walk.specs.declared.activation.Activation.{Activation}
 use Rattle.sk_sym_walk.specs.Walk.{expr_part}
@@ -103,7 +103,7 @@ one_back {a} {d0} {d1} {d2} {s0} {s1} {s2} {list} {more} {r} {by_ref} {i} {j} sp
         subst (λ b. Sees g e s2 (λ (u : Unit {0}). ⊤) (copied_first a span b x ps xs i e vs at)) (sym is)
         (subst (λ vs. Sees g e s2 (λ (u : Unit {0}). ⊤) (copied_first a span true x ps xs i e vs at)) w.value
         (subst (λ n. Sees g e s2 (λ (u : Unit {0}). ⊤) (and_then ((target_part a span x e).at i at) (λ location. store span location (value_in g e s0.heap r) >>= (λ u. copied_at a span ps xs n e (values_in g e s0.heap more))))) (one.place.place e)
-        (by g e l (value_in g e s0.heap r) (values_in g e s0.heap more) (AreWorth-grown one.does.moves.grown (record { value = refl; live = record { each = All-tail (IsLive (holds_in g e s0.heap)) (shape_value g e r) (shapes_value g e more) w.live.each } }))
+        (by g e l (value_in g e s0.heap r) (values_in g e s0.heap more) (AreWorth-grown (shown_grows one.does.moves (later_keeps rest.does.moves.keeps l) shows) (record { value = refl; live = record { each = All-tail (IsLive (holds_in g e s0.heap)) (shape_value g e r) (shapes_value g e more) w.live.each } }))
         ((target_part a span x e).at i at)
         (one.does.runs g e (value_in g e s0.heap r) at (later_keeps rest.does.moves.keeps l) (record { value = refl; live = All-head (IsLive (holds_in g e s0.heap)) (shape_value g e r) (shapes_value g e more) w.live.each }) shows))));
   };

@@ -9,8 +9,6 @@ use Rattle.sk_dag.specs.Graph.{Graph, Grows, HasBool, BoolSort}
 use Rattle.sk_dag.specs.Eval.{bool_value, Keeps}
 use Rattle.sk_dag.proofs.EvalLemmas.{Keeps-trans}
 use Rattle.sk_heap.specs.declared.slot.Slot.{Slot}
-use Rattle.sk_heap_laws.specs.Heaps.{HeapGrows}
-use Rattle.sk_heap_laws.proofs.Grown.{HeapGrows-refl, HeapGrows-trans}
 use Rattle.sk_prog.specs.declared.ty.Ty.{Ty}
 use Rattle.sk_prog.specs.declared.value.Value.{Value}
 use Rattle.sk_prog.specs.declared.value.Value.TheVariants as value
@@ -123,15 +121,12 @@ module _ {a : Activation} {d0 d1 : Graph} {s0 s1 : SymState} (span : Span) (c : 
     place = record { place = λ e. omega (arith, h.place.place e, place e) };
   }
 
-heap_as : {x y : List Slot} → y ≡ x → HeapGrows x y
-heap_as {x} e = subst (HeapGrows x) (sym e) (HeapGrows-refl x)
-
 -- both of them
 pub both_placed : {a : Activation} {d1 d2 d3 d4 d5 : Graph} {s1 s2 s3 s4 s5 s6 : SymState} {cond : BoolId} {waits gone : Side} {i j k : ℕ} {p q : Env → Part (Comp model.Location)} {x y made : Place} (span : Span) → HasBool d1.nodes cond → IsForked a.setting d1 d2 s1 s2 cond waits → IsPlaced a d2 d3 s2 s3 i j p x → AreTurned s3 s4 waits gone → IsPlaced a d3 d4 s4 s5 j k q y → AreJoined a.setting d4 d5 s5 s6 cond gone → made ≡ Either cond x y → IsPlacedOn a d1 d5 s1 s6 i k (IsBit cond) (either_part span p q) made
 both_placed {a} {d1} {d5 = d5} {s1} {s6 = s6} {cond} {i = i} {k = k} {p = p} {q = q} {x} {y} span c forked first turned second joined is = subst (λ z. IsPlacedOn a d1 d5 s1 s6 i k (IsBit cond) (either_part span p q) z) (sym is) (record {
   does = branch_does span forked first.places.does turned (does_same (λ e s. ap (λ n. (q e).at n s) (sym (first.place.place e))) second.places.does) joined
-      (λ g e at l b h. place_is (Either cond x y) (location_first g e cond x y b) (LocationIs-grown (HeapGrows-trans (heap_as turned.along.heap) (HeapGrows-trans second.places.does.moves.grown (heap_as joined.along.heap))) h))
-      (λ g e at l b h. place_is (Either cond x y) (location_second g e cond x y b) (LocationIs-grown (heap_as joined.along.heap) h));
+      (λ g e at l b grown h. place_is (Either cond x y) (location_first g e cond x y b) (LocationIs-grown grown h))
+      (λ g e at l b grown h. place_is (Either cond x y) (location_second g e cond x y b) (LocationIs-grown grown h));
   there = either_stands (whole.sorts _ BoolSort c) (PlaceStands-keeps (Keeps-trans second.places.does.moves.keeps joined.keeps) first.places.there) (PlaceStands-keeps joined.keeps second.places.there);
   place = record { place = λ e. omega (arith, first.place.place e, second.place.place e) };
 })
@@ -160,6 +155,6 @@ assigned {a} {i = i} {j = j} span x y first second on = record {
   executes = executes_same (λ e at.
       ap (λ n. assign span ((expr_part a x e).at i) ((expr_part a y e).at n) at) (sym (first.place.place e))
       ∙ stored span ((target_part a span x e).at i at) ((eval_part a span y e).at j))
-      (executes_on (does_beside first.places.does second.evaluates.does (λ g e location later h. LocationIs-grown second.evaluates.does.moves.grown h)) on);
+      (executes_on (does_beside first.places.does second.evaluates.does (λ g e location later grown h. LocationIs-grown grown h)) on);
   place = record { place = λ e. omega (arith, first.place.place e, second.place.place e) };
 }

@@ -139,7 +139,7 @@ two_evaluated {i = i} {p = p} {q = q} {m = m} first second on = record {
     does = does_same (λ e at.
         ap (λ n. and_then ((p e).at i at) (λ v s. and_then ((q e).at n s) (λ w. m e (v, w)))) (sym (first.place.place e))
         ∙ pairs ((p e).at i at) ((q e).at _) (m e))
-        (does_on (does_beside first.evaluates.does second.evaluates.does (λ g e v l is. IsWorth-grown second.evaluates.does.moves.grown is)) on.does);
+        (does_on (does_beside first.evaluates.does second.evaluates.does (λ g e v l grown is. IsWorth-grown grown is)) on.does);
     there = on.there;
   };
   place = record { place = λ e. omega (arith, first.place.place e, second.place.place e) };
@@ -189,7 +189,7 @@ executes_cut {x} {d0} {d1} {s0} {s1} {m} n h = record {
   where
     by : (g : Graph) (e : Env) (t : Step Flow) → SeesFlow g e x.fun.now s1 t → SeesFlow g e x.fun.now (with_slots s1 (take n s1.frame.slots)) t
     by g e (Goes Onward at) h = slots_show (take n s1.frame.slots) at.slots (front_cut s1.frame.slots n at.slots h.slots) h
-    by g e (Goes (Returns v) at) h = record { path = h.path; failed = h.failed; skipped = h.skipped; returned = h.returned; cost = h.cost; heap = h.heap; lives = h.lives; ended = h.ended }
+    by g e (Goes (Returns v) at) h = record { path = h.path; failed = h.failed; skipped = h.skipped; returned = h.returned; cost = h.cost; heap = h.heap; lives = h.lives; ended = h.ended; free = h.free }
     by g e (Fails span) h = record { path = h.path; failed = h.failed; skipped = h.skipped; returned = h.returned }
     by g e (Skips span) h = record { path = h.path; failed = h.failed; skipped = h.skipped; returned = h.returned }
 

@@ -16,9 +16,6 @@ use Rattle.sk_prog.specs.declared.value.Value.TheVariants as value
 use Rattle.sk_model.specs.Parts.{Part}
 use Rattle.sk_model.specs.Step.{State, Comp, pure}
 use Rattle.sk_model.specs.Exec.{Flow}
-use Rattle.sk_heap_laws.specs.Heaps.{HeapGrows}
-use Rattle.sk_heap_laws.proofs.Grown.{HeapGrows-refl, HeapGrows-trans}
-use Rattle.sk_heap.specs.declared.slot.Slot.{Slot}
 use Rattle.sk_sym_state.specs.declared.branch.Side.{Side}
 use Rattle.sk_sym_state.specs.declared.setting.Setting.{Setting}
 use Rattle.sk_sym_state.specs.declared.state.SymState.{SymState}
@@ -93,13 +90,11 @@ AreJoined-keeps h k whole = record {
   path = λ g e more. h.path g e (k.later g more);
   first = λ g e values more. h.first g e values (k.later g more);
   second = λ g e values more. h.second g e values (k.later g more);
+  cursor = record { first = λ g e more. h.cursor.first g e (k.later g more); second = λ g e more. h.cursor.second g e (k.later g more); one = h.cursor.one };
 }
 
 pub joined_kept : {x : Setting} {d0 d1 d2 : Graph} {s0 s1 : SymState} {cond : BoolId} {gone : Side} → AreJoined x d0 d1 s0 s1 cond gone → Keeps d1 d2 → Keeps d0 d2 → AreJoined x d0 d2 s0 s1 cond gone
 joined_kept h k whole = AreJoined-keeps h k whole
-
-heap_as : {x y : List Slot} → y ≡ x → HeapGrows x y
-heap_as {x} e = subst (HeapGrows x) (sym e) (HeapGrows-refl x)
 
 module _ {a : Activation} {d1 d2 d3 d4 d5 : Graph} {s1 s2 s3 s4 s5 s6 : SymState} {cond : BoolId} {waits gone : Side} {i j k : ℕ} (span : Span) where
   pub both_executed : {p q : Env → Part (Comp Flow)} → IsForked a.setting d1 d2 s1 s2 cond waits → IsExecuted a d2 d3 s2 s3 i j p → AreTurned s3 s4 waits gone → IsExecuted a d3 d4 s4 s5 j k q → AreJoined a.setting d4 d5 s5 s6 cond gone → IsExecutedOn a d1 d5 s1 s6 i k (IsBit cond) (either_part span p q)
@@ -112,8 +107,8 @@ module _ {a : Activation} {d1 d2 d3 d4 d5 : Graph} {s1 s2 s3 s4 s5 s6 : SymState
   both_evaluated {p} {q} {x} {y} {r} forked first turned second with = record {
     evaluates = record {
       does = branch_does span forked first.evaluates.does turned (does_same (λ e s. ap (λ n. (q e).at n s) (sym (first.place.place e))) second.evaluates.does) with.joined
-          (λ g e v l c w. worth_same (with.choice.value g l.grows e ∙ ap (λ b. if b then shape_value g e x else shape_value g e y) c) (IsWorth-grown (HeapGrows-trans (heap_as turned.along.heap) (HeapGrows-trans second.evaluates.does.moves.grown (heap_as with.joined.along.heap))) w))
-          (λ g e v l c w. worth_same (with.choice.value g l.grows e ∙ ap (λ b. if b then shape_value g e x else shape_value g e y) c) (IsWorth-grown (heap_as with.joined.along.heap) w));
+          (λ g e v l c grown w. worth_same (with.choice.value g l.grows e ∙ ap (λ b. if b then shape_value g e x else shape_value g e y) c) (IsWorth-grown grown w))
+          (λ g e v l c grown w. worth_same (with.choice.value g l.grows e ∙ ap (λ b. if b then shape_value g e x else shape_value g e y) c) (IsWorth-grown grown w));
       there = with.choice.stands;
     };
     place = record { place = λ e. omega (arith, first.place.place e, second.place.place e) };
@@ -123,8 +118,8 @@ module _ {a : Activation} {d1 d2 d3 d4 d5 : Graph} {s1 s2 s3 s4 s5 s6 : SymState
 pub guarded_is : {a : Activation} {d1 d2 d3 d4 : Graph} {s1 s2 s3 s4 s5 : SymState} {cond y : BoolId} {waits gone : Side} {i j : ℕ} (span : Span) {p : Env → Part (Comp Value)} → IsForked a.setting d1 d2 s1 s2 cond waits → IsEvaluated a d2 d3 s2 s3 i j p (shape.Bit y) → AreTurned s3 s4 waits gone → StateStands d3 a.setting.expanded.now.prog s4 → AreJoined a.setting d3 d4 s4 s5 cond gone → HasBool d4.nodes y → IsGuarded a d1 d4 s1 s5 i j span cond p y
 guarded_is {a} {d3 = d3} {s4 = s4} {cond = cond} {y = y} span {p} forked h turned stands joined there = record {
   does = branch_does span forked h.evaluates.does turned nothing joined
-      (λ g e v l c w. bit_worth w ∙ ap (λ b. value.Bit (b && bool_value g e y)) (sym c))
-      (λ g e v l c is. is ∙ ap (λ b. value.Bit (b && bool_value g e y)) (sym c));
+      (λ g e v l c grown w. bit_worth w ∙ ap (λ b. value.Bit (b && bool_value g e y)) (sym c))
+      (λ g e v l c grown is. is ∙ ap (λ b. value.Bit (b && bool_value g e y)) (sym c));
   there = there;
   place = h.place;
 }
