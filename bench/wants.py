@@ -11,7 +11,7 @@ kinds whose names hold WORD.
 
 A run that ends with status 17 while it held at most a quarter of MIB (4,096) is a want: its words and text go to FOLDER
 (wants-found), and it is told. So is a run that the system ended. Where LANGUAGE states that memory counts as wanting, past
-4,096 levels of a run, 768 of copies and 512 blocks of cases, the run is counted as stated, and so is one that held more than that
+4,096 levels of a run, 2,044 arguments of a call in `synth`, 768 levels of copies and 512 blocks of cases, the run is counted as stated, and so is one that held more than that
 quarter as full. A run of more than SECONDS (10) of processor time is cut off, and counted apart. The script prints for each kind how many
 runs ended with each status, and ends with status 1 where there is a want or a run that the system ended.
 """
@@ -37,6 +37,7 @@ import makers  # noqa: E402
 
 MEMORY_WANTED = 17
 LEVELS, COPIES, CASES = 4096, 768, 512
+ARGUMENTS = 2044
 SHORT = "--rounds 3 --conflicts 1000"
 GIVEN = None  # what the script was given
 
@@ -294,7 +295,7 @@ def many():
         for by_ref in ("", "ref "):
             params, given = ", ".join(f"{by_ref}int p{k}" for k in range(count)), ", ".join("x" for _ in range(count))
             called = f"void f({params}) {{ assert p0 >= 0; }}\n"
-            yield Text(kind, f"synth --bnd-inbits 1 {SHORT}".split(), f"{called}harness void main(int x) {{ f({given}); assert x >= ??(1); }}")
+            yield Text(kind, f"synth --bnd-inbits 1 {SHORT}".split(), f"{called}harness void main(int x) {{ f({given}); assert x >= ??(1); }}", count > ARGUMENTS)
             yield Text(kind, ["exec", "main", "1"], f"{called}void main(int x) {{ f({given}); }}")
     grid = "int[16][16] a"
     yield Text(kind, f"synth --bnd-inbits 15 {SHORT}".split(), f"harness void main({grid}) {{ assert a[??(4)][3] == a[2][3]; }}")
