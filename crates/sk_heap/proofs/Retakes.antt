@@ -1,5 +1,5 @@
 -- Slots that are taken once more.
-use Rattle.std.proofs.lemmas.Option.{none-some, same_Some, slice_get_within, slice_get-get_or, slice_get_read, get_or_from_slice_get}
+use Rattle.std.proofs.lemmas.Option.{none-some, same_Some, slice_get_within, slice_get-get_or, slice_get_read}
 use Rattle.std.proofs.lemmas.List.Elements.{All-nil, All-cons}
 use Rattle.std.proofs.Common.{◌≡◌, ℕ, zero, suc, ◌+◌, ◌<◌, ◌≤◌, Bool, true, false, ◌||◌, List, [], ◌∷◌, ◌++◌, length, map, slice_get, slice_set, get_or, Some, IsTrue, refl, sym, ap, subst, ◌∙◌, arith, ◌⊎◌, inl, inr, ⊎_elim, if◌then◌else◌}
 use Rattle.sk_dag.specs.declared.env.Env.{Env}
@@ -12,10 +12,10 @@ use Rattle.sk_dag.specs.Eval.{bool_value, Keeps}
 use Rattle.sk_dag.specs.EvalShape.{shape_value}
 use Rattle.sk_dag.proofs.EvalLemmas.{Keeps-trans}
 use Rattle.sk_arr.specs.Held.{held_in, AllIn, AllPass}
-use Rattle.sk_arr.specs.Shapes.{blank, Stands, AllStand}
+use Rattle.sk_arr.specs.Shapes.{blank, AllStand}
 use Rattle.sk_arr.specs.Answers.{shapes_value, IsChoice}
 use Rattle.sk_arr.proofs.Standing.{Stands-keeps, AllStand-keeps, reference_stands}
-use Rattle.sk_arr.proofs.Values.{length_map, reference_passes}
+use Rattle.sk_arr.proofs.Values.{reference_passes}
 use Rattle.sk_prog.specs.declared.ids.StructId.{StructId}
 use Rattle.sk_prog.specs.declared.ty.Ty.{Ty}
 use Rattle.sk_prog.specs.declared.prog.FieldDef.{FieldDef}
@@ -24,8 +24,8 @@ use Rattle.sk_heap.specs.declared.slot.Slot.{Slot}
 use Rattle.sk_heap.specs.Types.{form_of, elem_of, type_in, field_form, fields_of, field_types}
 use Rattle.sk_heap.specs.Zeros.{AreZeros}
 use Rattle.sk_heap.specs.Heaps.{is_of, may_name, IsOfType, SlotStands, HeapStands, RefersTo}
-use Rattle.sk_heap.specs.Retakes.{IsChosenAt, AreChosen, IsRefilled, IsRefilledAt, IsRetaken}
-use Rattle.sk_heap.proofs.Heaps.{StaysOf, IsOfType-more, SlotStands-more, of_there, there_of, mapped_at, slot_stands}
+use Rattle.sk_heap.specs.Retakes.{IsChosenAt, AreChosen, IsRefilledAt, IsRetaken}
+use Rattle.sk_heap.proofs.Heaps.{StaysOf, IsOfType-more, SlotStands-more, of_there, there_of, slot_stands}
 use Rattle.sk_heap.proofs.Allocs.{slot_of_zeros, forms}
 
 -- ---- lists with one element replaced

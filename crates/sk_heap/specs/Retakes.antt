@@ -1,5 +1,5 @@
 -- Slots that are taken once more: by allocations of the same struct that exclude each other.
-use Rattle.std.specs.Prelude.{◌≡◌, ℕ, Bool, ◌||◌, List, [], ◌∷◌, length, map, Some, slice_get, slice_set, if◌then◌else◌}
+use Rattle.std.specs.Prelude.{◌≡◌, ℕ, ◌||◌, List, [], ◌∷◌, length, map, Some, slice_get, slice_set, if◌then◌else◌}
 use Rattle.sk_dag.specs.declared.env.Env.{Env}
 use Rattle.sk_dag.specs.declared.node.BoolId.{BoolId}
 use Rattle.sk_dag.specs.declared.shape.Shape.{Shape}

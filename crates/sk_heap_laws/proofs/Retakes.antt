@@ -1,6 +1,6 @@
 -- What it does to the records of a heap that a slot is taken once more, under a guard.
 use Rattle.std.proofs.lemmas.Option.{none-some, same_Some, slice_get_within}
-use Rattle.std.proofs.Common.{◌≡◌, ℕ, zero, suc, ◌+◌, ◌<◌, ◌≤◌, ◌||◌, Bool, true, false, true≢false, List, [], ◌∷◌, ◌++◌, map, length, IsTrue, Some, None, slice_get, slice_set, refl, sym, ap, subst, ◌∙◌, arith, ◌⊎◌, inl, inr, ⊎_elim, if◌then◌else◌}
+use Rattle.std.proofs.Common.{◌≡◌, ℕ, zero, suc, ◌+◌, ◌≤◌, ◌||◌, Bool, true, false, true≢false, List, [], ◌∷◌, ◌++◌, map, length, Some, None, slice_get, slice_set, refl, sym, ap, subst, ◌∙◌, arith, ◌⊎◌, inl, inr, ⊎_elim, if◌then◌else◌}
 use Rattle.sk_dag.specs.declared.env.Env.{Env}
 use Rattle.sk_dag.specs.declared.node.BoolId.{BoolId}
 use Rattle.sk_dag.specs.declared.shape.Seen.TheVariants as seen
@@ -25,7 +25,7 @@ use Rattle.sk_heap_laws.specs.Values.{place_of, guard_holds, holds_in, value_of,
 use Rattle.sk_heap_laws.specs.Heaps.{records_of, record_in, heap_value, HeapLive, StructsGrow, HeapGrows, HoldAlike, AreFree}
 use Rattle.sk_heap_laws.proofs.Parts.{of_slot, live_slot, live_null}
 use Rattle.sk_heap_laws.proofs.Values.{split, place_agrees}
-use Rattle.sk_heap_laws.proofs.Grown.{holds_at, alike_grows, all_live_grows, values_grow}
+use Rattle.sk_heap_laws.proofs.Grown.{holds_at, alike_grows, all_live_grows}
 use Rattle.sk_heap_laws.proofs.Records.{place_length}
 use Rattle.sk_heap_laws.proofs.Heaps.{zeros_are, forms_live, values_are, records_grow}
 use Rattle.sk_heap_laws.proofs.Fields.{get_set_other, map_set}

@@ -8,7 +8,7 @@ use Rattle.sk_arr.specs.Answers.{shapes_value}
 use Rattle.sk_prog.specs.declared.ids.StructId.{StructId}
 use Rattle.sk_prog.specs.declared.value.Value.{Value}
 use Rattle.sk_heap.specs.declared.slot.Slot.{Slot}
-use Rattle.sk_heap.specs.Answers.{guard_of, struct_of}
+use Rattle.sk_heap.specs.Answers.{struct_of}
 use Rattle.sk_heap_laws.specs.Values.{holds_in, values_in, AllLive}
 
 -- of those slots whose truth value holds, in their order

@@ -1,5 +1,5 @@
 -- What stays where the run does not go on, and what a state is that is another but for its path and its variables.
-use Rattle.std.proofs.Common.{◌≡◌, ◌≤◌, true, false, List, ◌++◌, refl, sym, ap, subst, ◌∙◌, arith, ◌⊎◌, inl, inr}
+use Rattle.std.proofs.Common.{◌≡◌, ◌≤◌, true, false, List, ◌++◌, refl, sym, ap, subst, ◌∙◌, arith, inl, inr}
 use Rattle.std.specs.Prelude.{Option}
 use Rattle.sk_dag.specs.declared.env.Env.{Env}
 use Rattle.sk_dag.specs.declared.shape.Shape.{Shape}

@@ -69,10 +69,10 @@ pub record AreOneOf (d : Graph) (cond : BoolId) (gone : Side) (path : BoolId) (s
   pub second : (g : Graph) (e : Env) → Grows d g → bool_value g e cond ≡ false → bool_value g e path ≡ true → AreFrontIn g e slots made
 
 -- where a way goes on to its end, its cursor is at or before this one, which is that of one way
-pub record IsCursorBehind (d : Graph) (first : BoolId) (first_cursor : ℕ) (second : BoolId) (second_cursor cursor : ℕ) : Type 0 where
-  pub first : (g : Graph) (e : Env) → Grows d g → bool_value g e first ≡ true → first_cursor ≤ cursor
-  pub second : (g : Graph) (e : Env) → Grows d g → bool_value g e second ≡ true → second_cursor ≤ cursor
-  pub one : (cursor ≡ first_cursor) ⊎ (cursor ≡ second_cursor)
+pub record IsCursorBehind (d : Graph) (gone : BoolId) (gone_cursor : ℕ) (path : BoolId) (path_cursor cursor : ℕ) : Type 0 where
+  pub first : (g : Graph) (e : Env) → Grows d g → bool_value g e gone ≡ true → gone_cursor ≤ cursor
+  pub second : (g : Graph) (e : Env) → Grows d g → bool_value g e path ≡ true → path_cursor ≤ cursor
+  pub one : (cursor ≡ gone_cursor) ⊎ (cursor ≡ path_cursor)
 
 -- the two ways come together again: the one that was gone first, and the state
 pub record AreJoined (x : Setting) (d0 d1 : Graph) (s0 s1 : SymState) (cond : BoolId) (gone : Side) : Type 0 where

@@ -1,6 +1,5 @@
 use Rattle.std.proofs.Common.{◌≡◌, ◌<◌, length, get_or, arith, subst}
 use Rattle.sk_dag.proofs.EvalLemmas.{Keeps-trans}
-use Rattle.sk_arr.proofs.Makers.{Keeps-refl}
 use Rattle.sk_arr.proofs.Standing.{Stands-keeps}
 use Rattle.sk_arr.proofs.Choices.{forms_long, forms_alike, stand_at}
 use Rattle.sk_heap.proofs.Retakes.{chosen_more}
