@@ -16,6 +16,7 @@ use Rattle.sk_arr.specs.Shapes.{Stands}
 use Rattle.sk_arr.proofs.Standing.{Stands-keeps}
 use Rattle.sk_arr.proofs.Values.{length_map, reference_passes}
 use Rattle.sk_prog.specs.declared.ids.StructId.{StructId}
+use Rattle.sk_prog.specs.declared.prog.Prog.{Prog}
 use Rattle.sk_prog.specs.declared.value.Value.{Value}
 use Rattle.sk_prog.specs.declared.value.Value.TheVariants as value
 use Rattle.sk_heap.specs.declared.slot.Slot.{Slot}
@@ -206,9 +207,10 @@ allocates {x} {d0} {d1} {s0} {s} {heap} {structs} {target} {cursor} h keeps stan
     takes cursor h keeps stands kinds (subst (λ n. IsTaken d1 x.expanded.now.prog s0.path s s0.heap heap target s0.cursor n) same (pushed_taken s0.cursor is))
 
 -- a record at a slot that is there
-pub takes_again : {x : Setting} {d0 d1 : Graph} {s0 : SymState} {s : StructId} {place : ℕ} {heap : List Slot} {target : Targets} → StateStands d0 x.expanded.now.prog s0 → Keeps d0 d1 → HeapStands d1 x.expanded.now.prog heap → s0.cursor ≤ place → IsRetaken d1 x.expanded.now.prog s0.path s place s0.heap heap target
-    → Evaluates x d0 d1 s0 (record s0 { heap = heap; cursor = place + 1 }) (shape.Reference target) (λ e. allocate x.expanded.now.prog s [])
-takes_again {s0 = s0} {place = place} h keeps stands up is = takes (place + 1) h keeps stands (retaken_kinds is ∙ h.structs) (again_taken s0.cursor up is)
+pub takes_again : {x : Setting} {d0 d1 : Graph} {s0 : SymState} {s : StructId} {place cursor : ℕ} {heap : List Slot} {target : Targets} → StateStands d0 x.expanded.now.prog s0 → Keeps d0 d1 → HeapStands d1 x.expanded.now.prog heap → s0.cursor ≤ place → IsRetaken d1 x.expanded.now.prog s0.path s place s0.heap heap target → cursor ≡ place + 1
+    → Evaluates x d0 d1 s0 (record s0 { heap = heap; cursor = cursor }) (shape.Reference target) (λ e. allocate x.expanded.now.prog s [])
+takes_again {x} {d0} {d1} {s0} {s} {place} {cursor} {heap} {target} h keeps stands up is behind =
+    takes cursor h keeps stands (retaken_kinds is ∙ h.structs) (subst (λ n. IsTaken d1 x.expanded.now.prog s0.path s s0.heap heap target s0.cursor n) (sym behind) (again_taken s0.cursor up is))
 
 -- ---- the next slot of a struct
 

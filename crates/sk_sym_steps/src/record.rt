@@ -1,6 +1,6 @@
 //! Records and their fields.
 
-ghost use Rattle.std.specs.Prelude.{◌≡◌, ◌↔◌, IfOk, IsTrue, MatchOption, []};
+ghost use Rattle.std.specs.Prelude.{◌≡◌, ◌↔◌, ◌+◌, ◌<◌, length, IfOk, IsTrue, MatchOption, []};
 ghost use Rattle.sk_dag.specs.Eval.{Keeps};
 ghost use Rattle.sk_arr.specs.Held.{AllPass};
 ghost use Rattle.sk_arr.specs.Shapes.{Stands};
@@ -68,6 +68,14 @@ fn next_of(structs: &[StructId], s: StructId, from: usize) -> Option<usize>
     None
 }
 
+/// The place behind one of a list.
+fn behind(structs: &[StructId], place: usize) -> usize
+    requires { place < length structs.now }
+    ensures { result ≡ place + 1 }
+{
+    place + 1
+}
+
 /// Whether each target is a slot of a struct.
 #[tactic(auto, using(crate::proofs::Records::other_kind))]
 pub fn are_kind(structs: &[StructId], s: StructId, targets: &[(u32, BoolId)]) -> bool
@@ -125,7 +133,7 @@ fn allocate_again(
     let target = state
         .heap
         .retake_under(setting.alloc, dag, prog, path, s, place)?;
-    state.cursor = place + 1;
+    state.cursor = behind(state.structs.as_slice(), place);
     Ok(Shape::Reference(target))
 }
 
