@@ -1,13 +1,14 @@
 #!/usr/bin/env python3
 """Measures what README.md says of the first minute: what it takes to try the program, what of that is the program's, and what it takes to build it.
 
-    first_minute.py try                              `rt try` of `sketch`, of `sketch_check`, and of a program of the kit that does next to nothing
+    first_minute.py try [N [WORD]]                   `rt try` of `sketch`, of `sketch_check`, and of a program of the kit that does next to nothing, N times each (2), or of
+                                                     those in whose line the word stands
     first_minute.py linked [SKETCH SKETCH_CHECK]     what the two are built of, and the bytes of the built ones
     first_minute.py run                              `rt run` of `sketch` where nothing is proved yet: an hour and more of all processors
 
 It works on a clone of the last commit in a temporary folder, so no `out/` of this checkout plays a part. Of each run it prints the seconds of wall, those of a
-processor (of all processes together), the most memory of one process, and how it ended. `try` runs each line twice: the second shows whether anything is kept. What a line
-takes more than the kit's program, and than `--version`, is the program's, and the search's."""
+processor (of all processes together), the most memory of one process, and how it ended. A second run of a line shows whether anything is kept. What a line takes more
+than the kit's program is the program's, and what it takes more than `--version` is the search's."""
 import pathlib
 import resource
 import subprocess
@@ -20,7 +21,6 @@ TOP = pathlib.Path(__file__).resolve().parents[1]
 LINES = [
     ("sketch", "synth", ["doubled.sk"]),
     ("sketch", "synth", ["turned_list.sk"]),
-    ("sketch", "exec greatest_divisor 84 36", ["greatest_divisor.sk"]),
     ("sketch", "--version", []),
     ("sketch_check", "", ["climbed.sk", "climbed.cert"]),
 ]
@@ -42,13 +42,16 @@ def timed(title, words, where, text=b""):
     return ran.returncode
 
 
-def tried():
+def tried(runs="2", word=""):
     with tempfile.TemporaryDirectory() as folder:
         top = clone(folder)
         subprocess.run(["rt", "new", f"{folder}/nothing", "start_io"], check=True, capture_output=True)
-        for number in (1, 2):
-            timed(f"the kit's program, {number}", ["rt", "try"], f"{folder}/nothing", b"tea 95\n")
+        for number in range(1, int(runs) + 1):
+            if word in "the kit's program":
+                timed(f"the kit's program, {number}", ["rt", "try"], f"{folder}/nothing", b"tea 95\n")
             for crate, words, files in LINES:
+                if word not in f"{crate} {words} {' '.join(files)}":
+                    continue
                 text = b"//%%\n".join((top / "examples" / it).read_bytes() for it in files)
                 timed(f"{crate} {words} < {' '.join(files) or 'nothing'}, {number}", ["rt", "try", "--", *words.split()], top / "crates" / crate, text)
     return 0

@@ -3,14 +3,15 @@
 
     gallery.py [--sketch PATH] [--runs N] [--limit SECONDS]
 
-Times are medians of N runs (5 if left out), one after another, in seconds of user time of the whole process, start and
-reading included; a run is cut off after SECONDS (60). The status is 1 where an answer is none of those of its row."""
+A time is the least of N runs (5 if left out), one after another, in seconds of user time of the whole process, start and
+reading included, since other work on the machine makes a run longer alone; a run is cut off after SECONDS (60). The status is 1 where an answer is none
+of those of its row."""
 import argparse
 import pathlib
 import re
 import sys
 
-from search import TOP, median
+from search import TOP, timed
 
 ROWS = TOP / "crates/rows_commands/data/examples.txt"
 
@@ -22,6 +23,14 @@ def rows():
         title, words = head.split("\n")[:2]
         if words.split()[:1] == ["synth"]:
             yield title, words.split(), parts[1], [(int(mark.split()[-1]), out) for mark, out in zip(parts[2::2], parts[3::2])]
+
+
+def least(words, limit, runs, text):
+    """The status and the output of the first run, and the least of the times; a run that was cut off is not run again."""
+    status, out, time = timed(words, limit, text)
+    for _ in range(runs - 1 if status is not None else 0):
+        time = min(time, timed(words, limit, text)[2])
+    return status, out, time
 
 
 def fits(found, wanted):
@@ -38,7 +47,7 @@ def main():
     if not pathlib.Path(given.sketch).is_file():
         sys.exit(f"gallery: {given.sketch} is not there")
     for title, words, text, answers in rows():
-        status, out, time = median([given.sketch, *words], given.limit, given.runs, text)
+        status, out, time = least([given.sketch, *words], given.limit, given.runs, text)
         fine = any(fits((status, out), wanted) for wanted in answers)
         wrong += not fine
         print(f"{time:7.3f} s  {title}{'' if fine else f'  WRONG: {status}'}", flush=True)
