@@ -1,5 +1,4 @@
-use Rattle.std.proofs.Common.{List, sym, subst}
-use Rattle.sk_cert.specs.declared.certificate.CertInput.{CertInput}
+use Rattle.std.proofs.Common.{sym, subst}
 use Rattle.sk_cert_inputs.specs.Inputs.{AreApart, AreSomeListed}
 use Rattle.sk_check.proofs.parts.test_inputs.Goals as goal
 
