@@ -1,5 +1,5 @@
 -- Whether inputs are read, part by part.
-use Rattle.std.proofs.Common.{◌≡◌, ◌∷◌, ◌+◌, ◌-◌, ◌<◌, ◌∙◌, ℕ, suc, List, [], Option, Some, None, Bool, true, false, take, drop, refl, sym, ap, arith, true≢false}
+use Rattle.std.proofs.Common.{◌≡◌, ◌+◌, ◌-◌, ◌<◌, ◌∙◌, ℕ, suc, List, Option, Some, None, Bool, true, false, take, drop, refl, sym, ap, arith, true≢false}
 use Rattle.std.specs.Prelude.{ℤ, option_map, IsTrue, ◌↔◌}
 use Rattle.std.specs.Option.{is_some}
 use Rattle.sk_base.specs.declared.bounds.Bounds.{Bounds}
