@@ -3,7 +3,7 @@
 
     hostile.py PROGRAM [--only WORD] [--size BYTES]
 
-PROGRAM is the built `sketch`. Inputs have BYTES (67,108,864, as many as `check` reads) or the number of parts that their title says. A run is cut off after 300 seconds. A line gives
+PROGRAM is the built `sketch`; GNU `time` has to stand in /usr/bin. Inputs have BYTES (67,108,864, as many as `check` reads) or the number of parts that their title says. A run is cut off after 300 seconds. A line gives
 the input, how long it is, how the program ended, its user time, the most memory that it held, and that as a multiple of the input."""
 import argparse
 import os
@@ -77,15 +77,24 @@ def alike_inputs(size):
     return f"{SKETCH}//%%\n{LAYOUT}{HEAD}//@ inputs {count}\n{line * count}{UPPER}{END}"
 
 
-def other_inputs(size):
-    """Inputs of which no two are alike."""
-    lines, left, k = [], whole(size) - 400, 0
+def unlike(size):
+    """Lines of inputs of which no two are alike."""
+    lines, left, k = [], whole(size) - 500, 0
     while left > 0:
         lines.append(f"//@ input 0 {k % 256},{k // 256 % 256},{k // 65536},0\n")
         left -= len(lines[-1])
         k += 1
-    part = "//@ upper 0 32 1 1\n//@ names " + " ".join(map(str, range(1, 33))) + "\n//@ c\n//@ l\n"
-    return f"{ARRAY}//%%\n{LAYOUT.replace('int x', 'int[4] a')}{HEAD}//@ inputs {k}\n{''.join(lines)}{part}{END}"
+    return f"//@ inputs {k}\n{''.join(lines)}//@ upper 0 32 1 1\n//@ names {' '.join(map(str, range(1, 33)))}\n//@ c\n//@ l\n"
+
+
+def other_inputs(size):
+    return f"{ARRAY}//%%\n{LAYOUT.replace('int x', 'int[4] a')}{HEAD}{unlike(size)}{END}"
+
+
+def paid_inputs(size):
+    """The same of a program that pays 1, so that a lower part asks for all of them."""
+    program, head = "harness void f(int[4] a) {\n    minimize(1);\n}\n", HEAD.replace("value 0", "value 1")
+    return f"{program}//%%\n{program}{head}{unlike(size)}//@ lower 0 1 1\n//@ names\n//@ c\n//@ l\n{END}"
 
 
 def names(size):
@@ -145,6 +154,7 @@ CASES = [
     ("empty clauses in a formula", [], empty_clauses),
     ("inputs that are alike", [], alike_inputs),
     ("inputs of which no two are alike", ["--bnd-inbits", "8"], other_inputs),
+    ("such inputs and a lower part", ["--bnd-inbits", "8"], paid_inputs),
     ("names of a formula", [], names),
     ("1,000,000 variables that no clause has", [], variables(1000000)),
     ("10,000,000 variables that no clause has", [], variables(10000000)),
@@ -163,20 +173,21 @@ CASES = [
 
 
 def run(program, words, text):
-    """How the program ends, its user time, and the most memory that it held, in MiB."""
+    """How the program ends, its user time, and the most memory that it held, in MiB. GNU `time` takes both: of a process that this one makes, the system counts this one's memory too."""
     def cap():
         resource.setrlimit(resource.RLIMIT_CPU, (LIMIT, LIMIT + 1))
         resource.setrlimit(resource.RLIMIT_AS, (ROOM, ROOM))
 
-    with tempfile.TemporaryFile() as file:
+    with tempfile.TemporaryFile() as file, tempfile.NamedTemporaryFile("r") as taken:
         file.write(text)
         file.seek(0)
-        asked = subprocess.Popen([program, "check", *words], stdin=file, stdout=subprocess.PIPE, stderr=subprocess.STDOUT, preexec_fn=cap, env={"SKETCH_EXPLAIN": "0"})
-        said = asked.stdout.read()
-        _, status, used = os.wait4(asked.pid, 0)
-        asked.returncode = os.waitstatus_to_exitcode(status)
-    ended = said.decode("latin1").split("\n")[0]
-    return ended if asked.returncode >= 0 else f"signal {-asked.returncode}", used.ru_utime, used.ru_maxrss / 1024
+        line = ["/usr/bin/time", "-o", taken.name, "-f", "%U %M", program, "check", *words]
+        asked = subprocess.run(line, stdin=file, stdout=subprocess.PIPE, stderr=subprocess.STDOUT, preexec_fn=cap, env={"SKETCH_EXPLAIN": "0"}, check=False)
+        *ended, used = taken.read().splitlines()
+    if not ended or asked.returncode < 128:
+        ended = asked.stdout.decode("latin1").splitlines()
+    time, memory = used.split()
+    return ended[0], float(time), int(memory) / 1024
 
 
 def main():

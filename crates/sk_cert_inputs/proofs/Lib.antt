@@ -4,5 +4,5 @@ mod Options
 mod Values
 mod Arguments
 mod Listings
-mod Numerals
+mod Tested
 mod Fresh
