@@ -57,11 +57,7 @@ fn push_both(
 }
 
 // The line that shows that a search goes on, without its end, after so many seconds.
-fn progress_line(
-    alloc: Global,
-    statistics: &Statistics,
-    seconds: u64,
-) -> Result<Note, AllocError>
+fn progress_line(alloc: Global, statistics: &Statistics, seconds: u64) -> Result<Note, AllocError>
     ensures { IfOk result (λ note. note.bytes.items ≡ progress_text statistics.now seconds) }
 {
     let mut note = Note::new(alloc);
