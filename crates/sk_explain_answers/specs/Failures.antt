@@ -1,5 +1,5 @@
 -- At which statement runs of pairs fail.
-use Rattle.std.specs.Prelude.{ℕ, ◌≡◌, ◌<◌, List, [], ◌∷◌, Option, Some, None, length, slice_get}
+use Rattle.std.specs.Prelude.{ℕ, ⊤, ◌≡◌, ◌<◌, List, [], ◌∷◌, Option, Some, None, length, slice_get}
 use Rattle.std.specs.Option.{option_and_then}
 use Rattle.sk_base.specs.declared.bounds.Bounds.{Bounds}
 use Rattle.sk_base.specs.declared.span.Span.{Span}
