@@ -1,5 +1,5 @@
 -- What the roots keep over two graphs, and what a node is worth that was written anew.
-use Rattle.std.proofs.Common.{◌≡◌, ℕ, ◌<◌, List, All, Some, length, slice_get, refl, sym, ap, subst, ◌∙◌, arith}
+use Rattle.std.proofs.Common.{◌≡◌, ℕ, ◌<◌, List, All, Some, not, if◌then◌else◌, length, slice_get, refl, sym, ap, subst, ◌∙◌, arith}
 use Rattle.std.proofs.lemmas.Option.{same_Some, slice_get_within, slice_get-get_or, get_or_from_slice_get}
 use Rattle.std.proofs.lemmas.List.Elements.{All-from_get_or}
 use Rattle.sk_dag.specs.declared.env.Env.{Env}
@@ -45,3 +45,21 @@ IsWorth-made {a} {b} {node} {i} made = record {
   there = made.sort;
   value = λ g more e. made.value g more e ∙ ap (λ w. value_of w e (graph_values g e) node) (sym made.grows.bits);
 }
+
+-- a node that has from now on the value of an exclusive or
+pub IsWorth-sum : {a b : Graph} {x y : BoolId} (plain r : BoolId) → IsWellFormed b.bits b.nodes → ((g : Graph) → Grows a g → (e : Env) → bool_value g e plain ≡ (if bool_value g e x then not (bool_value g e y) else bool_value g e y)) → Keeps a b → HasBool b.nodes r → ((g : Graph) → Grows b g → (e : Env) → bool_value g e r ≡ bool_value g e plain) → IsWorth b (Xor x y) r.index
+unfolding bool_value value_of
+IsWorth-sum {a} {b} {x} {y} plain r wf made keeps there same = IsWorth-known wf order known
+  where
+    order : IsReordered (Xor x y) (Xor x y)
+    order = record {
+      sort = refl;
+      may = λ w nodes m. m;
+      value = λ w e vs. refl;
+    }
+
+    known : IsKnown b (Xor x y) r.index
+    known = record {
+      there = there;
+      value = λ g more e. same g more e ∙ made g (keeps.later g more) e;
+    }

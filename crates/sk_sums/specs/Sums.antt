@@ -1,5 +1,5 @@
 -- Sums modulo 2 of the truth values of nodes.
-use Rattle.std.specs.Prelude.{◌≡◌, ℕ, Bool, false, not, List, [], ◌∷◌, All, if◌then◌else◌}
+use Rattle.std.specs.Prelude.{◌≡◌, ◌<◌, ℕ, length, slice_index, Bool, false, not, List, [], ◌∷◌, All, if◌then◌else◌}
 use Rattle.sk_dag.specs.declared.env.Env.{Env}
 use Rattle.sk_dag.specs.declared.value.Value.{Value}
 use Rattle.sk_dag.specs.Graph.{Graph, Grows, HasSort, BoolSort}
@@ -22,6 +22,11 @@ sum_at vs (i ∷ is) = plus (truth_at vs i) (sum_at vs is)
 -- the sum of its terms, and of 1 where it is odd
 unfoldable pub sum_value : List Value → Sum → Bool
 sum_value vs s = plus s.odd (sum_at vs s.terms.items)
+
+-- the number stands at this place of the list
+pub record StandsAt (is : List ℕ) (place i : ℕ) : Type 0 where
+  pub within : place < length is
+  pub here : slice_index is place ≡ i
 
 -- the nodes with these numbers are there, and are truth values
 abbrev pub AreTruths : Graph → List ℕ → Type 0

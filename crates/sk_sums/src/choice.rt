@@ -1,6 +1,6 @@
 //! Which sums are written anew.
 
-ghost use Rattle.std.specs.Prelude.{◌≡◌, ◌<◌, length, IfOk, All};
+ghost use Rattle.std.specs.Prelude.{◌≡◌, ◌<◌, length, IfOk, IfSome, All};
 ghost use Rattle.sk_dag.specs.Graph.{HasBool};
 
 use crate::spread::spread;
@@ -69,32 +69,51 @@ fn mark_tops(dag: &Dag, marks: &[bool], roots: &[BoolId], tops: &mut [bool])
     }
 }
 
-// Whether terms of a node fall away.
-fn cancels(alloc: Global, dag: &Dag, number: usize) -> Result<bool, AllocError>
+// Whether terms of a node fall away; nothing, where it is a sum past the bounds.
+fn cancels(alloc: Global, dag: &Dag, number: usize) -> Result<Option<bool>, AllocError>
     requires { number < length dag.now.nodes }
 {
     match *dag.node(number) {
         Node::Xor(_, _) => match spread(alloc, dag, BoolId { index: number })? {
-            Some(sum) => Ok(sum.cancels),
-            None => Ok(false),
+            Some(sum) => Ok(Some(sum.cancels)),
+            None => Ok(None),
         },
-        _ => Ok(false),
+        _ => Ok(Some(false)),
     }
 }
 
-// A mark for each node: whether it is a sum that is written anew.
-fn chosen(alloc: Global, dag: &Dag, tops: &[bool]) -> Result<Vec<bool>, AllocError>
-    ensures { IfOk result (λ made. length made.items ≡ length dag.now.nodes) }
+// The same for a node that stands elsewhere than in a sum alone; no terms of another fall away.
+fn cancels_on_top(
+    alloc: Global,
+    dag: &Dag,
+    tops: &[bool],
+    number: usize,
+) -> Result<Option<bool>, AllocError>
+    requires { number < length dag.now.nodes }
+{
+    if !is_marked(tops, number) {
+        return Ok(Some(false));
+    }
+    let is = cancels(alloc, dag, number)?;
+    Ok(is)
+}
+
+// A mark for each node: whether it is a sum that is written anew; nothing, where a sum is past the bounds.
+fn chosen(alloc: Global, dag: &Dag, tops: &[bool]) -> Result<Option<Vec<bool>>, AllocError>
+    ensures { IfOk result (λ found. IfSome found (λ made. length made.items ≡ length dag.now.nodes)) }
 {
     let mut made = Vec::with_capacity(alloc, dag.len())?;
     for i in 0..dag.len() {
-        let is = is_marked(tops, i) && cancels(alloc, dag, i)?;
-        made.push(is)?;
+        match cancels_on_top(alloc, dag, tops, i)? {
+            Some(is) => made.push(is)?,
+            None => return Ok(None),
+        }
     }
-    Ok(made)
+    Ok(Some(made))
 }
 
-/// A mark for each node: whether it is a sum whose terms cancel, and stands elsewhere than in a sum alone.
+/// A mark for each node: whether it is a sum whose terms cancel, and stands elsewhere than in a sum alone. No mark is
+/// set where a sum is past the bounds.
 pub(crate) fn cancelling(
     alloc: Global,
     dag: &Dag,
@@ -105,8 +124,13 @@ pub(crate) fn cancelling(
 {
     let mut tops = vec![in alloc; false; dag.len()]?;
     mark_tops(dag, marks, roots, &mut tops);
-    let made = chosen(alloc, dag, &tops)?;
-    Ok(made)
+    match chosen(alloc, dag, &tops)? {
+        Some(made) => Ok(made),
+        None => {
+            let none = vec![in alloc; false; dag.len()]?;
+            Ok(none)
+        }
+    }
 }
 
 /// Whether a mark is set.

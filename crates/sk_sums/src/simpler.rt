@@ -121,7 +121,7 @@ fn cancelled(alloc: Global, first: Simplified) -> Result<Simplified, AllocError>
 }
 
 /// The same truth values over a new graph of the same width, in which no node is an instance of a rule's left side.
-/// Sums modulo 2 of few terms are written without the terms that cancel.
+/// Sums modulo 2 are written without the terms that cancel, if all have few terms.
 pub fn simplify_sums(alloc: Global, dag: &Dag, roots: &[BoolId]) -> Result<Simplified, AllocError>
     requires { All (HasBool dag.now.nodes) roots.now }
     ensures width { IfOk result (λ made. made.dag.bits ≡ dag.now.bits) }

@@ -1,20 +1,20 @@
 //! The terms of a sum modulo 2.
 
-ghost use Rattle.std.specs.Prelude.{◌≡◌, ◌≤◌, ◌<◌, List, All, length, slice_index, OnOk, IfOk, IfSome};
+ghost use Rattle.std.specs.Prelude.{◌≡◌, ◌≤◌, ◌<◌, List, true, All, length, slice_index, OnOk, IfOk, IfSome, IsTrue};
 ghost use Rattle.sk_dag.specs.declared.env.Env.{Env};
 ghost use Rattle.sk_dag.specs.declared.value.Value.{Value};
 ghost use Rattle.sk_dag.specs.Graph.{Graph, Grows, HasSort, HasBool, BoolSort};
 ghost use Rattle.sk_dag.specs.Eval.{graph_values};
-ghost use Rattle.sk_sums.specs.Sums.{plus, truth_at, sum_value, AreTruths, SumsTo};
+ghost use Rattle.sk_sums.specs.Sums.{plus, truth_at, sum_value, AreTruths, StandsAt, SumsTo};
 
 use sk_dag::{BoolId, Dag, Node};
 use std::alloc::{AllocError, Global};
 
 // A sum is followed while it has at most so many terms.
-const TERMS: usize = 64;
+const TERMS: usize = 256;
 
 // So many of its nodes are followed at most.
-const STEPS: usize = 256;
+const STEPS: usize = 1_024;
 
 /// A sum modulo 2.
 #[derive(Drop)]
@@ -41,15 +41,11 @@ fn place_of(sorted: &[usize], number: usize) -> usize
     below
 }
 
-// The number at a place.
-fn number_at(numbers: &[usize], place: usize) -> Option<usize>
-    ensures { IfSome result (λ i. (place < length numbers.now) × (slice_index numbers.now place ≡ i)) }
+// Whether this number stands at a place.
+fn stands_at(numbers: &[usize], place: usize, number: usize) -> bool
+    ensures { IsTrue result → StandsAt numbers.now place number }
 {
-    if place < numbers.len() {
-        Some(numbers[place])
-    } else {
-        None
-    }
+    place < numbers.len() && numbers[place] == number
 }
 
 // Adds a term, or takes it away where it is there.
@@ -58,7 +54,7 @@ fn add(sum: &mut Sum, term: usize) -> Result<(), AllocError>
     ensures value { OnOk result ((vs : List Value) → sum_value vs sum.new ≡ plus (truth_at vs term) (sum_value vs sum.old)) }
 {
     let place = place_of(&sum.terms, term);
-    if number_at(&sum.terms, place) == Some(term) {
+    if stands_at(&sum.terms, place, term) {
         sum.terms.remove(place);
         sum.cancels = true;
         return Ok(());

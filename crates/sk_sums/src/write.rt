@@ -72,6 +72,7 @@ pub(crate) fn put(
                 return Ok(plain.index);
             }
             let r = anew(alloc, dag, plain)?;
+            let _width = dag.int_bits();
             Ok(r.index)
         }
         _ => {

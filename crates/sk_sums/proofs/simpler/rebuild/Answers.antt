@@ -1,7 +1,7 @@
 use Rattle.std.proofs.Common.{◌≡◌, ◌∙◌, ◌<◌, length, arith, sym}
 use Rattle.sk_dag.specs.Reach.{IsMarked}
 use Rattle.sk_dag.proofs.EvalLemmas.{Keeps-trans, Keeps-bits}
-use Rattle.sk_dag.proofs.ReachLemmas.{copy_may, StandForMarked-push, marked_here, true_here}
+use Rattle.sk_dag.proofs.ReachLemmas.{children_before, copy_may, StandForMarked-push, marked_here, true_here}
 use Rattle.sk_simplify.proofs.SimpleLemmas.{StandsFor-worth}
 use Rattle.sk_sums.proofs.simpler.rebuild.Goals as goal
 
@@ -26,3 +26,7 @@ loop-i-preserved c =
           StandsFor-worth c.args.marks.now c.loop-i.numbers.items c.loop-i.i _ c.node.result.now c.requires.closed bits c.node.ensures c.loop-i.invariant.copied c.put_wanted.ensures.keeps m
           (rw c.deref.ensures.value at (c.in_ok-number.ensures.placed (true_here c.args.marks.now c.loop-i.i m)))));
     }
+
+pub put_wanted-requires-clause-within : goal.put_wanted-requires-clause-within
+put_wanted-requires-clause-within c =
+    rw (c.deref.ensures.value, c.loop-i.invariant.copied.length) (children_before _ _ c.loop-i.i _ c.node.ensures.before)
