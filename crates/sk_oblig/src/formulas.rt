@@ -18,7 +18,7 @@ use sk_cnf::{Encoded, Leaf, encode};
 use sk_dag::{BoolId, Dag};
 use sk_model::{Choice, Expanded, Input};
 use sk_oblig_queries::{Query, leaves_of, obligations};
-use sk_simplify::simplify;
+use sk_sums::simplify_sums;
 use sk_sym_folds::and;
 use sk_watch::{News, Silent, Watch};
 use std::alloc::{AllocError, Global};
@@ -149,7 +149,7 @@ fn put(alloc: Global, dag: &Dag, root: BoolId, leaves: &[Leaf]) -> Result<Encode
     requires leaves { AreLeaves leaves.now }
     ensures { IfOk result (λ f. Puts f leaves.now dag.now root) }
 {
-    let made = simplify(alloc, dag, &[root])?;
+    let made = simplify_sums(alloc, dag, &[root])?;
     let simple = first(made.roots.as_slice());
     let f = encode(alloc, &made.dag, simple, leaves)?;
     Ok(f)

@@ -12,7 +12,7 @@ use sk_dag::{BoolId, Dag};
 use sk_model::{Expanded, Input};
 use sk_oblig::is_fine;
 use sk_oblig_queries::obligations;
-use sk_simplify::simplify;
+use sk_sums::simplify_sums;
 use std::alloc::{AllocError, Global};
 
 // The first of some roots.
@@ -32,7 +32,7 @@ fn moved(alloc: Global, to: &mut Dag, dag: &Dag, root: BoolId) -> Result<BoolId,
     ensures there { IfOk result (λ r. HasBool to.new.nodes r) }
     ensures value { IfOk result (λ r. (g : Graph) → Grows to.new g → (e : Env) → bool_value g e r ≡ bool_value dag.now e root) }
 {
-    let made = simplify(alloc, dag, &[root])?;
+    let made = simplify_sums(alloc, dag, &[root])?;
     let simple = first(made.roots.as_slice());
     let r = to.graft(&made.dag, simple)?;
     Ok(r)
