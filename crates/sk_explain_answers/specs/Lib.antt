@@ -5,6 +5,5 @@ pub mod Calls
 pub mod Fates
 pub mod Fillings
 pub mod Inputs
-pub mod Failures
 pub mod Pairs
 pub mod Differences

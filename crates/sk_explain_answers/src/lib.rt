@@ -4,7 +4,6 @@
 
 mod calls;
 mod differences;
-mod failures;
 mod fates;
 mod fillings;
 mod inputs;
@@ -16,6 +15,5 @@ mod rows;
 mod runs;
 
 pub use differences::tell_differences;
-pub use failures::{Failure, failure_of};
 pub use inputs::tell_inputs;
 pub use pairs::tell_pairs;
