@@ -4,5 +4,5 @@ mod Options
 mod Values
 mod Arguments
 mod Listings
-mod Tested
+mod Numerals
 mod Fresh

@@ -15,7 +15,7 @@ use Rattle.sk_cert_inputs.proofs.Options.{both_some, map_some}
 use Rattle.sk_cert_inputs.proofs.Arguments.{input_sound, input_complete}
 
 module _ (prog : Prog) (bounds : Bounds) where
-  pub all_sound : (cs : List CertInput) (is : List Input) → all_listed prog bounds cs ≡ Some is → AreListed prog bounds cs is
+  all_sound : (cs : List CertInput) (is : List Input) → all_listed prog bounds cs ≡ Some is → AreListed prog bounds cs is
   all_sound [] is h = subst (AreListed prog bounds []) (same_Some [] is h) (record { are = refl; each = All-nil (IsInput prog bounds) })
   all_sound (c ∷ cs) is h =
       let b = both_some (input_listed prog bounds c) (all_listed prog bounds cs) is h in
@@ -33,7 +33,7 @@ module _ (prog : Prog) (bounds : Bounds) where
       ∙ ap (both (Some i)) (all_complete is (All-tail (IsInput prog bounds) i is all))
 
   -- what is listed is read, and nothing else
-  pub listed_is_read : (cs : List CertInput) (is : List Input) → AreListed prog bounds cs is → all_listed prog bounds cs ≡ Some is
+  listed_is_read : (cs : List CertInput) (is : List Input) → AreListed prog bounds cs is → all_listed prog bounds cs ≡ Some is
   listed_is_read cs is a = ap (all_listed prog bounds) a.are ∙ all_complete is a.each
 
   pub read_exactly : (cs : List CertInput) (found : Option (List Input)) → found ≡ all_listed prog bounds cs → MatchOption found ((is : List Input) → AreListed prog bounds cs is → ⊥) (λ is. AreListed prog bounds cs is)

@@ -34,11 +34,6 @@ pub record AreListed (prog : Prog) (bounds : Bounds) (cs : List CertInput) (inpu
   pub are : cs ≡ map as_listed inputs
   pub each : All (IsInput prog bounds) inputs
 
--- Some inputs of the program are listed so.
-pub record AreSomeListed (prog : Prog) (bounds : Bounds) (cs : List CertInput) : Type 0 where
-  pub inputs : List Input
-  pub listed : AreListed prog bounds cs inputs
-
 -- No input stands at two places.
 pub record AreApart (cs : List CertInput) : Type 0 where
   pub apart : (i j : ℕ) (c : CertInput) → slice_get cs i ≡ Some c → slice_get cs j ≡ Some c → i ≡ j

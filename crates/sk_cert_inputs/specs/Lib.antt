@@ -1,4 +1,4 @@
 pub mod Inputs
 pub mod Reading
-pub mod Order
+pub mod Words
 pub mod Laws

@@ -4,12 +4,9 @@
 mod apart;
 mod law;
 mod listing;
-mod order;
 mod reading;
-mod testing;
 
 pub use apart::are_apart;
 pub use law::listed_again;
 pub use listing::listed;
 pub use reading::inputs_listed;
-pub use testing::are_listed;

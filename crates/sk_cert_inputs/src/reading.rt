@@ -1,5 +1,5 @@
 //! The inputs that a certificate lists.
-ghost use Rattle.std.specs.Prelude.{◌≡◌, ◌^◌, [], List as ListOf, IfOk, MatchOption, drop, map, nat_lt, option_map, slice_get, take, None, Some};
+ghost use Rattle.std.specs.Prelude.{◌≡◌, ◌^◌, List as ListOf, IfOk, MatchOption, drop, map, nat_lt, option_map, slice_get, take, None, Some};
 ghost use Rattle.sk_model.specs.declared.expanded.Input.{Input as AnInput};
 ghost use Rattle.sk_model.specs.Inputs.{fun_of};
 ghost use Rattle.sk_model.specs.Obligations.{obligations};
@@ -16,7 +16,7 @@ use sk_prog::{Elem, Fun, FunId, ParamDef, Prog, Ty, Value};
 use std::alloc::{AllocError, Global};
 
 // The first so many items, or all.
-pub(crate) fn front<T>(items: &[T], count: usize) -> &[T]
+fn front<T>(items: &[T], count: usize) -> &[T]
     ensures { result.now ≡ take count items.now }
 {
     if items.len() <= count {
@@ -26,7 +26,7 @@ pub(crate) fn front<T>(items: &[T], count: usize) -> &[T]
 }
 
 // All but the first so many items.
-pub(crate) fn behind<T>(items: &[T], count: usize) -> &[T]
+fn behind<T>(items: &[T], count: usize) -> &[T]
     ensures { result.now ≡ drop count items.now }
 {
     if items.len() <= count {
@@ -43,14 +43,6 @@ fn has_bits(number: u64, bits: u32) -> bool
         return true;
     }
     number < 1 << bits
-}
-
-// An empty list with room for so many values.
-fn room_for(alloc: Global, count: usize) -> Result<List<Value>, AllocError>
-    ensures { IfOk result (λ list. list ≡ []) }
-{
-    let room = Vec::with_capacity(alloc, count)?;
-    Ok(List::from_vec(room))
 }
 
 fn int_listed(inbits: u32, scalar: i64) -> Option<Value>
@@ -75,7 +67,7 @@ fn bit_listed(scalar: i64) -> Option<Value>
     }
 }
 
-pub(crate) fn elem_listed(inbits: u32, elem: Elem, scalar: i64) -> Option<Value>
+fn elem_listed(inbits: u32, elem: Elem, scalar: i64) -> Option<Value>
     ensures { result ≡ elem_listed inbits elem scalar }
 {
     match elem {
@@ -94,7 +86,7 @@ fn row_listed(
 ) -> Result<Option<List<Value>>, AllocError>
     ensures { IfOk result (λ row. row ≡ row_listed inbits elem scalars.now) }
 {
-    let mut row = room_for(alloc, scalars.len())?;
+    let mut row = List::new(alloc);
     let mut rest = scalars;
     while let [scalar, after @ ..] = rest {
         let Some(value) = elem_listed(inbits, elem, *scalar) else {
@@ -135,7 +127,7 @@ fn rows_listed(
 ) -> Result<Option<List<Value>>, AllocError>
     ensures { IfOk result (λ rows. rows ≡ rows_listed inbits elem length count scalars.now) }
 {
-    let mut rows = room_for(alloc, count as usize)?;
+    let mut rows = List::new(alloc);
     let mut rest = scalars;
     for _place in 0..count {
         let row = front(rest, length as usize);
@@ -151,7 +143,7 @@ fn rows_listed(
     Ok(None)
 }
 
-pub(crate) fn one_listed(inbits: u32, elem: Elem, scalars: &[i64]) -> Option<Value>
+fn one_listed(inbits: u32, elem: Elem, scalars: &[i64]) -> Option<Value>
     ensures { result ≡ one_listed inbits elem scalars.now }
 {
     match scalars {
@@ -191,7 +183,7 @@ fn args_listed(
 ) -> Result<Option<List<Value>>, AllocError>
     ensures { IfOk result (λ found. found ≡ args_listed inbits params.now args.now) }
 {
-    let mut values = room_for(alloc, params.len())?;
+    let mut values = List::new(alloc);
     let mut rest = args;
     for param in params {
         let [scalars, after @ ..] = rest else {
@@ -210,7 +202,7 @@ fn args_listed(
 }
 
 // The function of an obligation.
-pub(crate) fn fun_of(obligation: Obligation) -> FunId
+fn fun_of(obligation: Obligation) -> FunId
     ensures { result ≡ fun_of obligation }
 {
     match obligation {
@@ -239,7 +231,7 @@ fn input_of_fun(
 }
 
 // The number of an obligation among others. None has one that is too large for an index.
-pub(crate) fn obligation_at(obligations: &[Obligation], number: u64) -> Option<&Obligation>
+fn obligation_at(obligations: &[Obligation], number: u64) -> Option<&Obligation>
     ensures { MatchOption result (slice_get obligations.now number ≡ None) (λ o. slice_get obligations.now number ≡ Some o.now) }
 {
     obligations.get(number as usize)

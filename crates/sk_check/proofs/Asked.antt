@@ -95,8 +95,8 @@ module _ (e : Expanded) (bounds : Bounds) (c : Certificate) where
   pub above_none : (n : ℕ) → c.choice ≡ None → (a : Choice) → c.choice ≡ Some a → AskAbove e bounds c a n
   above_none n is a also = absurd (none-some a (sym is ∙ also))
 
-  pub below_none : c.lower ≡ None → (inputs : List Input) → AreListed e.prog bounds c.inputs inputs → AsksBelow e bounds c inputs
-  below_none is inputs listed p also = absurd (none-some p (sym is ∙ also))
+  pub below_none : (inputs : List Input) → c.lower ≡ None → AsksBelow e bounds c inputs
+  below_none inputs is p also = absurd (none-some p (sym is ∙ also))
 
   pub all_ask : (inputs : List Input) → AreListed e.prog bounds c.inputs inputs → ((a : Choice) → c.choice ≡ Some a → AskAbove e bounds c a (length c.upper)) → AsksBelow e bounds c inputs → HasFormulas e bounds c
   all_ask inputs listed above below = record {

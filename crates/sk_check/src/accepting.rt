@@ -29,11 +29,11 @@ fn test_parts(
     ensures stops { IfErr result (IsStop expanded.now bounds.now certificate.now) }
 {
     let text = test_values(alloc, expanded, bounds, certificate)?;
-    test_inputs(alloc, expanded, bounds, certificate)?;
+    let inputs = test_inputs(alloc, expanded, bounds, certificate)?;
     test_upper(alloc, expanded, bounds, certificate)?;
     test_lower(alloc, expanded, bounds, certificate)?;
     test_text(expanded, bounds, certificate, &text)?;
-    test_formulas(alloc, expanded, bounds, certificate)?;
+    test_formulas(alloc, expanded, bounds, certificate, inputs)?;
     Ok(())
 }
 

@@ -1,8 +1,7 @@
 //! Whether each formula of a certificate is the one that is made for its query.
 
-ghost use Rattle.std.specs.Prelude.{◌≡◌, ◌≢◌, List as ListOf, length, IfErr, IfOk, MatchOption, OnOk, slice_get, Some};
+ghost use Rattle.std.specs.Prelude.{◌≡◌, ◌≢◌, length, IfErr, IfOk, MatchOption, OnOk, slice_get, Some};
 ghost use Rattle.sk_model.specs.declared.expanded.Choice.{Choice as AChoice};
-ghost use Rattle.sk_model.specs.declared.expanded.Input.{Input as AnInput};
 ghost use Rattle.sk_oblig_queries.specs.Queries.{AsksFor};
 ghost use Rattle.sk_oblig.specs.Formulas.{IsAskable, IsAsked};
 ghost use Rattle.sk_cert.specs.Certificates.{HasForm};
@@ -15,10 +14,8 @@ use crate::same::is_same;
 use crate::stop::Stop;
 use sk_base::{Bounds, List};
 use sk_cert::{Certificate, Proof};
-use sk_cert_inputs::{inputs_listed, listed_again};
 use sk_check_laws::Reason;
 use sk_cnf::Encoded;
-use sk_limits::never;
 use sk_model::{Choice, Expanded, Input};
 use sk_oblig::formula;
 use sk_oblig_queries::Query;
@@ -136,22 +133,6 @@ fn test_lower_part(
     }
 }
 
-// The inputs of the program that are listed. Since its inputs were looked at, there are such ones (`never`).
-fn inputs_of(
-    alloc: Global,
-    expanded: &Expanded,
-    bounds: &Bounds,
-    certificate: &Certificate,
-) -> Result<List<Input>, AllocError>
-    ensures { IfOk result (AreListed expanded.now.prog bounds.now certificate.now.inputs) }
-{
-    let listed = certificate.inputs.as_slice();
-    match inputs_listed(alloc, &expanded.prog, bounds, listed)? {
-        Some(inputs) => Ok(inputs),
-        None => Err(never()),
-    }
-}
-
 // That of the lower part does, where there is one.
 #[tactic(auto, using(crate::proofs::Asked::below_none))]
 fn test_below(
@@ -159,18 +140,18 @@ fn test_below(
     expanded: &Expanded,
     bounds: &Bounds,
     certificate: &Certificate,
+    inputs: List<Input>,
 ) -> Result<(), Stop>
     requires askable { IsAskable expanded.now bounds.now }
     requires five { FiveHold expanded.now bounds.now certificate.now }
-    ensures asks { OnOk result ((inputs : ListOf AnInput) → AreListed expanded.now.prog bounds.now certificate.now.inputs inputs → AsksBelow expanded.now bounds.now certificate.now inputs) }
+    requires listed { AreListed expanded.now.prog bounds.now certificate.now.inputs inputs }
+    ensures asks { OnOk result (AsksBelow expanded.now bounds.now certificate.now inputs) }
     ensures stops { IfErr result (IsStop expanded.now bounds.now certificate.now) }
 {
     match &certificate.lower {
         None => Ok(()),
         Some(part) => {
-            let inputs = inputs_of(alloc, expanded, bounds, certificate)?;
             test_lower_part(alloc, expanded, bounds, certificate, part, inputs)?;
-            listed_again();
             Ok(())
         }
     }
@@ -182,14 +163,16 @@ pub(crate) fn test_formulas(
     expanded: &Expanded,
     bounds: &Bounds,
     certificate: &Certificate,
+    inputs: List<Input>,
 ) -> Result<(), Stop>
     requires askable { IsAskable expanded.now bounds.now }
     requires form { HasForm certificate.now }
     requires five { FiveHold expanded.now bounds.now certificate.now }
+    requires listed { AreListed expanded.now.prog bounds.now certificate.now.inputs inputs }
     ensures formulas { OnOk result (HasFormulas expanded.now bounds.now certificate.now) }
     ensures stops { IfErr result (IsStop expanded.now bounds.now certificate.now) }
 {
     test_above(alloc, expanded, bounds, certificate)?;
-    test_below(alloc, expanded, bounds, certificate)?;
+    test_below(alloc, expanded, bounds, certificate, inputs)?;
     Ok(())
 }

@@ -5,17 +5,18 @@ ghost use Rattle.sk_print.specs.Layout.{layout};
 ghost use Rattle.sk_model.specs.Fill.{InRange, fill};
 ghost use Rattle.sk_model.specs.Obligations.{obligations};
 ghost use Rattle.sk_oblig.specs.Formulas.{IsAskable};
+ghost use Rattle.sk_cert_inputs.specs.Inputs.{AreListed};
 ghost use Rattle.sk_check_laws.specs.Parts.{HasInputs, HasLayout, HasLower, HasUpper, HasValues, is_layout, Refuting};
 ghost use Rattle.sk_check.specs.Verdicts.{IsStop};
 
 use crate::refuting::{are_refuted, is_refuted};
 use crate::stop::Stop;
-use sk_base::{Bounds, Name};
+use sk_base::{Bounds, List, Name};
 use sk_cert::{Certificate, Proof};
-use sk_cert_inputs::{are_apart, are_listed};
+use sk_cert_inputs::{are_apart, inputs_listed};
 use sk_check_laws::Reason;
 use sk_holes::{FillFault, fill};
-use sk_model::{Choice, Expanded};
+use sk_model::{Choice, Expanded, Input};
 use sk_oblig_queries::obligations;
 use sk_print::print;
 use std::alloc::{AllocError, Global};
@@ -67,27 +68,27 @@ pub(crate) fn test_values(
     }
 }
 
-/// Its inputs are inputs of the program, and none stands twice. None of them is made.
+/// Its inputs are inputs of the program, and none stands twice.
 pub(crate) fn test_inputs(
     alloc: Global,
     expanded: &Expanded,
     bounds: &Bounds,
     certificate: &Certificate,
-) -> Result<(), Stop>
+) -> Result<List<Input>, Stop>
     requires values { HasValues expanded.now bounds.now certificate.now }
     ensures inputs { OnOk result (HasInputs expanded.now bounds.now certificate.now) }
+    ensures listed { IfOk result (AreListed expanded.now.prog bounds.now certificate.now.inputs) }
     ensures stops { IfErr result (IsStop expanded.now bounds.now certificate.now) }
 {
-    let inputs = certificate.inputs.as_slice();
-    let apart = are_apart(alloc, inputs)?;
+    let listed = certificate.inputs.as_slice();
+    let apart = are_apart(alloc, listed)?;
     if !apart {
         return Err(Stop::Rejected(Reason::Inputs));
     }
-    let listed = are_listed(alloc, &expanded.prog, bounds, inputs)?;
-    if !listed {
-        return Err(Stop::Rejected(Reason::Inputs));
+    match inputs_listed(alloc, &expanded.prog, bounds, listed)? {
+        Some(inputs) => Ok(inputs),
+        None => Err(Stop::Rejected(Reason::Inputs)),
     }
-    Ok(())
 }
 
 // Whether there are as many upper parts as obligations, where there is a choice and the version is 2.
