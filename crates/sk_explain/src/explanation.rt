@@ -6,7 +6,7 @@ use crate::certificates::{tell_not_certificate, tell_rejected};
 use sk_adt::AdtFault;
 use sk_app::{Ending, TextFault};
 use sk_base::{Name, Span};
-use sk_explain_answers::{tell_differences, tell_inputs, tell_pairs};
+use sk_explain_answers::{failure_of, tell_differences, tell_inputs, tell_pairs};
 use sk_explain_causes::{
     push_choices, push_holding, push_not_written, push_passed_over, push_warnings, tell_failed,
     tell_none, tell_not_filled, tell_not_lowered, tell_not_run, tell_not_tagged, tell_size,
@@ -18,6 +18,7 @@ use sk_explain_places::{Spot, push_excerpt, push_place, spot_of};
 use sk_explain_runs::push_runs;
 use sk_explain_steps::push_steps;
 use sk_lexer::LexFault;
+use sk_model::Pair;
 use sk_parser::ParseFault;
 use std::alloc::{AllocError, Global};
 
@@ -185,6 +186,21 @@ fn tell_budget(
     Ok(())
 }
 
+// Tells at which statement the values that each of these inputs was found for fail on it, where it is one.
+fn push_common(
+    alloc: Global,
+    told: &mut Told,
+    words: &[String],
+    text: &[u8],
+    pairs: &[Pair],
+) -> Result<(), AllocError> {
+    let runs = pairs.len();
+    match failure_of(alloc, words, text, pairs)? {
+        Some(failure) => push_failure(alloc, told, text, failure.span, &failure.bounds, runs),
+        None => Ok(()),
+    }
+}
+
 // Tells of the inputs that no values of the open parts pass, where there are such.
 fn tell_inputs_of(
     alloc: Global,
@@ -194,7 +210,10 @@ fn tell_inputs_of(
     ending: &Ending,
 ) -> Result<(), AllocError> {
     match ending {
-        Ending::NoCompletion { pairs } => tell_pairs(alloc, told, words, text, pairs.as_slice()),
+        Ending::NoCompletion { pairs } => {
+            tell_pairs(alloc, told, words, text, pairs.as_slice())?;
+            push_common(alloc, told, words, text, pairs.as_slice())
+        }
         _ => Ok(()),
     }
 }

@@ -4,3 +4,4 @@ pub mod Fillable
 pub mod PieceLemmas
 pub mod RowLemmas
 pub mod Telling
+pub mod Failing

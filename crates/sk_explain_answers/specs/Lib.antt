@@ -5,5 +5,6 @@ pub mod Calls
 pub mod Fates
 pub mod Fillings
 pub mod Inputs
+pub mod Failures
 pub mod Pairs
 pub mod Differences

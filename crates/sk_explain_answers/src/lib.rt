@@ -4,6 +4,7 @@
 
 mod calls;
 mod differences;
+mod failures;
 mod fates;
 mod fillings;
 mod inputs;
@@ -15,5 +16,6 @@ mod rows;
 mod runs;
 
 pub use differences::tell_differences;
+pub use failures::{Failure, failure_of};
 pub use inputs::tell_inputs;
 pub use pairs::tell_pairs;

@@ -5,7 +5,8 @@ ghost use Rattle.sk_explain_causes.specs.Titles.{skipped_title};
 use crate::lines::expanded;
 use crate::pieces::{is_key, is_mark, is_word, some_tokens};
 use sk_base::{Bounds, Span};
-use sk_explain_notes::Told;
+use sk_explain_notes::{Note, Told};
+use sk_explain_places::place_of;
 use sk_opts::{Line, Usage, options};
 use sk_tree::{Key, Mark, Token};
 use std::alloc::{AllocError, Global};
@@ -139,32 +140,62 @@ fn form_name(form: Form) -> &'static [u8] {
     }
 }
 
-// Lines of causes: the first says that it is so, each later one that it may be so in its place.
+// How causes stand behind one another.
+#[derive(Debug, Clone, Copy, PartialEq, Eq)]
+enum Layout {
+    // Each in a line.
+    Lines,
+    // All in the line of what they are causes of.
+    Line,
+}
+
+// Causes: the first says that it is so, each later one that it may be so in its place.
 #[derive(Drop)]
 struct Causes<'a> {
-    told: &'a mut Told,
+    notes: &'a mut Note,
+    layout: Layout,
     some: bool,
 }
 
 impl Causes<'_> {
-    // Begins a line.
+    // What stands in front of a cause.
+    fn before(&self) -> &'static [u8] {
+        match (self.layout, self.some) {
+            (Layout::Lines, false) => b"",
+            (Layout::Lines, true) => b"or ",
+            (Layout::Line, false) => b": ",
+            (Layout::Line, true) => b", or ",
+        }
+    }
+
+    // Begins a cause.
     fn begin(&mut self) -> Result<(), AllocError> {
-        let word: &[u8] = if self.some { b"or " } else { b"" };
+        let word = self.before();
         self.some = true;
-        self.told.notes.word(word)
+        self.notes.word(word)
+    }
+
+    // Ends a cause.
+    fn end(&mut self) -> Result<(), AllocError> {
+        match self.layout {
+            Layout::Lines => self.notes.end(),
+            Layout::Line => Ok(()),
+        }
     }
 
     fn push(&mut self, words: &[u8]) -> Result<(), AllocError> {
         self.begin()?;
-        self.told.note(&[words])
+        self.notes.word(words)?;
+        self.end()
     }
 
-    // A line with the number of an option.
+    // A cause with the number of an option.
     fn push_bound(&mut self, words: &[u8], bound: u32, behind: &[u8]) -> Result<(), AllocError> {
         self.begin()?;
-        self.told.notes.word(words)?;
-        self.told.notes.number(u64::from(bound))?;
-        self.told.note(&[behind])
+        self.notes.word(words)?;
+        self.notes.number(u64::from(bound))?;
+        self.notes.word(behind)?;
+        self.end()
     }
 }
 
@@ -233,6 +264,23 @@ fn bounds_of(alloc: Global, words: &[String], text: &[u8]) -> Result<Bounds, All
     }
 }
 
+// Appends what can fail at a statement.
+fn push_causes(
+    notes: &mut Note,
+    layout: Layout,
+    tokens: &[Token],
+    bounds: &Bounds,
+) -> Result<(), AllocError> {
+    let form = form_of(tokens.first());
+    let mut causes = Causes {
+        notes,
+        layout,
+        some: false,
+    };
+    push_form(&mut causes, form, bounds)?;
+    push_perils(&mut causes, perils_of(own_tokens(tokens, form)), bounds)
+}
+
 /// Tells what may have failed at the statement of a span. After a refusal title and notes are given up: nothing is told.
 pub fn tell_failed(
     alloc: Global,
@@ -244,11 +292,43 @@ pub fn tell_failed(
     let tokens = some_tokens(alloc, text)?;
     let bounds = bounds_of(alloc, words, text)?;
     let tokens = tokens_in(tokens.as_slice(), span);
-    let form = form_of(tokens.first());
-    told.title(&[form_name(form)])?;
-    let mut causes = Causes { told, some: false };
-    push_form(&mut causes, form, &bounds)?;
-    push_perils(&mut causes, perils_of(own_tokens(tokens, form)), &bounds)
+    told.title(&[form_name(form_of(tokens.first()))])?;
+    push_causes(&mut told.notes, Layout::Lines, tokens, &bounds)
+}
+
+// Of so many runs, which of them fail.
+fn runs_text(runs: usize) -> &'static [u8] {
+    if runs == 1 {
+        b"this run fails"
+    } else {
+        b"each of these runs fails"
+    }
+}
+
+/// Tells that each of so many runs fails at the statement of a span under these bounds, where that is, and what may have failed at it, in
+/// one line. After a refusal the notes are given up: nothing is told.
+pub fn push_failure(
+    alloc: Global,
+    told: &mut Told,
+    text: &[u8],
+    span: Span,
+    bounds: &Bounds,
+    runs: usize,
+) -> Result<(), AllocError> {
+    let from = span.from as usize;
+    if from > text.len() {
+        return Ok(());
+    }
+    let tokens = some_tokens(alloc, text)?;
+    told.notes.say(&[runs_text(runs), b" at "])?;
+    told.notes.place(place_of(text, from))?;
+    push_causes(
+        &mut told.notes,
+        Layout::Line,
+        tokens_in(tokens.as_slice(), span),
+        bounds,
+    )?;
+    told.notes.end()
 }
 
 /// Tells why a run was skipped. After a refusal the notes are as they were (`notes`), and the title is given up: nothing is
