@@ -1,4 +1,4 @@
-//! A watcher that keeps the lines of better completions, and counts rounds and inputs.
+//! A watcher that keeps the lines of better completions, and counts rounds, inputs and nodes.
 use sk_explain_notes::Note;
 use sk_explain_search::{Statistics, better_line, push_findings};
 use sk_watch::{News, Watch};
@@ -31,7 +31,7 @@ impl Counting {
         self.better.extend_from_slice(line.as_bytes())
     }
 
-    /// The lines of better completions, and those of rounds and inputs.
+    /// The lines of better completions, those of rounds and inputs, and whether nodes were counted.
     pub fn told(self) -> Result<Vec<u8>, AllocError> {
         let Counting {
             alloc,
@@ -44,8 +44,18 @@ impl Counting {
         }
         let mut counts = Note::new(alloc);
         push_findings(&mut counts, &statistics)?;
+        counts.line(&[nodes_text(&statistics)])?;
         lines.extend_from_slice(counts.as_bytes())?;
         Ok(lines)
+    }
+}
+
+// Whether nodes were counted: how many depends on how runs are written as nodes.
+fn nodes_text(statistics: &Statistics) -> &'static [u8] {
+    if statistics.nodes > 0 {
+        b"some nodes"
+    } else {
+        b"no nodes"
     }
 }
 

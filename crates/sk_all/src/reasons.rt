@@ -9,7 +9,7 @@ ghost use Rattle.sk_all.specs.Reasons.{AreDistinct, Explains, IsWhy, NonePasses,
 
 use crate::answer::Why;
 use sk_base::{Bounds, Budget, List};
-use sk_loop::oblig::formula;
+use sk_loop::oblig::watched_formula;
 use sk_loop::{Found, synthesise};
 use sk_loop_copies::copy_input;
 use sk_loop_refuted::refuted;
@@ -63,7 +63,7 @@ fn is_passed<W: Watch>(
 {
     watch.tell(News::Phase(Phase::Proving));
     let query = wanted(alloc, kept, others)?;
-    let encoded = formula(alloc, expanded, bounds, &query)?;
+    let encoded = watched_formula(alloc, expanded, bounds, &query, watch)?;
     match refuted(alloc, &encoded, 0, watch)? {
         Answer::Sat(_) => Ok(true),
         Answer::Unsat(_) => Ok(false),

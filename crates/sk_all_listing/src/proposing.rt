@@ -6,7 +6,7 @@ ghost use Rattle.sk_all.specs.Formulas.{IsAskable};
 ghost use Rattle.sk_oblig_queries.specs.declared.query.Query.TheVariants as query_form;
 ghost use Rattle.sk_all_listing.specs.Rounds.{IsProposed};
 
-use sk_all::session::oblig::formula;
+use sk_all::session::oblig::watched_formula;
 use sk_all_exclusions::{Listed, exclude};
 use sk_base::{Bounds, List};
 use sk_loop_copies::copy_input;
@@ -56,7 +56,7 @@ pub fn propose<W: Watch>(
 {
     watch.tell(News::Phase(Phase::Proposing));
     let query = wanted(alloc, inputs)?;
-    let mut encoded = formula(alloc, expanded, bounds, &query)?;
+    let mut encoded = watched_formula(alloc, expanded, bounds, &query, watch)?;
     exclude(alloc, expanded, bounds, &mut encoded, listed)?;
     match refuted(alloc, &encoded, 0, watch)? {
         Answer::Sat(values) => {

@@ -18,7 +18,10 @@ abbrev pub no_formula : Formula
 no_formula = record { variables = 0; clauses = 0 }
 
 abbrev pub nothing_counted : Statistics
-nothing_counted = record { rounds = 0; inputs = 0; conflicts = 0; restarts = 0; lately = 0; formula = no_formula; largest = no_formula; best = None }
+nothing_counted = record { rounds = 0; inputs = 0; nodes = 0; conflicts = 0; restarts = 0; lately = 0; formula = no_formula; largest = no_formula; best = None }
+
+abbrev pub most : ℕ → ℕ → ℕ
+most first second = if nat_lt first second then second else first
 
 -- the one with more clauses, and the first where they have as many
 abbrev pub larger : Formula → Formula → Formula
@@ -44,6 +47,7 @@ with_conflict s restarts = record s { conflicts = one_more s.conflicts; restarts
 -- what is counted with a piece of news
 abbrev pub counted : Statistics → News → Statistics
 counted s (news.Phase phase) = of_phase s phase
+counted s (news.Graph nodes) = record s { nodes = most s.nodes nodes }
 counted s (news.Formula variables clauses) = with_formula s (record { variables = variables; clauses = clauses })
 counted s (news.Conflict restarts) = with_conflict s restarts
 counted s (news.Input count) = record s { inputs = one_more s.inputs }

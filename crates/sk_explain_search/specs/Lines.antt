@@ -1,5 +1,5 @@
 -- The lines that tell people of a search.
-use Rattle.std.specs.Prelude.{ℕ, ◌/◌, ◌%◌, List, [], ◌∷◌, ◌++◌, map, decimal, codes, Option, Some, None}
+use Rattle.std.specs.Prelude.{ℕ, ◌/◌, ◌%◌, List, [], ◌∷◌, ◌++◌, map, take, decimal, codes, Option, Some, None}
 use Rattle.std.specs.List.{flat_map}
 use Rattle.sk_explain_notes.specs.Notes.{plain}
 use Rattle.sk_explain_search.specs.declared.statistics.Statistics.{Statistics}
@@ -34,6 +34,11 @@ progress_text s seconds =
 abbrev pub width : ℕ
 width = 79
 
+-- What a terminal gets for it: back to the beginning of its line, with no new line at its right end; the line; what stands behind it
+-- erased, and new lines again.
+abbrev pub shown_text : Statistics → ℕ → List ℕ
+shown_text s seconds = 13 ∷ 27 ∷ codes "[?7l" ++ take width (progress_text s seconds) ++ 27 ∷ codes "[K" ++ 27 ∷ codes "[?7h"
+
 -- A completion that was found with a value
 
 abbrev pub behind_blank : ℕ → List ℕ
@@ -52,7 +57,8 @@ finding_lines s = number_line (codes "rounds") s.rounds ++ number_line (codes "i
 
 abbrev pub count_lines : Statistics → List ℕ
 count_lines s =
-    number_line (codes "variables") s.largest.variables
+    number_line (codes "nodes") s.nodes
+    ++ number_line (codes "variables") s.largest.variables
     ++ number_line (codes "clauses") s.largest.clauses
     ++ number_line (codes "conflicts") s.conflicts
     ++ number_line (codes "restarts") s.restarts

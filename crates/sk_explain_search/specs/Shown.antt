@@ -11,6 +11,7 @@ is_due (Some written) now = nat_le 100 (now - written)
 -- at each piece of news that is no conflict, and at each sixteenth conflict
 abbrev pub is_looked : News → ℕ → Bool
 is_looked (news.Phase phase) conflicts = true
+is_looked (news.Graph nodes) conflicts = true
 is_looked (news.Formula variables clauses) conflicts = true
 is_looked (news.Conflict restarts) conflicts = conflicts % 16 == 0
 is_looked (news.Input count) conflicts = true

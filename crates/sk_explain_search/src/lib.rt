@@ -12,7 +12,7 @@ mod times;
 mod watcher;
 
 pub use clearing::ClearingSink;
-pub use lines::{better_line, fitted, progress_line, push_counts, push_findings, push_times};
+pub use lines::{better_line, push_counts, push_findings, push_times, shown_line};
 pub use shown::{is_due, is_looked};
 pub use statistics::{Formula, Statistics};
 pub use times::Times;

@@ -1,7 +1,7 @@
 //! The lines that tell people of a search.
-ghost use Rattle.std.specs.Prelude.{◌≡◌, ◌++◌, take, IfOk, OnOk};
+ghost use Rattle.std.specs.Prelude.{◌≡◌, ◌++◌, ◌∷◌, codes, take, IfOk, OnOk};
 ghost use Rattle.std.specs.List.{flat_map};
-ghost use Rattle.sk_explain_search.specs.Lines.{behind_blank, best_text, better_text, both_text, count_lines, counted_text, finding_lines, number_line, progress_text, seconds_line, seconds_text, time_lines, width};
+ghost use Rattle.sk_explain_search.specs.Lines.{behind_blank, best_text, better_text, both_text, count_lines, counted_text, finding_lines, number_line, progress_text, seconds_line, seconds_text, shown_text, time_lines, width};
 
 use crate::statistics::Statistics;
 use crate::times::Times;
@@ -10,6 +10,12 @@ use std::alloc::{AllocError, Global};
 
 /// So many bytes of the line that shows that a search goes on are written.
 const WIDTH: usize = 79;
+
+/// Brings the cursor to the beginning of its line, and keeps it in this line, also where the terminal is narrower than what follows.
+const BEGINS: &[u8] = b"\r\x1b[?7l";
+
+/// Erases what stands behind the cursor in its line, and lets it go on to the next line again.
+const ENDS: &[u8] = b"\x1b[K\x1b[?7h";
 
 // Appends a number, and a word behind it.
 #[tactic(auto, unfolding(crate::specs::Lines::counted_text))]
@@ -50,12 +56,8 @@ fn push_both(
     Ok(())
 }
 
-/// The line that shows that a search goes on, without its end, after so many seconds.
-pub fn progress_line(
-    alloc: Global,
-    statistics: &Statistics,
-    seconds: u64,
-) -> Result<Note, AllocError>
+// The line that shows that a search goes on, without its end, after so many seconds.
+fn progress_line(alloc: Global, statistics: &Statistics, seconds: u64) -> Result<Note, AllocError>
     ensures { IfOk result (λ note. note.bytes.items ≡ progress_text statistics.now seconds) }
 {
     let mut note = Note::new(alloc);
@@ -91,11 +93,35 @@ fn front(bytes: &[u8], count: usize) -> &[u8]
     }
 }
 
-/// What of such a line is written: its front, where it is long.
-pub fn fitted(line: &[u8]) -> &[u8]
+// What of such a line is written: its front, where it is long.
+fn fitted(line: &[u8]) -> &[u8]
     ensures { result.now ≡ take width line.now }
 {
     front(line, WIDTH)
+}
+
+// Appends what stands in front of a line, the line, and what stands behind it.
+fn push_shown(out: &mut Vec<u8>, line: &[u8]) -> Result<(), AllocError>
+    ensures { OnOk result (out.new.items ≡ out.old.items ++ (13 ∷ 27 ∷ codes "[?7l" ++ line.now ++ 27 ∷ codes "[K" ++ 27 ∷ codes "[?7h")) }
+{
+    out.extend_from_slice(BEGINS)?;
+    out.extend_from_slice(line)?;
+    out.extend_from_slice(ENDS)?;
+    Ok(())
+}
+
+/// What is written to a terminal, at once, to show that a search goes on.
+pub fn shown_line(
+    alloc: Global,
+    statistics: &Statistics,
+    seconds: u64,
+) -> Result<Vec<u8>, AllocError>
+    ensures { IfOk result (λ out. out.items ≡ shown_text statistics.now seconds) }
+{
+    let line = progress_line(alloc, statistics, seconds)?;
+    let mut out = Vec::new(alloc);
+    push_shown(&mut out, fitted(line.as_bytes()))?;
+    Ok(out)
 }
 
 // Appends each number behind a blank.
@@ -143,10 +169,11 @@ pub fn push_findings(note: &mut Note, statistics: &Statistics) -> Result<(), All
     Ok(())
 }
 
-/// Appends the size of the largest formula, and what the solver did.
+/// Appends the sizes of the largest graph and of the largest formula, and what the solver did.
 pub fn push_counts(note: &mut Note, statistics: &Statistics) -> Result<(), AllocError>
     ensures { OnOk result (note.new.bytes.items ≡ note.old.bytes.items ++ count_lines statistics.now) }
 {
+    push_number(note, b"nodes", statistics.nodes)?;
     push_number(note, b"variables", statistics.largest.variables)?;
     push_number(note, b"clauses", statistics.largest.clauses)?;
     push_number(note, b"conflicts", statistics.conflicts)?;

@@ -30,6 +30,10 @@ pub fn is_looked(news: News<'_>, conflicts: u64) -> bool
 {
     match news {
         News::Conflict { .. } => conflicts % CONFLICTS_A_LOOK == 0,
-        News::Phase(_) | News::Formula { .. } | News::Input { .. } | News::Better { .. } => true,
+        News::Phase(_)
+        | News::Graph { .. }
+        | News::Formula { .. }
+        | News::Input { .. }
+        | News::Better { .. } => true,
     }
 }

@@ -1,6 +1,6 @@
 //! What is counted of a search.
 ghost use Rattle.std.specs.Prelude.{◌≡◌};
-ghost use Rattle.sk_explain_search.specs.Counts.{counted, larger, nothing_counted, of_phase, one_more, with_conflict, with_formula, with_restarts};
+ghost use Rattle.sk_explain_search.specs.Counts.{counted, larger, most, nothing_counted, of_phase, one_more, with_conflict, with_formula, with_restarts};
 
 use sk_watch::{News, Phase, Watch};
 
@@ -18,6 +18,8 @@ pub struct Statistics {
     pub rounds: u64,
     /// How many inputs were found.
     pub inputs: u64,
+    /// The nodes of the graph with the most of them, of which a formula was made.
+    pub nodes: u64,
     /// How many clauses the solver has learnt, one from each conflict.
     pub conflicts: u64,
     /// How often the solver began anew.
@@ -37,6 +39,16 @@ fn one_more(count: u64) -> u64
     ensures { result ≡ one_more count }
 {
     count.saturating_add(1)
+}
+
+// The greater of two numbers.
+fn most(first: u64, second: u64) -> u64
+    ensures { result ≡ most first second }
+{
+    if first < second {
+        return second;
+    }
+    first
 }
 
 // Of two formulas the one with more clauses, and the first where they have as many.
@@ -69,6 +81,7 @@ impl Statistics {
         Statistics {
             rounds: 0,
             inputs: 0,
+            nodes: 0,
             conflicts: 0,
             restarts: 0,
             lately: 0,
@@ -114,6 +127,7 @@ impl Watch for Statistics {
     {
         match news {
             News::Phase(phase) => self.begin(phase),
+            News::Graph { nodes } => self.nodes = most(self.nodes, nodes as u64),
             News::Formula { variables, clauses } => self.take(Formula {
                 variables: variables as u64,
                 clauses: clauses as u64,

@@ -46,6 +46,8 @@ fn seen(alloc: Global, clock: &Moving, wanted: Wanted) -> Result<Vec<u8>, AllocE
     let mut out = Vec::new(alloc);
     let mut watcher = Watcher::new(alloc, clock, &mut out, wanted, &shown);
     watcher.tell(News::Phase(Phase::Proposing));
+    watcher.tell(News::Graph { nodes: 50 });
+    watcher.tell(News::Graph { nodes: 20 });
     watcher.tell(News::Formula {
         variables: 30,
         clauses: 70,
@@ -67,15 +69,17 @@ fn seen(alloc: Global, clock: &Moving, wanted: Wanted) -> Result<Vec<u8>, AllocE
 #[test]
 fn a_slow_search_is_shown(rt: HostRuntime) -> Result<(), Fail> {
     let out = seen(rt.alloc(), &clock_of(500), BOTH)?;
-    let wanted: &[u8] = b"\r1 rounds, 0 inputs, 0 conflicts, 70 clauses, 1 s\x1b[K\
-\r1 rounds, 0 inputs, 3 conflicts, 70 clauses, 1 s\x1b[K\
-\r1 rounds, 1 inputs, 3 conflicts, 70 clauses, 2 s\x1b[K\
+    let wanted: &[u8] = b"\r\x1b[?7l1 rounds, 0 inputs, 0 conflicts, 0 clauses, 1 s\x1b[K\x1b[?7h\
+\r\x1b[?7l1 rounds, 0 inputs, 0 conflicts, 0 clauses, 1 s\x1b[K\x1b[?7h\
+\r\x1b[?7l1 rounds, 0 inputs, 0 conflicts, 70 clauses, 2 s\x1b[K\x1b[?7h\
+\r\x1b[?7l1 rounds, 0 inputs, 3 conflicts, 70 clauses, 2 s\x1b[K\x1b[?7h\
+\r\x1b[?7l1 rounds, 1 inputs, 3 conflicts, 70 clauses, 3 s\x1b[K\x1b[?7h\
 \r\x1b[Kbest so far: value 12, holes 3 0 1\n\
-\r1 rounds, 1 inputs, 3 conflicts, 70 clauses, best value 12, 2 s\x1b[K\
+\r\x1b[?7l1 rounds, 1 inputs, 3 conflicts, 70 clauses, best value 12, 3 s\x1b[K\x1b[?7h\
 \r\x1b[K\
-rounds: 1\ninputs: 1\nvariables: 30\nclauses: 70\nconflicts: 3\nrestarts: 1\n\
-seconds before the search: 0.500\nseconds of looking for choices: 1.000\nseconds of looking for inputs: 1.500\n\
-seconds of proofs: 0.000\nseconds in all: 3.000\n";
+rounds: 1\ninputs: 1\nnodes: 50\nvariables: 30\nclauses: 70\nconflicts: 3\nrestarts: 1\n\
+seconds before the search: 0.500\nseconds of looking for choices: 2.000\nseconds of looking for inputs: 1.500\n\
+seconds of proofs: 0.000\nseconds in all: 4.000\n";
     assert_eq!(rt; out.as_slice(), wanted);
     Ok(())
 }

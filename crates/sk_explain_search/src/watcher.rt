@@ -1,5 +1,5 @@
 //! A watcher that shows people that a search goes on.
-use crate::lines::{better_line, fitted, progress_line, push_counts, push_findings, push_times};
+use crate::lines::{better_line, push_counts, push_findings, push_times, shown_line};
 use crate::shown::{is_due, is_looked};
 use crate::statistics::Statistics;
 use crate::times::Times;
@@ -102,10 +102,8 @@ impl<'a, C: Clock, W: Write> Watcher<'a, C, W> {
 
     // Writes the line that shows that a search goes on.
     fn show(&mut self, now: u64) {
-        if let Ok(line) = progress_line(self.alloc, &self.statistics, now / 1000) {
-            let _ = self.errors.write_all(BACK);
-            let _ = self.errors.write_all(fitted(line.as_bytes()));
-            let _ = self.errors.write_all(ERASED);
+        if let Ok(line) = shown_line(self.alloc, &self.statistics, now / 1000) {
+            let _ = self.errors.write_all(line.as_slice());
             self.shown.set(true);
         }
         self.written = Some(now);

@@ -11,7 +11,7 @@ use sk_base::Bounds;
 use sk_clause::Log;
 use sk_cnf::Encoded;
 use sk_loop_copies::copy_choice;
-use sk_loop_guesses::asking::oblig::{formula, input_of};
+use sk_loop_guesses::asking::oblig::{input_of, watched_formula};
 use sk_loop_guesses::guess;
 use sk_model::{Choice, Expanded, Input as InputOf};
 use sk_oblig_queries::Query;
@@ -70,7 +70,7 @@ fn asked<W: Watch>(
         choice: copy,
         limit,
     };
-    let encoded = formula(alloc, expanded, bounds, &query)?;
+    let encoded = watched_formula(alloc, expanded, bounds, &query, watch)?;
     match solved(alloc, &encoded, budget, watch)? {
         Answered::Met(values) => {
             let input = input_of(alloc, expanded, bounds, &query, &encoded, values.as_slice())?;
@@ -86,7 +86,7 @@ fn asked<W: Watch>(
 }
 
 /// Looks for an input that speaks against a choice within a limit: first among the guesses, then by a formula. The watcher is told
-/// when it begins, and of the formula.
+/// when it begins, of the graph and of the formula.
 pub fn counter<W: Watch>(
     alloc: Global,
     expanded: &Expanded,

@@ -114,6 +114,8 @@ impl Session {
         ensures asking { self.new.asking ≡ self.old.asking }
     {
         watch.tell(News::Phase(Phase::Proposing));
+        let nodes = self.asking.nodes();
+        watch.tell(News::Graph { nodes });
         match self.solve(budget.conflicts, watch)? {
             Answered::Met(values) => {
                 let encoded = self.asking.encoded();

@@ -12,7 +12,7 @@ use sk_cert::Proof;
 use sk_cnf::Encoded;
 use sk_loop_refuted::refuted;
 use sk_model::Expanded;
-use sk_oblig::formula;
+use sk_oblig::watched_formula;
 use sk_oblig_queries::Query;
 use sk_sat::Answer;
 use sk_watch::{News, Phase, Watch};
@@ -42,7 +42,7 @@ pub(crate) fn proof_of<W: Watch>(
     ensures stops { IfErr result (IsStop expanded.now bounds.now (λ q. q ≡ query) conflicts) }
 {
     watch.tell(News::Phase(Phase::Proving));
-    let encoded = formula(alloc, expanded, bounds, &query)?;
+    let encoded = watched_formula(alloc, expanded, bounds, &query, watch)?;
     clauses_are_within(&encoded);
     let answer = refuted(alloc, &encoded, conflicts, watch)?;
     match answer {

@@ -20,6 +20,7 @@ use sk_model::{Choice, Expanded, Input};
 use sk_oblig_queries::{Query, leaves_of, obligations};
 use sk_simplify::simplify;
 use sk_sym_folds::and;
+use sk_watch::{News, Silent, Watch};
 use std::alloc::{AllocError, Global};
 
 // Whether an input of an obligation speaks against a choice.
@@ -155,12 +156,34 @@ fn put(alloc: Global, dag: &Dag, root: BoolId, leaves: &[Leaf]) -> Result<Encode
 }
 
 /// The formula of a query. Its names are distinct variables, one for each bit of the query in order, and bits for them
-/// extend to values that meet the clauses exactly where they say what the query asks for, and in one way.
+/// extend to values that meet the clauses exactly where they say what the query asks for, and in one way. The watcher is told of
+/// the graph of which it is made.
 ///
 /// # Errors
 ///
 /// Memory is wanting, or what `execute` counts as that; a listed input names a record, or has an `int` that is no word of
 /// the width; or there are more scalars than can be numbered.
+pub fn watched_formula<W: Watch>(
+    alloc: Global,
+    expanded: &Expanded,
+    bounds: &Bounds,
+    query: &Query,
+    watch: &mut W,
+) -> Result<Encoded, AllocError>
+    requires askable { IsAskable expanded.now bounds.now }
+    requires asked { IsAsked expanded.now query.now }
+    ensures asks { IfOk result (λ f. AsksFor f expanded.now bounds.now query.now) }
+    ensures tight { IfOk result (λ f. Tight f) }
+{
+    let mut dag = Dag::new(alloc, bounds.int_bits);
+    let root = root_of(alloc, &mut dag, expanded, bounds, query)?;
+    watch.tell(News::Graph { nodes: dag.len() });
+    let leaves = leaves_of(alloc, expanded, bounds, query)?;
+    let f = put(alloc, &dag, root, leaves.as_slice())?;
+    Ok(f)
+}
+
+/// The same, of which nobody is told.
 pub fn formula(
     alloc: Global,
     expanded: &Expanded,
@@ -172,9 +195,6 @@ pub fn formula(
     ensures asks { IfOk result (λ f. AsksFor f expanded.now bounds.now query.now) }
     ensures tight { IfOk result (λ f. Tight f) }
 {
-    let mut dag = Dag::new(alloc, bounds.int_bits);
-    let root = root_of(alloc, &mut dag, expanded, bounds, query)?;
-    let leaves = leaves_of(alloc, expanded, bounds, query)?;
-    let f = put(alloc, &dag, root, leaves.as_slice())?;
+    let f = watched_formula(alloc, expanded, bounds, query, &mut Silent)?;
     Ok(f)
 }

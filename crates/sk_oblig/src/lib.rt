@@ -9,7 +9,7 @@ mod plain;
 mod range;
 mod wanted;
 
-pub use formulas::formula;
+pub use formulas::{formula, watched_formula};
 pub use inputs::{bad_said, input_of};
 pub use judging::cost_of;
 pub use range::in_range;

@@ -1,6 +1,6 @@
 //! A formula that asks for a choice, and for more of it with each input that is added.
 
-ghost use Rattle.std.specs.Prelude.{◌≡◌, ◌++◌, ◌∷◌, [], List as ListOf, None, IfOk, OnErr, OnOk};
+ghost use Rattle.std.specs.Prelude.{◌≡◌, ◌++◌, ◌∷◌, [], List as ListOf, None, length, IfOk, OnErr, OnOk};
 ghost use Rattle.sk_cnf.specs.Formula.{Tight};
 ghost use Rattle.sk_cnf.specs.Standing.{Begins};
 ghost use Rattle.sk_oblig.specs.Formulas.{IsAskable};
@@ -76,6 +76,13 @@ impl Asking {
         let root = fine_in(self.alloc, &mut self.dag, expanded, bounds, input, limit)?;
         self.growing.require(&self.dag, root)?;
         Ok(())
+    }
+
+    /// How many nodes the graph has of which the formula is made.
+    pub fn nodes(&self) -> usize
+        ensures { result ≡ length self.now.dag.nodes }
+    {
+        self.dag.len()
     }
 
     /// The formula.

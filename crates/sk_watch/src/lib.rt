@@ -18,6 +18,8 @@ pub enum Phase {
 pub enum News<'a> {
     /// A part of it begins.
     Phase(Phase),
+    /// A graph is made, of which a formula is to be made: so many nodes it has.
+    Graph { nodes: usize },
     /// A formula is put to a solver: its variables and clauses.
     Formula { variables: usize, clauses: usize },
     /// The solver has learnt a clause, from a conflict, after so many restarts in this call.

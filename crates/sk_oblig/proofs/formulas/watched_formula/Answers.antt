@@ -2,7 +2,7 @@ use Rattle.std.proofs.Common.{List, subst}
 use Rattle.sk_cnf.specs.declared.leaf.Leaf.{Leaf}
 use Rattle.sk_oblig.specs.Formulas.{Puts}
 use Rattle.sk_oblig.proofs.Whole.{asks}
-use Rattle.sk_oblig.proofs.formulas.formula.Goals as goal
+use Rattle.sk_oblig.proofs.formulas.watched_formula.Goals as goal
 
 pub returns-clause-asks : goal.returns-clause-asks
 returns-clause-asks c =
